@@ -1,0 +1,51 @@
+// Why a call is refused, and the number that stands for it.
+ghost use mathlib.Core.Path.{_≡_};
+ghost use Rattle.answer.specs.Number.{whyNumber, numberOf};
+
+// The reasons, in the order in which they are looked for.
+pub enum Why {
+    // A run is asked for more than 1,000,000 steps.
+    TooMany,
+    // RAM or ROM is longer than 65,536 bytes.
+    TooLong,
+    // The state is not valid, an address to show is too high, or a saved record breaks its rules.
+    Invalid,
+    // No memory at the counter, or an instruction that goes on where its memory ends.
+    NoCode,
+    // The bytes begin no listed instruction.
+    Unlisted,
+    // An operand is in neither memory.
+    Missing,
+    // A store would go to ROM.
+    ToRom,
+}
+
+pub enum Answer {
+    Done,
+    Refused(Why),
+}
+
+// The number of a reason.
+pub fn why_number(w: Why) -> u8
+    ensures { λ r. ⌜ r ≡ whyNumber w ⌝ }
+{
+    match w {
+        Why::TooMany => 7,
+        Why::TooLong => 1,
+        Why::Invalid => 2,
+        Why::NoCode => 3,
+        Why::Unlisted => 4,
+        Why::Missing => 5,
+        Why::ToRom => 6,
+    }
+}
+
+// The number of an answer: 0 where the call was done.
+pub fn number(a: Answer) -> u8
+    ensures { λ r. ⌜ r ≡ numberOf a ⌝ }
+{
+    match a {
+        Answer::Done => 0,
+        Answer::Refused(w) => why_number(w),
+    }
+}

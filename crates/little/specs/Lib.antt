@@ -1,0 +1,2 @@
+pub mod Width
+pub mod Bytes

@@ -1,0 +1,14 @@
+-- The three sizes of an operand.
+use Prim.Native.Nat.{ℕ}
+use Rattle.little.specs.declared.Size.{Size}
+use Rattle.little.specs.declared.Size.the-variants.{Byte, Word, Long}
+
+abbrev pub bitsOf : Size → ℕ
+bitsOf Byte = 8
+bitsOf Word = 16
+bitsOf Long = 32
+
+abbrev pub bytesOf : Size → ℕ
+bytesOf Byte = 1
+bytesOf Word = 2
+bytesOf Long = 4
