@@ -25,11 +25,7 @@ pub fn bytes(size: Size) -> usize
 pub fn byte_at(part: &[u8], i: usize) -> u32
     ensures { λ r. ⌜ r ≡ getD (now (part .entry)) i 0 ⌝ }
 {
-    if i < part.len() {
-        part[i] as u32
-    } else {
-        0
-    }
+    if i < part.len() { part[i] as u32 } else { 0 }
 }
 
 // The number in a part of up to four bytes; of a longer part the number in its first four.

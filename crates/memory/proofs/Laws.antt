@@ -1,0 +1,144 @@
+-- Laws of the place of an operand, and of loads, stores and fetches at a known place.
+use Prim.Native.Nat.{ℕ, _+_, _-_, _≤_, _<_, _^_}
+use mathlib.Core.Path.{_≡_, refl, ap, sym, _∙_}
+use mathlib.Core.Bool.{Bool, true, false, cond, _&&_}
+use mathlib.Core.List.{List, [], _∷_, _++_}
+use native.Mathlib.Omega.{arith}
+use lib.Dec.{leb}
+use lib.ListN.{length, getD, take, drop, length-drop, length-take}
+use lib.Seq.{take-all}
+use borrow.Author.Tests.{le-leb, lt-leb, leb-true, leb-false}
+use Rattle.answer.specs.declared.Answer.the-variants as answer
+use Rattle.little.specs.declared.Size.{Size}
+use Rattle.little.specs.declared.Size.the-variants.{Byte, Word, Long}
+use Rattle.little.specs.Width.{bytesOf}
+use Rattle.little.specs.Bytes.{bytesFrom, replaced}
+use Rattle.little.proofs.Laws.{length-bytes, replaced-length, replaced-below, replaced-above}
+use Rattle.memory.specs.Place.{placeOf}
+use Rattle.memory.specs.Access.{loadOf, loadFrom, storeOf, storeTo, ramAfter, ramWith, codeAt, codeFrom, operandAt}
+use Rattle.memory.specs.declared.Place.{Place}
+use Rattle.memory.specs.declared.Place.the-variants.{Ram, Rom, Missing}
+
+-- ---- the place, from the tests
+module _ (rl ml a n : ℕ) where
+  pub place-ram : a + n ≤ rl → placeOf rl ml a n ≡ Ram a
+  unfolding placeOf
+  place-ram h = simp (le-leb (a + n) rl h)
+
+  pub place-rom : rl < a + n → 2 ^ 24 ≤ a + ml → a + n ≤ 2 ^ 24 → placeOf rl ml a n ≡ Rom (a + ml - 2 ^ 24)
+  unfolding placeOf
+  place-rom h i j = simp (lt-leb (a + n) rl h, le-leb (2 ^ 24) (a + ml) i, le-leb (a + n) (2 ^ 24) j)
+
+  pub place-low : rl < a + n → a + ml < 2 ^ 24 → placeOf rl ml a n ≡ Missing
+  unfolding placeOf
+  place-low h i = simp (lt-leb (a + n) rl h, lt-leb (2 ^ 24) (a + ml) i)
+
+  pub place-high : rl < a + n → 2 ^ 24 < a + n → placeOf rl ml a n ≡ Missing
+  unfolding placeOf
+  place-high h j = go (leb (2 ^ 24) (a + ml)) refl
+    where
+      go : (b : Bool) → leb (2 ^ 24) (a + ml) ≡ b → placeOf rl ml a n ≡ Missing
+      go true e = simp (lt-leb (a + n) rl h, e, lt-leb (a + n) (2 ^ 24) j)
+      go false e = simp (lt-leb (a + n) rl h, e)
+
+-- ---- what a place says of the tests
+pub data At (rl ml a n : ℕ) : Place → Type 0 where
+  in-ram : a + n ≤ rl → At rl ml a n (Ram a)
+  in-rom : rl < a + n → 2 ^ 24 ≤ a + ml → a + n ≤ 2 ^ 24 → At rl ml a n (Rom (a + ml - 2 ^ 24))
+  nowhere : At rl ml a n Missing
+
+pub at : (rl ml a n : ℕ) → At rl ml a n (placeOf rl ml a n)
+unfolding placeOf
+at rl ml a n = go (leb (a + n) rl) (leb (2 ^ 24) (a + ml)) (leb (a + n) (2 ^ 24)) refl refl refl
+  where
+    go :
+        (x y z : Bool) → leb (a + n) rl ≡ x → leb (2 ^ 24) (a + ml) ≡ y → leb (a + n) (2 ^ 24) ≡ z
+        → At rl ml a n (cond x (Ram a) (cond (y && z) (Rom (a + ml - 2 ^ 24)) Missing))
+    go true y z e f g = in-ram (leb-true (a + n) rl e)
+    go false true true e f g = in-rom (leb-false (a + n) rl e) (leb-true _ _ f) (leb-true _ _ g)
+    go false true false e f g = nowhere
+    go false false z e f g = nowhere
+
+pub ram-fits : (rl ml a n o : ℕ) → placeOf rl ml a n ≡ Ram o → (o ≡ a) × (o + n ≤ rl)
+ram-fits rl ml a n o e = go (at rl ml a n) e
+  where
+    go : {p : Place} → At rl ml a n p → p ≡ Ram o → (o ≡ a) × (o + n ≤ rl)
+    go (in-ram h) f = let g : a ≡ o = cc in (sym g, omega arith)
+    go (in-rom h i j) f = let z : _≡_ {A = ℕ} 0 1 = cc in absurd (omega arith)
+    go nowhere f = let z : _≡_ {A = ℕ} 0 1 = cc in absurd (omega arith)
+
+pub rom-fits : (rl ml a n o : ℕ) → placeOf rl ml a n ≡ Rom o → (o + 2 ^ 24 ≡ a + ml) × (o + n ≤ ml)
+rom-fits rl ml a n o e = go (at rl ml a n) e
+  where
+    go : {p : Place} → At rl ml a n p → p ≡ Rom o → (o + 2 ^ 24 ≡ a + ml) × (o + n ≤ ml)
+    go (in-ram h) f = let z : _≡_ {A = ℕ} 0 1 = cc in absurd (omega arith)
+    go (in-rom h i j) f = let g : a + ml - 2 ^ 24 ≡ o = cc in (omega arith, omega arith)
+    go nowhere f = let z : _≡_ {A = ℕ} 0 1 = cc in absurd (omega arith)
+
+-- ---- parts
+-- a part to the end is what is left after dropping
+pub part-drop : (o : ℕ) (l : List ℕ) → take (length l - o) (drop o l) ≡ drop o l
+part-drop o l = take-all (length l - o) (drop o l) (simp length-drop (omega arith))
+
+-- what the reader sees of a part of at most four bytes
+pub part-four : (o n : ℕ) (l : List ℕ) → n ≤ 4 → take 4 (take (o + n - o) l) ≡ take n l
+part-four o n l h =
+    let e : o + n - o ≡ n = omega arith in
+    rw e (take-all 4 (take n l) (simp length-take (omega arith)))
+
+pub bytes-le : (z : Size) → bytesOf z ≤ 4
+bytes-le Byte = omega arith
+bytes-le Word = omega arith
+bytes-le Long = omega arith
+
+-- ---- each definition at a known place
+pub code-in : (ram rom : List ℕ) (a : ℕ) {p : Place} → placeOf (length ram) (length rom) a 1 ≡ p → codeAt ram rom a ≡ codeFrom p ram rom
+unfolding codeAt
+code-in ram rom a e = ap (λ (p : Place). codeFrom p ram rom) e
+
+module _ (ram rom : List ℕ) (a : ℕ) (z : Size) (n : ℕ) (size : n ≡ bytesOf z) where
+  pub load-in : {p : Place} → placeOf (length ram) (length rom) a n ≡ p → loadOf ram rom a z ≡ loadFrom p ram rom n
+  unfolding loadOf
+  load-in e = rw (← size) (ap (λ (p : Place). loadFrom p ram rom n) e)
+
+  pub store-in : {p : Place} → placeOf (length ram) (length rom) a n ≡ p → storeOf ram rom a z ≡ storeTo p
+  unfolding storeOf
+  store-in e = rw (← size) (ap storeTo e)
+
+  pub ram-in : {p : Place} (v : ℕ) → placeOf (length ram) (length rom) a n ≡ p → ramAfter ram rom a z v ≡ ramWith p ram n v
+  unfolding ramAfter
+  ram-in v e = rw (← size) (ap (λ (p : Place). ramWith p ram n v) e)
+
+-- ---- what a store leaves of RAM
+module _ (ram rom : List ℕ) (a : ℕ) (z : Size) (v : ℕ) where
+  replaces : (n : ℕ) → a + n ≤ length ram → a + length (bytesFrom n v) ≤ length ram
+  replaces n h = rw length-bytes h
+
+  -- its length
+  pub after-length : length (ramAfter ram rom a z v) ≡ length ram
+  unfolding ramAfter
+  after-length = go (at (length ram) (length rom) a (bytesOf z))
+    where
+      go : {p : Place} → At (length ram) (length rom) a (bytesOf z) p → length (ramWith p ram (bytesOf z) v) ≡ length ram
+      go (in-ram h) = replaced-length a (bytesFrom (bytesOf z) v) ram (replaces (bytesOf z) h)
+      go (in-rom h i j) = refl
+      go nowhere = refl
+
+  -- every byte below the address, and from the end of the operand on
+  pub after-below : (i : ℕ) → i < a → getD (ramAfter ram rom a z v) i 0 ≡ getD ram i 0
+  unfolding ramAfter
+  after-below i k = go (at (length ram) (length rom) a (bytesOf z))
+    where
+      go : {p : Place} → At (length ram) (length rom) a (bytesOf z) p → getD (ramWith p ram (bytesOf z) v) i 0 ≡ getD ram i 0
+      go (in-ram h) = replaced-below a (bytesFrom (bytesOf z) v) ram (replaces (bytesOf z) h) i k
+      go (in-rom h x y) = refl
+      go nowhere = refl
+
+  pub after-above : (i : ℕ) → a + bytesOf z ≤ i → getD (ramAfter ram rom a z v) i 0 ≡ getD ram i 0
+  unfolding ramAfter
+  after-above i k = go (at (length ram) (length rom) a (bytesOf z))
+    where
+      go : {p : Place} → At (length ram) (length rom) a (bytesOf z) p → getD (ramWith p ram (bytesOf z) v) i 0 ≡ getD ram i 0
+      go (in-ram h) = replaced-above a (bytesFrom (bytesOf z) v) ram (replaces (bytesOf z) h) i (rw length-bytes k)
+      go (in-rom h x y) = refl
+      go nowhere = refl

@@ -1,0 +1,46 @@
+-- `memory::find` meets its contract: at each return the tests that led there say which case of `placeOf` holds.
+use Prim.Native.Nat.{ℕ, _+_, _-_, _<_, _^_}
+use mathlib.Core.Path.{_≡_, sym, ap, _∙_}
+use mathlib.Core.Logic.{⊎-elim}
+use native.Mathlib.Omega.{arith}
+use Rattle.memory.specs.declared.Place.the-variants.{Rom}
+use Rattle.memory.proofs.Laws.{place-ram, place-rom, place-low, place-high}
+use Rattle.memory.proofs.find.Statement.{statement}
+use Rattle.memory.proofs.find.Tie as tie
+
+returns : tie.Need-returns
+returns c =
+    let a = c .before .before .args in
+    sym (place-ram (a .ram-len) (a .rom-len) (a .address) (a .n) (omega arith))
+
+-- past the first test the operand is not in RAM
+not-ram : (c : tie.Joined1) → c .before .args .ram-len < c .before .args .address + c .before .args .n
+not-ram c = ⊎-elim (λ w. omega arith) (λ w. omega arith) (c .if1 .came)
+
+returns-2 : tie.Need-returns-2
+returns-2 c =
+    let j = c .before .before .before in
+    let a = j .before .args in
+    let e : a .rom-len - (2 ^ 24 - a .address) ≡ a .address + a .rom-len - 2 ^ 24 = omega arith in
+    ap Rom e ∙ sym (place-rom (a .ram-len) (a .rom-len) (a .address) (a .n) (not-ram j) (omega arith) (omega arith))
+
+returns-3 : tie.Need-returns-3
+returns-3 c =
+    let j = c .before .before .before in
+    let a = j .before .args in
+    sym (place-high (a .ram-len) (a .rom-len) (a .address) (a .n) (not-ram j) (omega arith))
+
+returns-4 : tie.Need-returns-4
+returns-4 c =
+    let j = c .before .before in
+    let a = j .before .args in
+    sym (place-low (a .ram-len) (a .rom-len) (a .address) (a .n) (not-ram j) (omega arith))
+
+returns-5 : tie.Need-returns-5
+returns-5 c =
+    let j = c .before in
+    let a = j .before .args in
+    sym (place-high (a .ram-len) (a .rom-len) (a .address) (a .n) (not-ram j) (omega arith))
+
+pub find-spec : {M : Type 1} → statement M
+find-spec = tie.close (tie.spec returns returns-2 returns-3 returns-4 returns-5)

@@ -1,0 +1,55 @@
+-- Loads, stores and fetches.
+use Prim.Native.Nat.{ℕ}
+use mathlib.Core.List.{List, []}
+use lib.ListN.{length, take, drop}
+use Rattle.answer.specs.declared.Answer.{Answer}
+use Rattle.answer.specs.declared.Answer.the-variants as answer
+use Rattle.answer.specs.declared.Why.the-variants as why
+use Rattle.little.specs.declared.Size.{Size}
+use Rattle.little.specs.Width.{bytesOf}
+use Rattle.little.specs.Bytes.{valueOf, bytesFrom, replaced}
+use Rattle.memory.specs.Place.{placeOf}
+use Rattle.memory.specs.declared.Place.{Place}
+use Rattle.memory.specs.declared.Place.the-variants.{Ram, Rom, Missing}
+use Rattle.memory.specs.declared.Loaded.{Loaded}
+use Rattle.memory.specs.declared.Loaded.the-variants as loaded
+
+-- the place of an operand of a size, in two memories
+abbrev pub operandAt : List ℕ → List ℕ → ℕ → Size → Place
+operandAt ram rom a size = placeOf (length ram) (length rom) a (bytesOf size)
+
+-- the value at address a, low byte first
+abbrev pub loadFrom : Place → List ℕ → List ℕ → ℕ → Loaded
+loadFrom (Ram o) ram rom n = loaded.Value (valueOf (take n (drop o ram)))
+loadFrom (Rom o) ram rom n = loaded.Value (valueOf (take n (drop o rom)))
+loadFrom Missing ram rom n = loaded.Refused why.Missing
+
+unfoldable pub loadOf : List ℕ → List ℕ → ℕ → Size → Loaded
+loadOf ram rom a size = loadFrom (operandAt ram rom a size) ram rom (bytesOf size)
+
+-- whether a store at address a is done
+abbrev pub storeTo : Place → Answer
+storeTo (Ram o) = answer.Done
+storeTo (Rom o) = answer.Refused why.ToRom
+storeTo Missing = answer.Refused why.Missing
+
+unfoldable pub storeOf : List ℕ → List ℕ → ℕ → Size → Answer
+storeOf ram rom a size = storeTo (operandAt ram rom a size)
+
+-- RAM after a store of v at address a: those bytes are v's, low byte first, and nothing else changes
+abbrev pub ramWith : Place → List ℕ → ℕ → ℕ → List ℕ
+ramWith (Ram o) ram n v = replaced o (bytesFrom n v) ram
+ramWith (Rom o) ram n v = ram
+ramWith Missing ram n v = ram
+
+unfoldable pub ramAfter : List ℕ → List ℕ → ℕ → Size → ℕ → List ℕ
+ramAfter ram rom a size v = ramWith (operandAt ram rom a size) ram (bytesOf size) v
+
+-- what stands from address a to the end of the memory that holds it
+abbrev pub codeFrom : Place → List ℕ → List ℕ → List ℕ
+codeFrom (Ram o) ram rom = drop o ram
+codeFrom (Rom o) ram rom = drop o rom
+codeFrom Missing ram rom = []
+
+unfoldable pub codeAt : List ℕ → List ℕ → ℕ → List ℕ
+codeAt ram rom a = codeFrom (placeOf (length ram) (length rom) a 1) ram rom

@@ -1,0 +1,87 @@
+// The two memories: where an operand lies, loads and stores, and the part of a memory that holds code.
+ghost use mathlib.Core.Path.{_≡_};
+ghost use lib.ListN.{length};
+ghost use Rattle.memory.specs.Place.{placeOf};
+ghost use Rattle.memory.specs.Access.{loadOf, storeOf, ramAfter, codeAt};
+use answer::Answer;
+use answer::Why;
+use little::Size;
+
+// Where an operand lies, as an offset into its memory.
+pub enum Place {
+    Ram(usize),
+    Rom(usize),
+    Missing,
+}
+
+// The place of n bytes at an address, from the lengths of the two memories. No sum is made that could wrap.
+pub fn find(ram_len: usize, rom_len: usize, address: u32, n: usize) -> Place
+    ensures { λ r. ⌜ r ≡ placeOf «ram_len» «rom_len» address n ⌝ }
+{
+    let at = address as usize;
+    if at <= ram_len {
+        if n <= ram_len - at {
+            return Place::Ram(at);
+        }
+    }
+    if at <= 16777216 {
+        let above = 16777216 - at;
+        if above <= rom_len {
+            if n <= above {
+                return Place::Rom(rom_len - above);
+            }
+        }
+    }
+    Place::Missing
+}
+
+pub enum Loaded {
+    Value(u32),
+    Refused(Why),
+}
+
+// The value at an address.
+pub fn load(ram: &[u8], rom: &[u8], address: u32, size: Size) -> Loaded
+    ensures { λ r. ⌜ r ≡ loadOf (now (ram .entry)) (now (rom .entry)) address size ⌝ }
+{
+    let n = little::bytes(size);
+    match find(ram.len(), rom.len(), address, n) {
+        Place::Ram(o) => {
+            let e = o + n;
+            Loaded::Value(little::read(&ram[o..e]))
+        }
+        Place::Rom(o) => {
+            let e = o + n;
+            Loaded::Value(little::read(&rom[o..e]))
+        }
+        Place::Missing => Loaded::Refused(Why::Missing),
+    }
+}
+
+// Stores a value at an address: the part of RAM that it goes to is lent to the writer.
+pub fn store(ram: &mut [u8], rom: &[u8], address: u32, size: Size, v: u32) -> Answer
+    ensures { λ r. ⌜ r ≡ storeOf (now (ram .entry)) (now (rom .entry)) address size ⌝ }
+    ensures { λ _. ⌜ now (ram .exit) ≡ ramAfter (now (ram .entry)) (now (rom .entry)) address size v ⌝ }
+{
+    let n = little::bytes(size);
+    match find(ram.len(), rom.len(), address, n) {
+        Place::Ram(o) => {
+            let e = o + n;
+            little::write(&mut ram[o..e], v);
+            Answer::Done
+        }
+        Place::Rom(_) => Answer::Refused(Why::ToRom),
+        Place::Missing => Answer::Refused(Why::Missing),
+    }
+}
+
+// What stands from an address to the end of the memory that holds it: a part of that memory, never a copy.
+pub fn fetch<'a>(ram: &'a [u8], rom: &'a [u8], address: u32) -> &'a [u8]
+    ensures { λ r. ⌜ now r ≡ codeAt (now (ram .entry)) (now (rom .entry)) address ⌝ }
+{
+    match find(ram.len(), rom.len(), address, 1) {
+        Place::Ram(o) => &ram[o..],
+        Place::Rom(o) => &rom[o..],
+        Place::Missing => &rom[..0],
+    }
+}
