@@ -1,7 +1,5 @@
 use native.Mathlib.Omega.{arith}
-use Prim.Native.Nat.{ℕ, _<_, _+_, _*_, _^_}
-use mathlib.Core.Path.{_≡_}
-use lib.ListN.{getD}
+use Prim.Native.Nat.{_<_}
 use borrow.Author.Needs.{needs}
 use Rattle.little.proofs.Laws.{four}
 use Rattle.little.proofs.read.Statement.{statement}

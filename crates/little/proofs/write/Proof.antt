@@ -1,17 +1,14 @@
 use borrow.Author.Needs.{needs}
 use native.Mathlib.Omega.{arith}
-use Prim.Native.Nat.{ℕ, zero, suc, _≤_, _<_, _-_, _^_}
-use mathlib.Core.Path.{_≡_, refl, ap, sym, _∙_}
-use mathlib.Core.List.{List, [], _∷_, _++_}
+use Prim.Native.Nat.{_≤_, _<_, _-_, _^_}
+use mathlib.Core.Path.{_≡_, refl, _∙_}
+use mathlib.Core.List.{_++_}
 use lib.ListN.{length, take, length-set}
 use Rattle.little.proofs.Laws.{write-more, write-done}
 use native.Mathlib.Nat.{sub-zero}
-use lib.Seq.{take-suc-set, take-length}
 use Rattle.little.specs.Bytes.{bytesFrom}
 use Rattle.little.proofs.write.Statement.{statement}
 use Rattle.little.proofs.write.Tie as tie
-use Rattle.little.proofs.write.Reads as reads
-use Rattle.little.proofs.write.Lts as lts
 
 abbrev Inv-loop : tie.InvT-loop
 Inv-loop s₀ v rest₀ i₀ s rest i = (i ≤ length s) × ((length s ≡ length s₀) × ((take i s ++ bytesFrom (length s - i) rest ≡ bytesFrom (length s₀) v) × (rest < 2 ^ 32)))

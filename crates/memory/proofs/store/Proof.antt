@@ -1,13 +1,11 @@
 -- `memory::store` meets its contract: by the arms of the place.
-use Prim.Native.Nat.{ℕ, _+_, _≤_}
-use mathlib.Core.Path.{_≡_, sym, ap, _∙_}
+use mathlib.Core.Path.{_≡_, sym, _∙_}
 use native.Mathlib.Omega.{arith}
-use lib.ListN.{length, drop}
+use lib.ListN.{length}
 use Rattle.memory.specs.Place.{placeOf}
-use Rattle.memory.specs.declared.Place.the-variants.{Ram, Rom}
-use Rattle.little.specs.Bytes.{bytesFrom}
+use Rattle.memory.specs.declared.Place.the-variants.{Ram}
 use Rattle.little.proofs.Laws.{written}
-use Rattle.memory.proofs.Laws.{ram-fits, rom-fits, bytes-le, store-in, ram-in}
+use Rattle.memory.proofs.Laws.{ram-fits, store-in, ram-in}
 use borrow.Author.Needs.{needs}
 use Rattle.memory.proofs.store.Statement.{statement}
 use Rattle.memory.proofs.store.Tie as tie

@@ -1,0 +1,5 @@
+pub mod Sound
+pub mod Bits
+pub mod Laws
+pub mod Valid
+mod Examples

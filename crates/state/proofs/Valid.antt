@@ -1,0 +1,76 @@
+-- What validity says, and what keeps it.
+use Prim.Native.Nat.{ℕ, _%_, _^_, _<_}
+use mathlib.Core.Path.{_≡_, refl, ap, sym, _∙_}
+use mathlib.Core.Bool.{Bool, true, false, _&&_}
+use native.Mathlib.Omega.{arith}
+use lib.Dec.{ltb}
+use borrow.Author.Tests.{lt-ltb, ltb-true}
+use Rattle.state.specs.State.{flagsValid, validOf, resetState, withCounter, withBank, withFlags, withBothFlags, withLong}
+use Rattle.state.specs.Register.{setSlot, setRegister}
+use Rattle.little.specs.declared.Size.{Size}
+use Rattle.state.specs.declared.Slot.{Slot}
+use Rattle.state.specs.declared.State.{State}
+
+pub record Valid (s : State) : Type 0 where
+  pub counter : s .counter < 2 ^ 24
+  pub bank : s .bank .0 < 4
+  pub level : s .level .0 < 8
+  pub flags : flagsValid (s .flags) ≡ true
+  pub spare : flagsValid (s .spare) ≡ true
+
+pub and-true : (a b : Bool) → a && b ≡ true → (a ≡ true) × (b ≡ true)
+and-true true b e = (refl, e)
+and-true false b e = let z : _≡_ {A = ℕ} 0 1 = cc in absurd (omega arith)
+
+pub valid-says : (s : State) → validOf s ≡ true → Valid s
+unfolding validOf
+valid-says s e =
+    let a = and-true (ltb (s .counter) (2 ^ 24)) _ e in
+    let b = and-true (ltb (s .bank .0) 4) _ (a .1) in
+    let l = and-true (ltb (s .level .0) 8) _ (b .1) in
+    let f = and-true (flagsValid (s .flags)) (flagsValid (s .spare)) (l .1) in
+    record {
+      counter = ltb-true _ _ (a .0);
+      bank = ltb-true _ _ (b .0);
+      level = ltb-true _ _ (l .0);
+      flags = f .0;
+      spare = f .1;
+    }
+
+pub valid-from : (s : State) → Valid s → validOf s ≡ true
+unfolding validOf
+valid-from s v = simp (lt-ltb _ _ (v .counter), lt-ltb _ _ (v .bank), lt-ltb _ _ (v .level), v .flags, v .spare)
+
+-- ---- what keeps it: registers have no part in it, and the others are written within their bounds
+pub valid-set : (s : State) (t : Slot) (v : ℕ) → validOf (setSlot s t v) ≡ validOf s
+unfolding validOf setSlot withLong
+valid-set s t v = refl
+
+pub valid-register : (s : State) (z : Size) (c v : ℕ) → validOf (setRegister s z c v) ≡ validOf s
+unfolding setRegister
+valid-register s z c v = valid-set s _ v
+
+pub valid-counter : (s : State) (c : ℕ) → Valid s → Valid (withCounter s c)
+unfolding withCounter
+valid-counter s c v =
+    record { counter = omega arith; bank = v .bank; level = v .level; flags = v .flags; spare = v .spare }
+
+pub valid-bank : (s : State) (b : ℕ) → Valid s → Valid (withBank s b)
+unfolding withBank
+valid-bank s b v =
+    record { counter = v .counter; bank = omega arith; level = v .level; flags = v .flags; spare = v .spare }
+
+pub valid-both : (s : State) (f g : ℕ) → flagsValid f ≡ true → flagsValid g ≡ true → Valid s → Valid (withBothFlags s f g)
+unfolding withBothFlags
+valid-both s f g e h v =
+    record { counter = v .counter; bank = v .bank; level = v .level; flags = e; spare = h }
+
+pub valid-flags : (s : State) (f : ℕ) → flagsValid f ≡ true → Valid s → Valid (withFlags s f)
+unfolding withFlags
+valid-flags s f e v = valid-both s f (s .spare) e (v .spare) v
+
+-- the state after reset is valid
+pub valid-reset : (vector : ℕ) → Valid (resetState vector)
+unfolding resetState
+valid-reset vector =
+    record { counter = omega arith; bank = omega arith; level = omega arith; flags = refl; spare = refl }

@@ -1,0 +1,65 @@
+-- Registers by size and code, through one naming of the parts of the twenty longs.
+use Prim.Native.Nat.{ℕ, _+_, _*_, _/_, _%_, _^_}
+use mathlib.Core.Bool.{cond}
+use lib.Dec.{ltb, eqb}
+use Rattle.little.specs.declared.Size.{Size}
+use Rattle.little.specs.declared.Size.the-variants.{Byte, Word, Long}
+use Rattle.state.specs.State.{longOf, withLong}
+use Rattle.state.specs.declared.State.{State}
+use Rattle.state.specs.declared.Slot.{Slot}
+use Rattle.state.specs.declared.Part.{Part}
+use Rattle.state.specs.declared.Part.the-variants.{Byte0, Byte1, Byte2, Byte3, Half0, Half1, Whole}
+
+-- the k bits of x from bit o on
+unfoldable pub getBits : ℕ → ℕ → ℕ → ℕ
+getBits o k x = x / 2 ^ o % 2 ^ k
+
+-- x with those bits replaced by the k low bits of v: what is above them, v, what is below them
+unfoldable pub setBits : ℕ → ℕ → ℕ → ℕ → ℕ
+setBits o k x v = (x / 2 ^ o / 2 ^ k * 2 ^ k + v % 2 ^ k) * 2 ^ o + x % 2 ^ o
+
+-- where a part starts, and how many bits it has
+abbrev pub startOf : Part → ℕ
+startOf Byte0 = 0
+startOf Byte1 = 8
+startOf Byte2 = 16
+startOf Byte3 = 24
+startOf Half0 = 0
+startOf Half1 = 16
+startOf Whole = 0
+
+abbrev pub widthOf : Part → ℕ
+widthOf Byte0 = 8
+widthOf Byte1 = 8
+widthOf Byte2 = 8
+widthOf Byte3 = 8
+widthOf Half0 = 16
+widthOf Half1 = 16
+widthOf Whole = 32
+
+-- what a slot holds, and the state with v written there
+unfoldable pub getSlot : State → Slot → ℕ
+getSlot s t = getBits (startOf (t .part)) (widthOf (t .part)) (longOf s (t .index))
+
+unfoldable pub setSlot : State → Slot → ℕ → State
+setSlot s t v = withLong s (t .index) (setBits (startOf (t .part)) (widthOf (t .part)) (longOf s (t .index)) v)
+
+-- codes 0 to 3 are XWA XBC XDE XHL of the bank, 4 to 7 are XIX XIY XIZ XSP
+abbrev pub indexOf : ℕ → ℕ → ℕ
+indexOf bank code = cond (ltb code 4) (4 * bank + code) (12 + code)
+
+-- Byte: W A B C D E H L, the high and the low byte of WA BC DE HL. Word: WA BC DE HL IX IY IZ SP, the low halves. Long: the whole
+unfoldable pub slotOf : ℕ → Size → ℕ → Slot
+slotOf bank Byte code = record { index = 4 * bank + code / 2; part = cond (eqb (code % 2) 0) Byte1 Byte0 }
+slotOf bank Word code = record { index = indexOf bank code; part = Half0 }
+slotOf bank Long code = record { index = indexOf bank code; part = Whole }
+
+-- the register of a size and a code, in the current bank
+abbrev pub namedIn : State → Size → ℕ → Slot
+namedIn s size code = slotOf (s .bank .0 % 4) size (code % 8)
+
+unfoldable pub getRegister : State → Size → ℕ → ℕ
+getRegister s size code = getSlot s (namedIn s size code)
+
+unfoldable pub setRegister : State → Size → ℕ → ℕ → State
+setRegister s size code v = setSlot s (namedIn s size code) v

@@ -1,0 +1,256 @@
+// The machine's state: twenty long registers, the counter, the bank, the interrupt level and two sets of flags.
+ghost use mathlib.Core.Path.{_≡_};
+ghost use Prim.Native.Nat.{_%_, _<_};
+ghost use Rattle.state.specs.State.{zeroState, resetState, flagsValid, validOf, longOf, withLong, withCounter, withBank, withFlags, withBothFlags};
+ghost use Rattle.state.specs.Register.{getBits, setBits, startOf, widthOf, getSlot, setSlot, indexOf, slotOf, getRegister, setRegister};
+use little::Size;
+
+// A bank number: which of the four banks the codes 0 to 3 name.
+pub struct Bank(pub u8);
+
+// An interrupt level.
+pub struct Level(pub u8);
+
+pub struct State {
+    // XWA XBC XDE XHL of bank 0, of bank 1, of bank 2 and of bank 3, then XIX XIY XIZ XSP.
+    pub registers: [u32; 20],
+    pub counter: u32,
+    pub bank: Bank,
+    pub level: Level,
+    // F, and F', which waits until it is exchanged.
+    pub flags: u8,
+    pub spare: u8,
+}
+
+// A part of a long register.
+pub enum Part {
+    Byte0,
+    Byte1,
+    Byte2,
+    Byte3,
+    Half0,
+    Half1,
+    Whole,
+}
+
+// Which of the twenty registers, and which part of it: whatever an instruction can name.
+pub struct Slot {
+    pub index: usize,
+    pub part: Part,
+}
+
+impl State {
+    pub const STACK_AT_RESET: u32 = 0x100;
+
+    pub const VECTOR: u32 = 0xFFFF00;
+
+    // The state that a refusal gives where there is no other to give.
+    pub fn zero() -> State
+        ensures { λ r. ⌜ r ≡ zeroState ⌝ }
+    {
+        State {
+            registers: [0; 20],
+            counter: 0,
+            bank: Bank(0),
+            level: Level(0),
+            flags: 0,
+            spare: 0,
+        }
+    }
+
+    // The state after reset, with the counter from the low 24 bits of the vector.
+    pub fn at_reset(vector: u32) -> State
+        ensures { λ r. ⌜ r ≡ resetState vector ⌝ }
+    {
+        let mut registers = [0u32; 20];
+        registers[19] = State::STACK_AT_RESET;
+        State {
+            registers: registers,
+            counter: vector % 16777216,
+            bank: Bank(0),
+            level: Level(7),
+            flags: 0,
+            spare: 0,
+        }
+    }
+
+    pub fn valid(self) -> bool
+        ensures { λ r. ⌜ r ≡ validOf self ⌝ }
+    {
+        if 16777216 <= self.counter {
+            return false;
+        }
+        if 4 <= self.bank.0 {
+            return false;
+        }
+        if 8 <= self.level.0 {
+            return false;
+        }
+        if flags_valid(self.flags) {
+            return flags_valid(self.spare);
+        }
+        false
+    }
+
+    // The long register at a place of the twenty; 0 past them.
+    pub fn long(self, i: usize) -> u32
+        ensures { λ r. ⌜ r ≡ longOf self i ⌝ }
+    {
+        if i < 20 { self.registers[i] } else { 0 }
+    }
+
+    pub fn with_long(self, i: usize, v: u32) -> State
+        ensures { λ r. ⌜ r ≡ withLong self i v ⌝ }
+    {
+        let mut s = self;
+        if i < 20 {
+            s.registers[i] = v;
+        }
+        s
+    }
+
+    pub fn get(self, t: Slot) -> u32
+        ensures { λ r. ⌜ r ≡ getSlot self t ⌝ }
+    {
+        let p = t.part;
+        bits_of(p, self.long(t.index))
+    }
+
+    pub fn set(self, t: Slot, v: u32) -> State
+        ensures { λ r. ⌜ r ≡ setSlot self t v ⌝ }
+    {
+        let i = t.index;
+        let p = t.part;
+        self.with_long(i, with_bits(p, self.long(i), v))
+    }
+
+    // The register of a size and a code, in the current bank.
+    pub fn register(self, size: Size, code: u8) -> u32
+        ensures { λ r. ⌜ r ≡ getRegister self size code ⌝ }
+    {
+        let b = self.bank;
+        self.get(slot_of(b, size, code))
+    }
+
+    pub fn with_register(self, size: Size, code: u8, v: u32) -> State
+        ensures { λ r. ⌜ r ≡ setRegister self size code v ⌝ }
+    {
+        let b = self.bank;
+        self.set(slot_of(b, size, code), v)
+    }
+
+    // The counter is taken modulo 2^24.
+    pub fn with_counter(self, counter: u32) -> State
+        ensures { λ r. ⌜ r ≡ withCounter self counter ⌝ }
+    {
+        let mut s = self;
+        s.counter = counter % 16777216;
+        s
+    }
+
+    // The bank number is taken modulo 4.
+    pub fn with_bank(self, bank: Bank) -> State
+        ensures { λ r. ⌜ r ≡ withBank self (bank .0) ⌝ }
+    {
+        let mut s = self;
+        let b = Bank(bank.0 % 4);
+        s.bank = b;
+        s
+    }
+
+    pub fn with_flags(self, flags: u8) -> State
+        ensures { λ r. ⌜ r ≡ withFlags self flags ⌝ }
+    {
+        let mut s = self;
+        s.flags = flags;
+        s
+    }
+
+    pub fn with_both_flags(self, flags: u8, spare: u8) -> State
+        ensures { λ r. ⌜ r ≡ withBothFlags self flags spare ⌝ }
+    {
+        let mut s = self;
+        s.flags = flags;
+        s.spare = spare;
+        s
+    }
+}
+
+// Whether bits 5 and 3 are zero.
+fn flags_valid(f: u8) -> bool
+    ensures { λ r. ⌜ r ≡ flagsValid f ⌝ }
+{
+    f / 32 % 2 == 0 && f / 8 % 2 == 0
+}
+
+// The bits of a part of a long register.
+fn bits_of(p: Part, x: u32) -> u32
+    ensures { λ r. ⌜ r ≡ getBits (startOf p) (widthOf p) x ⌝ }
+{
+    match p {
+        Part::Byte0 => x % 256,
+        Part::Byte1 => x / 256 % 256,
+        Part::Byte2 => x / 65536 % 256,
+        Part::Byte3 => x / 16777216 % 256,
+        Part::Half0 => x % 65536,
+        Part::Half1 => x / 65536 % 65536,
+        Part::Whole => x,
+    }
+}
+
+// A long register with the bits of a part replaced.
+fn with_bits(p: Part, x: u32, v: u32) -> u32
+    ensures { λ r. ⌜ r ≡ setBits (startOf p) (widthOf p) x v ⌝ }
+{
+    match p {
+        Part::Byte0 => x / 256 * 256 + v % 256,
+        Part::Byte1 => (x / 256 / 256 * 256 + v % 256) * 256 + x % 256,
+        Part::Byte2 => (x / 65536 / 256 * 256 + v % 256) * 65536 + x % 65536,
+        Part::Byte3 => v % 256 * 16777216 + x % 16777216,
+        Part::Half0 => x / 65536 * 65536 + v % 65536,
+        Part::Half1 => v % 65536 * 65536 + x % 65536,
+        Part::Whole => v,
+    }
+}
+
+// The place among the twenty of the long register of a code, in a bank.
+fn index_of(bank: usize, code: usize) -> usize
+    requires { ⌜ (bank < 4) × (code < 8) ⌝ }
+    ensures { λ r. ⌜ r ≡ indexOf bank code ⌝ }
+{
+    if code < 4 { 4 * bank + code } else { 12 + code }
+}
+
+// The slot of the register of a size and a code, in a bank: both numbers are taken modulo what there is.
+pub fn slot_of(bank: Bank, size: Size, code: u8) -> Slot
+    ensures { λ r. ⌜ r ≡ slotOf (bank .0 % 4) size (code % 8) ⌝ }
+{
+    let n = bank.0 % 4;
+    let b = n as usize;
+    let m = code % 8;
+    let c = m as usize;
+    match size {
+        Size::Byte => {
+            let i = 4 * b + c / 2;
+            if c % 2 == 0 {
+                Slot {
+                    index: i,
+                    part: Part::Byte1,
+                }
+            } else {
+                Slot {
+                    index: i,
+                    part: Part::Byte0,
+                }
+            }
+        }
+        Size::Word => Slot {
+            index: index_of(b, c),
+            part: Part::Half0,
+        },
+        Size::Long => Slot {
+            index: index_of(b, c),
+            part: Part::Whole,
+        },
+    }
+}
