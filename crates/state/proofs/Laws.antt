@@ -18,7 +18,7 @@ use Rattle.state.specs.declared.Slot.{Slot}
 use Rattle.state.specs.declared.State.{State}
 use Rattle.state.specs.declared.Part.{Part}
 use Rattle.state.specs.declared.Part.the-variants.{Byte0, Byte1, Byte2, Byte3, Half0, Half1, Whole}
-use Rattle.state.proofs.Sound.{Sound}
+use Rattle.state.specs.Sound.{Sound}
 use Rattle.state.proofs.Bits.{get-lt, get-set, get-below, get-above, set-part-lt}
 
 -- ---- one long of the twenty

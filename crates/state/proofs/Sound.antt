@@ -1,4 +1,4 @@
--- What the types of a state's fields say of its value: twenty registers, and each number fits.
+-- A state that a call is given or gives is sound: its type says so.
 -- A parameter `s : State` has it at `c .good .N`, a call's result at `c .CALL .ok`.
 use Prim.Native.Nat.{ℕ, zero, suc, _<_, _^_}
 use mathlib.Core.Path.{_≡_, refl, sym, _∙_}
@@ -11,6 +11,7 @@ use denote.Plain.{UInt}
 use denote.Array.{each}
 use denote.Shadow.{shadow}
 use Rattle.state.specs.declared.State.{State}
+use Rattle.state.specs.Sound.{Sound}
 use Rattle.state.proofs.State.{the-row}
 
 -- each element of an array of unsigned integers fits
@@ -19,15 +20,6 @@ each-fits w [] us p i = pow-pos (bits w)
 each-fits w (x ∷ xs) [] p i = absurd p
 each-fits w (x ∷ xs) (u ∷ us) p zero = p .0 .1
 each-fits w (x ∷ xs) (u ∷ us) p (suc i) = each-fits w xs us (p .1) i
-
-pub record Sound (s : State) : Type 0 where
-  pub twenty : length (s .registers) ≡ 20
-  pub fit : (i : ℕ) → getD (s .registers) i 0 < 2 ^ 32
-  pub counter-fit : s .counter < 2 ^ 32
-  pub bank-fit : s .bank .0 < 2 ^ 8
-  pub level-fit : s .level .0 < 2 ^ 8
-  pub flags-fit : s .flags < 2 ^ 8
-  pub spare-fit : s .spare < 2 ^ 8
 
 pub sound : (s : State) {vs : List Val} → shadow (the-row .own s vs) → Sound s
 sound s p =

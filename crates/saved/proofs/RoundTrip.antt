@@ -1,0 +1,177 @@
+-- A state that is saved and read is the same, and a record that is read and saved is the same.
+use Prim.Native.Nat.{ℕ, zero, suc, _+_, _-_, _*_, _/_, _%_, _^_, _<_, _≤_}
+use mathlib.Core.Path.{_≡_, refl, ap, sym, _∙_}
+use mathlib.Core.Bool.{Bool, true, false, _&&_}
+use mathlib.Core.List.{List, [], _∷_, _++_}
+use native.Mathlib.Omega.{arith}
+use native.Mathlib.Nat.{div-add-mod'}
+use lib.Pow.{shr-shr}
+use lib.ListN.{length, getD, take, drop, length-append, length-drop, take-append-drop, drop-of-length-le}
+use lib.Dec.{eqb}
+use lib.Seq.{take-at, drop-at, drop-drop, getD-drop, drop-cons}
+use borrow.Author.Tests.{eq-eqb, eqb-true}
+use Rattle.answer.specs.declared.Answer.the-variants.{Done}
+use Rattle.little.specs.Bytes.{valueOf, bytesFrom}
+use Rattle.little.proofs.Laws.{length-bytes, value-bytes}
+use Rattle.state.specs.State.{validOf}
+use Rattle.state.specs.Sound.{Sound}
+use Rattle.state.specs.declared.State.{State}
+use Rattle.state.proofs.Valid.{Valid, valid-says, and-true}
+use Rattle.saved.specs.Sr.{srOf, flagsIn, bankIn, levelIn, onesIn}
+use Rattle.saved.specs.Record.{longsBytes, longsAt, recordOf, srAt, stateAt, fixedAt, isRecord, loadOf}
+use Rattle.saved.specs.Statements.{Bytes, SavedReadsBack, ReadSavesBack, RecordsAreOfStates}
+use Rattle.saved.proofs.Numbers.{longs-length, longs-back, bytes-drop, part-bytes, bytes-longs}
+use Rattle.saved.proofs.Laws.{load-good}
+
+-- ---- saved, then read
+module _ (s : State) (ok : Sound s) (v : Valid s) where
+  sr-lt : srOf s < 256 ^ 2
+  sr-lt = omega (arith, ok .flags-fit, v .bank, v .level)
+
+  abbrev tail : List ℕ
+  tail = bytesFrom 4 (s .counter) ++ (bytesFrom 2 (srOf s) ++ (s .spare ∷ 0 ∷ []))
+
+  longs-80 : length (longsBytes (s .registers)) ≡ 80
+  longs-80 = longs-length (s .registers) ∙ omega (arith, ok .twenty)
+
+  at-80 : drop 80 (recordOf s) ≡ tail
+  unfolding recordOf
+  at-80 = drop-at (longsBytes (s .registers)) tail 80 longs-80
+
+  at-84 : drop 84 (recordOf s) ≡ bytesFrom 2 (srOf s) ++ (s .spare ∷ 0 ∷ [])
+  at-84 = sym (drop-drop 4 80 (recordOf s)) ∙ ap (drop 4) at-80 ∙ drop-at (bytesFrom 4 (s .counter)) _ 4 (length-bytes 4 (s .counter))
+
+  sr-is : srAt (recordOf s) ≡ srOf s
+  sr-is =
+      ap (λ (l : List ℕ). valueOf (take 2 l)) at-84
+      ∙ ap valueOf (take-at (bytesFrom 2 (srOf s)) _ 2 (length-bytes 2 (srOf s)))
+      ∙ value-bytes 2 (srOf s) sr-lt
+
+  spare-is : getD (recordOf s) 86 0 ≡ s .spare
+  unfolding bytesFrom
+  spare-is = sym (getD-drop 84 (recordOf s) 2 0) ∙ ap (λ (l : List ℕ). getD l 2 0) at-84
+
+  last-is : getD (recordOf s) 87 0 ≡ 0
+  unfolding bytesFrom
+  last-is = sym (getD-drop 84 (recordOf s) 3 0) ∙ ap (λ (l : List ℕ). getD l 3 0) at-84
+
+  pub record-length : length (recordOf s) ≡ 88
+  unfolding recordOf
+  record-length = simp (length-append, longs-80, length-bytes)
+
+  registers-are : longsAt 20 (recordOf s) ≡ s .registers
+  unfolding recordOf
+  registers-are = rw (← ok .twenty) (longs-back (s .registers) tail (ok .fit))
+
+  counter-is : valueOf (take 4 (drop 80 (recordOf s))) ≡ s .counter
+  counter-is =
+      rw (at-80, take-at (bytesFrom 4 (s .counter)) _ 4 (length-bytes 4 (s .counter)))
+      (value-bytes 4 (s .counter) (omega (arith, v .counter)))
+
+  -- SR and back
+  sr-back : (bankIn (srOf s) ≡ s .bank .0) × (levelIn (srOf s) ≡ s .level .0) × (flagsIn (srOf s) ≡ s .flags)
+  sr-back =
+      let b : srOf s / 0x100 ≡ s .bank .0 + 8 * (17 + 2 * s .level .0) = omega (arith, ok .flags-fit) in
+      let l : srOf s / 0x1000 ≡ s .level .0 + 8 = omega (arith, ok .flags-fit, v .bank) in
+      (rw b (omega (arith, v .bank)), rw l (omega (arith, v .level)), omega (arith, ok .flags-fit))
+
+  pub state-back : stateAt (recordOf s) ≡ s
+  unfolding stateAt
+  state-back = rw (registers-are, counter-is, sr-is, sr-back .0, sr-back .1, sr-back .2, spare-is)
+
+  fixed-are : fixedAt (recordOf s) ≡ true
+  fixed-are =
+      let a1 : srOf s / 0x800 ≡ 1 + 2 * (s .level .0 + 8) = omega (arith, ok .flags-fit, v .bank) in
+      let a : srOf s / 0x800 % 2 ≡ 1 = rw a1 (omega arith) in
+      let b1 : srOf s / 0x8000 ≡ 1 = omega (arith, ok .flags-fit, v .bank, v .level) in
+      let b : srOf s / 0x8000 % 2 ≡ 1 = rw b1 in
+      simp (sr-is, last-is, eq-eqb (srOf s / 0x800 % 2) 1 a, eq-eqb (srOf s / 0x8000 % 2) 1 b)
+
+  valid-again : validOf s ≡ true → isRecord (recordOf s) ≡ true
+  valid-again e = simp (eq-eqb _ _ record-length, ap validOf state-back ∙ e, fixed-are)
+
+pub saved-reads-back : SavedReadsBack
+saved-reads-back s ok e =
+    let v = valid-says s e in
+    load-good (recordOf s) (record-length s ok v) (ap validOf (state-back s ok v) ∙ e) (fixed-are s ok v)
+    ∙ ap (λ (t : State). record { answer = Done; state = t }) (state-back s ok v)
+
+-- ---- read, then saved
+value-two : (l : List ℕ) → Bytes l → valueOf (take 2 l) < 2 ^ 16
+unfolding valueOf
+value-two [] h = omega arith
+value-two (a ∷ []) h = omega (arith, h 0)
+value-two (a ∷ b ∷ l) h = omega (arith, h 0, h 1)
+
+-- the digits of SR put together, each quotient a number of its own
+sr-digits :
+    (x a b c d f k m l : ℕ) → a * 0x100 + f ≡ x → b * 8 + k ≡ a → c * 2 + m ≡ b → d * 8 + l ≡ c → d < 2 → m ≡ 1 → d % 2 ≡ 1 →
+    f + 0x100 * k + 0x800 + 0x1000 * l + 0x8000 ≡ x
+sr-digits x a b c d f k m l e1 e2 e3 e4 h i j = omega arith
+
+sr-whole :
+    (x : ℕ) → x < 2 ^ 16 → x / 0x100 % 8 < 4 → x / 0x800 % 2 ≡ 1 → x / 0x8000 % 2 ≡ 1 →
+    x % 0x100 + 0x100 * (x / 0x100 % 8) + 0x800 + 0x1000 * (x / 0x1000 % 8) + 0x8000 ≡ x
+sr-whole x h b m n =
+    let e1 : x / 0x100 / 8 ≡ x / 0x800 = shr-shr x 8 3 in
+    let e2 : x / 0x800 / 2 ≡ x / 0x1000 = shr-shr x 11 1 in
+    let e3 : x / 0x1000 / 8 ≡ x / 0x8000 = shr-shr x 12 3 in
+    sr-digits x (x / 0x100) (x / 0x800) (x / 0x1000) (x / 0x8000) (x % 0x100) (x / 0x100 % 8) (x / 0x800 % 2) (x / 0x1000 % 8)
+    (div-add-mod' x 0x100)
+    (ap (λ (n : ℕ). n * 8 + x / 0x100 % 8) (sym e1) ∙ div-add-mod' (x / 0x100) 8)
+    (ap (λ (n : ℕ). n * 2 + x / 0x800 % 2) (sym e2) ∙ div-add-mod' (x / 0x800) 2)
+    (ap (λ (n : ℕ). n * 8 + x / 0x1000 % 8) (sym e3) ∙ div-add-mod' (x / 0x1000) 8)
+    (omega arith) m n
+
+module _ (l : List ℕ) (h : Bytes l) (n : length l ≡ 88) (v : Valid (stateAt l)) (m : fixedAt l ≡ true) where
+  ones : onesIn (srAt l) ≡ true
+  ones = and-true (onesIn (srAt l)) _ m .0
+
+  sr-same : srOf (stateAt l) ≡ srAt l
+  unfolding stateAt
+  sr-same =
+      let x = srAt l in
+      let two = and-true (eqb (x / 0x800 % 2) 1) _ ones in
+      sr-whole x (value-two (drop 84 l) (bytes-drop 84 l h)) (v .bank) (eqb-true _ _ (two .0)) (eqb-true _ _ (two .1))
+
+  last-two : getD l 86 0 ∷ 0 ∷ [] ≡ drop 86 l
+  last-two =
+      let last : getD l 87 0 ≡ 0 = eqb-true _ _ (and-true (onesIn (srAt l)) _ m .1) in
+      sym
+      (drop-cons l 86 0 (omega arith)
+      ∙ ap (λ (t : List ℕ). getD l 86 0 ∷ t)
+      (drop-cons l 87 0 (omega arith) ∙ rw (last, drop-of-length-le l {i = 88} (omega arith))))
+
+  pub record-back : recordOf (stateAt l) ≡ l
+  unfolding recordOf stateAt
+  record-back =
+      let longs : longsBytes (longsAt 20 l) ≡ take 80 l = bytes-longs 20 l (omega arith) h in
+      let counter : bytesFrom 4 (valueOf (take 4 (drop 80 l))) ≡ take 4 (drop 80 l) =
+      part-bytes 4 (drop 80 l) (simp length-drop (omega arith)) (bytes-drop 80 l h) in
+      let sr : bytesFrom 2 (srOf (stateAt l)) ≡ take 2 (drop 84 l) =
+      ap (bytesFrom 2) sr-same ∙ part-bytes 2 (drop 84 l) (simp length-drop (omega arith)) (bytes-drop 84 l h) in
+      rw (
+        longs,
+        counter,
+        sr,
+        last-two,
+        ← drop-drop 2 84 l,
+        take-append-drop 2 (drop 84 l),
+        ← drop-drop 4 80 l,
+        take-append-drop 4 (drop 80 l),
+      )
+      (take-append-drop 80 l)
+
+pub read-saves-back : ReadSavesBack
+read-saves-back l h e =
+    let a = and-true (eqb (length l) 88) _ e in
+    let b = and-true (validOf (stateAt l)) _ (a .1) in
+    record-back l h (eqb-true _ _ (a .0)) (valid-says (stateAt l) (b .0)) (b .1)
+
+pub records-are-of-states : RecordsAreOfStates
+records-are-of-states = (
+  λ s ok e. valid-again s ok (valid-says s e) e,
+  λ l h e.
+      let a = and-true (eqb (length l) 88) _ e in
+      (and-true (validOf (stateAt l)) _ (a .1) .0, read-saves-back l h e),
+)

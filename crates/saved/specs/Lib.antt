@@ -1,0 +1,3 @@
+pub mod Sr
+pub mod Record
+pub mod Statements

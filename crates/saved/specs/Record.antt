@@ -1,0 +1,67 @@
+-- A saved state: one record of 88 bytes with no header.
+use Prim.Native.Nat.{ℕ, zero, suc}
+use mathlib.Core.List.{List, [], _∷_, _++_}
+use mathlib.Core.Bool.{Bool, cond, _&&_}
+use lib.ListN.{length, getD, take, drop}
+use lib.Dec.{eqb}
+use Rattle.answer.specs.declared.Answer.{Answer}
+use Rattle.answer.specs.declared.Answer.the-variants.{Done, Refused}
+use Rattle.answer.specs.declared.Why.the-variants.{Invalid}
+use Rattle.little.specs.Bytes.{valueOf, bytesFrom}
+use Rattle.state.specs.State.{validOf, zeroState}
+use Rattle.state.specs.declared.State.{State}
+use Rattle.saved.specs.Sr.{srOf, flagsIn, bankIn, levelIn, onesIn}
+use Rattle.saved.specs.declared.Restored.{Restored}
+
+-- numbers of four bytes, one after the other
+unfoldable pub longsBytes : List ℕ → List ℕ
+longsBytes [] = []
+longsBytes (x ∷ xs) = bytesFrom 4 x ++ longsBytes xs
+
+-- banks 0 to 3 (XWA, XBC, XDE, XHL each), XIX, XIY, XIZ, XSP, the counter in four bytes, SR in two, F' in one, a zero byte
+unfoldable pub recordOf : State → List ℕ
+recordOf s = longsBytes (s .registers) ++ (bytesFrom 4 (s .counter) ++ (bytesFrom 2 (srOf s) ++ (s .spare ∷ 0 ∷ [])))
+
+-- ---- saving: an invalid state, or a buffer that is not 88 bytes long, is refused and leaves the buffer
+abbrev pub canSave : State → ℕ → Bool
+canSave s n = validOf s && eqb n 88
+
+unfoldable pub saveAnswer : State → ℕ → Answer
+saveAnswer s n = cond (canSave s n) Done (Refused Invalid)
+
+unfoldable pub saveBytes : State → List ℕ → List ℕ
+saveBytes s buffer = cond (canSave s (length buffer)) (recordOf s) buffer
+
+-- ---- loading
+-- the first n numbers of four bytes
+unfoldable pub longsAt : ℕ → List ℕ → List ℕ
+longsAt zero l = []
+longsAt (suc n) l = valueOf (take 4 l) ∷ longsAt n (drop 4 l)
+
+abbrev pub srAt : List ℕ → ℕ
+srAt l = valueOf (take 2 (drop 84 l))
+
+-- what stands in 88 bytes
+unfoldable pub stateAt : List ℕ → State
+stateAt l = record {
+  registers = longsAt 20 l;
+  counter = valueOf (take 4 (drop 80 l));
+  bank = record { 0 = bankIn (srAt l) };
+  level = record { 0 = levelIn (srAt l) };
+  flags = flagsIn (srAt l);
+  spare = getD l 86 0;
+}
+
+-- the ones of SR, and the zero byte
+abbrev pub fixedAt : List ℕ → Bool
+fixedAt l = onesIn (srAt l) && eqb (getD l 87 0) 0
+
+-- 88 bytes, none with a bit that no valid state has
+abbrev pub isRecord : List ℕ → Bool
+isRecord l = eqb (length l) 88 && (validOf (stateAt l) && fixedAt l)
+
+abbrev pub refused : Restored
+refused = record { answer = Refused Invalid; state = zeroState }
+
+unfoldable pub loadOf : List ℕ → Restored
+loadOf l = cond (isRecord l) (record { answer = Done; state = stateAt l }) refused

@@ -1,0 +1,141 @@
+// The status register SR, and a state as a record of 88 bytes.
+ghost use mathlib.Core.Path.{_≡_};
+ghost use lib.ListN.{length, take};
+ghost use Prim.Native.Nat.{_≤_};
+ghost use Rattle.saved.specs.Sr.{srOf};
+ghost use Rattle.saved.specs.Record.{longsBytes, longsAt, saveAnswer, saveBytes, srAt, stateAt, fixedAt, loadOf, refused};
+use answer::Answer;
+use answer::Why;
+use state::Bank;
+use state::Level;
+use state::State;
+
+// A state that was read, or the all-zero state with the refusal.
+pub struct Restored {
+    pub answer: Answer,
+    pub state: State,
+}
+
+pub fn sr(s: State) -> u32
+    ensures { λ r. ⌜ r ≡ srOf s ⌝ }
+{
+    let b = s.bank.0;
+    let l = s.level.0;
+    s.flags as u32 + 256 * (b as u32) + 2048 + 4096 * (l as u32) + 32768
+}
+
+// The twenty registers, at the front of a bytes.
+fn save_longs(s: State, out: &mut [u8])
+    requires { ⌜ length (now out) ≡ 88 ⌝ }
+    ensures { λ _. ⌜ take 80 (now (out .exit)) ≡ longsBytes (s .registers) ⌝ }
+{
+    let mut i: usize = 0;
+    while i < 20 {
+        let a = 4 * i;
+        let e = a + 4;
+        little::write(&mut out[a..e], s.long(i));
+        i += 1;
+    }
+}
+
+// Saves a valid state into a buffer of 88 bytes; any other state or buffer is refused, and the buffer stays.
+pub fn save(s: State, out: &mut [u8]) -> Answer
+    ensures { λ r. ⌜ r ≡ saveAnswer s (length (now (out .entry))) ⌝ }
+    ensures { λ _. ⌜ now (out .exit) ≡ saveBytes s (now (out .entry)) ⌝ }
+{
+    if s.valid() {
+        if out.len() == 88 {
+            save_longs(s, out);
+            little::write(&mut out[80..84], s.counter);
+            little::write(&mut out[84..86], sr(s));
+            out[86] = s.spare;
+            out[87] = 0;
+            return Answer::Done;
+        }
+    }
+    Answer::Refused(Why::Invalid)
+}
+
+fn longs(bytes: &[u8]) -> [u32; 20]
+    requires { ⌜ 80 ≤ length (now bytes) ⌝ }
+    ensures { λ r. ⌜ r ≡ longsAt 20 (now (bytes .entry)) ⌝ }
+{
+    let mut registers = [0u32; 20];
+    let mut i: usize = 0;
+    while i < 20 {
+        let a = 4 * i;
+        let e = a + 4;
+        registers[i] = little::read(&bytes[a..e]);
+        i += 1;
+    }
+    registers
+}
+
+fn sr_at(bytes: &[u8]) -> u32
+    requires { ⌜ length (now bytes) ≡ 88 ⌝ }
+    ensures { λ r. ⌜ r ≡ srAt (now (bytes .entry)) ⌝ }
+{
+    little::read(&bytes[84..86])
+}
+
+fn state_at(bytes: &[u8]) -> State
+    requires { ⌜ length (now bytes) ≡ 88 ⌝ }
+    ensures { λ r. ⌜ r ≡ stateAt (now (bytes .entry)) ⌝ }
+{
+    let registers = longs(bytes);
+    let counter = little::read(&bytes[80..84]);
+    let sr = sr_at(bytes);
+    let spare = bytes[86];
+    State {
+        registers: registers,
+        counter: counter,
+        bank: Bank((sr / 256 % 8) as u8),
+        level: Level((sr / 4096 % 8) as u8),
+        flags: (sr % 256) as u8,
+        spare: spare,
+    }
+}
+
+// Whether the bits that every record has the same are there.
+fn fixed_at(bytes: &[u8]) -> bool
+    requires { ⌜ length (now bytes) ≡ 88 ⌝ }
+    ensures { λ r. ⌜ r ≡ fixedAt (now (bytes .entry)) ⌝ }
+{
+    let sr = sr_at(bytes);
+    if sr / 2048 % 2 != 1 {
+        return false;
+    }
+    if sr / 32768 % 2 != 1 {
+        return false;
+    }
+    bytes[87] == 0
+}
+
+fn refuse() -> Restored
+    ensures { λ r. ⌜ r ≡ refused ⌝ }
+{
+    Restored {
+        answer: Answer::Refused(Why::Invalid),
+        state: State::zero(),
+    }
+}
+
+// The state of a record; where the record breaks its rules, the refusal and the all-zero state.
+pub fn load(bytes: &[u8]) -> Restored
+    ensures { λ r. ⌜ r ≡ loadOf (now (bytes .entry)) ⌝ }
+{
+    if bytes.len() != 88 {
+        return refuse();
+    }
+    let s = state_at(bytes);
+    if s.valid() {
+        if fixed_at(bytes) {
+            return Restored {
+                answer: Answer::Done,
+                state: s,
+            };
+        }
+        return refuse();
+    }
+    refuse()
+}
