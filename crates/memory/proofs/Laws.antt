@@ -9,6 +9,7 @@ use lib.ListN.{length, getD, take, drop, length-drop, length-take}
 use lib.Seq.{take-all}
 use borrow.Author.Tests.{le-leb, lt-leb, leb-true, leb-false}
 use Rattle.answer.specs.declared.Answer.the-variants as answer
+use Rattle.answer.specs.declared.Why.{Why}
 use Rattle.little.specs.declared.Size.{Size}
 use Rattle.little.specs.declared.Size.the-variants.{Byte, Word, Long}
 use Rattle.little.specs.Width.{bytesOf}
@@ -142,3 +143,14 @@ module _ (ram rom : List ℕ) (a : ℕ) (z : Size) (v : ℕ) where
       go (in-ram h) = replaced-above a (bytesFrom (bytesOf z) v) ram (replaces (bytesOf z) h) i (rw length-bytes k)
       go (in-rom h x y) = refl
       go nowhere = refl
+
+-- a refused store leaves RAM as it was
+pub refused-keeps :
+    (ram rom : List ℕ) (a : ℕ) (z : Size) (v : ℕ) (w : Why) → storeOf ram rom a z ≡ answer.Refused w → ramAfter ram rom a z v ≡ ram
+unfolding ramAfter storeOf
+refused-keeps ram rom a z v w e = go (operandAt ram rom a z) e
+  where
+    go : (p : Place) → storeTo p ≡ answer.Refused w → ramWith p ram (bytesOf z) v ≡ ram
+    go (Ram o) f = let k : _≡_ {A = ℕ} 0 1 = cc in absurd (omega arith)
+    go (Rom o) f = refl
+    go Missing f = refl

@@ -1,0 +1,52 @@
+-- Facts about the widths of the three sizes.
+use mathlib.Core.Path.{_≡_, refl, ap}
+use mathlib.Core.Bool.{Bool, true, false}
+use Prim.Native.Nat.{ℕ, zero, suc, _+_, _-_, _*_, _/_, _^_, _≤_, _<_, zero-le}
+use native.Mathlib.Nat.{le-refl, pow-suc, not-suc-le-zero}
+use native.Mathlib.Numerals.{sub-one}
+use native.Mathlib.Omega.{arith}
+use lib.Dec.{lit<, lit≤, ltb}
+use Rattle.little.specs.declared.Size.{Size}
+use Rattle.little.specs.declared.Size.the-variants.{Byte, Word, Long}
+use Rattle.little.specs.Width.{bitsOf, bytesOf}
+use Rattle.alu.specs.Width.{one}
+
+pub one-le : (b : Bool) → one b ≤ 1
+one-le true = le-refl 1
+one-le false = zero-le
+
+-- the weight of the top bit, twice, is 2 ^ k
+pub twice : (k : ℕ) → 0 < k → 2 ^ k ≡ 2 ^ (k - 1) + 2 ^ (k - 1)
+twice zero h = absurd (not-suc-le-zero h)
+twice (suc j) h =
+    let e : 2 ^ suc j ≡ 2 ^ j * 2 = pow-suc 2 j in
+    let f : 2 ^ (suc j - 1) ≡ 2 ^ j = ap (λ (n : ℕ). 2 ^ n) (sub-one (suc j)) in
+    omega arith
+
+-- a size has bits, and at most 32
+pub bits-pos : (s : Size) → 0 < bitsOf s
+bits-pos Byte = lit< tt
+bits-pos Word = lit< tt
+bits-pos Long = lit< tt
+
+pub size-le : (s : Size) → 2 ^ bitsOf s ≤ 4294967296
+size-le Byte = lit≤ tt
+size-le Word = lit≤ tt
+size-le Long = lit≤ tt
+
+-- half of a size is smaller, and below the top bit
+pub half-le : (s : Size) → 2 ^ (bitsOf s / 2) ≤ 2 ^ bitsOf s
+half-le Byte = lit≤ tt
+half-le Word = lit≤ tt
+half-le Long = lit≤ tt
+
+pub half-top : (s : Size) → 2 ^ (bitsOf s / 2) ≤ 2 ^ (bitsOf s - 1)
+half-top Byte = lit≤ tt
+half-top Word = lit≤ tt
+half-top Long = lit≤ tt
+
+-- a size has fewer than 32 bits where it has fewer than 4 bytes
+pub four-bytes : (s : Size) → ltb (bytesOf s) 4 ≡ ltb (bitsOf s) 32
+four-bytes Byte = refl
+four-bytes Word = refl
+four-bytes Long = refl

@@ -1,0 +1,11 @@
+-- EXTZ and EXTS: the low half of k bits, with zeros or with its sign above it.
+use Prim.Native.Nat.{ℕ, _+_, _-_, _/_, _^_}
+use mathlib.Core.Bool.{cond}
+use Rattle.alu.specs.Width.{low, negative}
+
+unfoldable pub extzOf : ℕ → ℕ → ℕ
+extzOf k a = low (k / 2) a
+
+-- 2 ^ k - 2 ^ (k / 2) has ones in the high half
+unfoldable pub extsOf : ℕ → ℕ → ℕ
+extsOf k a = cond (negative (k / 2) (extzOf k a)) (extzOf k a + (2 ^ k - 2 ^ (k / 2))) (extzOf k a)

@@ -1,0 +1,12 @@
+pub mod Width
+pub mod Flag
+pub mod Condition
+pub mod Sums
+pub mod Parity
+pub mod Logic
+pub mod Operation
+pub mod Shift
+pub mod Count
+pub mod Extend
+pub mod Meaning
+pub mod Cases

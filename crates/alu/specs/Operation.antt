@@ -1,0 +1,18 @@
+-- The eight operations on two operands of k bits, with the carry that was.
+use Prim.Native.Nat.{ℕ}
+use mathlib.Core.Bool.{Bool, false}
+use Rattle.alu.specs.declared.Computed.{Computed}
+use Rattle.alu.specs.declared.Arith.{Arith}
+use Rattle.alu.specs.declared.Arith.the-variants.{Add, Adc, Sub, Sbc, And, Xor, Or, Cp}
+use Rattle.alu.specs.Sums.{sumOf, differenceOf}
+use Rattle.alu.specs.Logic.{andOf, orOf, xorOf}
+
+unfoldable pub operated : Arith → ℕ → ℕ → ℕ → Bool → Computed
+operated Add k a b c = sumOf k a b false
+operated Adc k a b c = sumOf k a b c
+operated Sub k a b c = differenceOf k a b false
+operated Sbc k a b c = differenceOf k a b c
+operated And k a b c = andOf k a b
+operated Xor k a b c = xorOf k a b
+operated Or k a b c = orOf k a b
+operated Cp k a b c = differenceOf k a b false

@@ -1,0 +1,48 @@
+-- SLA, SRA, SLL and SRL by some places.
+use Prim.Native.Nat.{ℕ, zero, suc, _+_, _*_, _/_, _%_, _^_}
+use mathlib.Core.Bool.{Bool, false, cond}
+use lib.Dec.{eqb}
+use Rattle.alu.specs.declared.Computed.{Computed}
+use Rattle.alu.specs.declared.Shifted.{Shifted}
+use Rattle.alu.specs.declared.Shift.{Shift}
+use Rattle.alu.specs.declared.Shift.the-variants.{Sla, Sra, Sll, Srl}
+use Rattle.alu.specs.Width.{low, negative, weighed, one}
+use Rattle.alu.specs.Logic.{plain}
+
+-- the places that a code byte asks for: 0 means 16; of a larger one the low four bits count
+unfoldable pub placesOf : ℕ → ℕ
+placesOf n = cond (eqb (n % 16) 0) 16 (n % 16)
+
+-- a value, and the bit that was shifted out of it last; and both as one number, the bit above the value
+abbrev pub shifted : ℕ → Bool → Shifted
+shifted value out = record { value = value; out = out }
+
+abbrev pub joined : Shifted → ℕ
+joined s = s .value + one (s .out) * 2 ^ 32
+
+-- one place to the left: the top bit goes out, 0 comes in below
+abbrev pub leftOf : ℕ → ℕ → Shifted
+leftOf k x = shifted (low k (x * 2)) (negative k x)
+
+-- one place to the right: the lowest bit goes out, and what comes in is given at its weight
+abbrev pub rightOf : ℕ → ℕ → Shifted
+rightOf x above = shifted (x / 2 + above) (eqb (x % 2) 1)
+
+-- SLA and SLL are the same; to the right, SRA keeps the sign and SRL brings in 0
+abbrev pub placeOf : Shift → ℕ → ℕ → Shifted
+placeOf Sla k x = leftOf k x
+placeOf Sra k x = rightOf x (weighed k x)
+placeOf Sll k x = leftOf k x
+placeOf Srl k x = rightOf x 0
+
+-- a shift by num is one place and then a shift by num less one
+unfoldable pub shiftBy : Shift → ℕ → ℕ → Shifted → Shifted
+shiftBy w k zero s = s
+shiftBy w k (suc num) s = shiftBy w k num (placeOf w k (s .value))
+
+-- the value and flags of a shift: V parity, C the last bit out
+unfoldable pub shiftOf : Shift → ℕ → ℕ → ℕ → Computed
+unfolding plain
+shiftOf w k a num =
+    let t = shiftBy w k num (shifted (low k a) false) in
+    plain k (t .value) false (t .out)

@@ -1,0 +1,18 @@
+-- A number's part of a width of k bits, its sign, and a bit as a number.
+use Prim.Native.Nat.{ℕ, _-_, _%_, _^_}
+use mathlib.Core.Bool.{Bool, cond}
+use lib.Dec.{leb}
+
+-- the low k bits of x
+abbrev pub low : ℕ → ℕ → ℕ
+low k x = x % 2 ^ k
+
+-- whether the top bit of a number of k bits is one, and that bit at its weight
+abbrev pub negative : ℕ → ℕ → Bool
+negative k x = leb (2 ^ (k - 1)) x
+
+abbrev pub weighed : ℕ → ℕ → ℕ
+weighed k x = cond (negative k x) (2 ^ (k - 1)) 0
+
+abbrev pub one : Bool → ℕ
+one b = cond b 1 0

@@ -1,0 +1,133 @@
+-- Laws of the copies and compares: the byte 10 to 17 after a form (R).
+use Prim.Native.Nat.{ℕ, zero, suc, _+_, _*_, _/_, _%_, _≤_, _<_}
+use mathlib.Core.Path.{_≡_, refl, ap, _∙_}
+use mathlib.Core.Bool.{Bool, true, false, cond}
+use mathlib.Core.List.{List, [], _∷_, _++_}
+use native.Mathlib.Omega.{arith}
+use lib.Dec.{leb, eqb}
+use borrow.Author.Tests.{eq-eqb, ne-eqb, le-leb, lt-leb}
+use Rattle.little.specs.declared.Size.{Size}
+use Rattle.little.specs.declared.Size.the-variants.{Byte, Word, Long}
+use Rattle.code.specs.declared.Base.the-variants.{Indirect}
+use Rattle.code.specs.declared.Operand.{Operand}
+use Rattle.code.specs.declared.Decoded.{Decoded}
+use Rattle.code.specs.Said.{Said, whole, unlisted, judge}
+use Rattle.code.specs.Rows.{Row, has, lookup, byRows}
+use Rattle.code.specs.Memory.{form, memoryRows, copies, compares, copy, compare, blocks, blockRows, indirectRows}
+use Rattle.code.proofs.Groups.{in-group}
+
+never : {a b : ℕ} {A : Type 0} → a ≤ b → b < a → A
+never h k = let z : ⊥ = omega arith in absurd z
+
+module _ (z : Size) (o : Operand) where
+  copies-at :
+      (to from : ℕ) (more : List Row) (b : ℕ) → b / 8 ≡ 2 → b < 0x14 →
+      lookup (memoryRows z o ++ (copies z to from ++ more)) b ≡ copy z (eqb (b / 2 % 2) 0) (eqb (b % 2) 1) to from
+  unfolding memoryRows copies lookup
+  copies-at to from more = in-group _ 2 (λ h. refl, λ h. refl, λ h. refl, λ h. refl, never (omega arith), never (omega arith), never (omega arith), never (omega arith))
+
+  none-at : (u : Bool) (r b : ℕ) → b / 8 ≡ 2 → b < 0x14 → lookup (memoryRows z o ++ cond u (compares z r) []) b ≡ unlisted
+  unfolding memoryRows compares lookup
+  none-at true r = in-group _ 2 (λ h. refl, λ h. refl, λ h. refl, λ h. refl, never (omega arith), never (omega arith), never (omega arith), never (omega arith))
+  none-at false r = in-group _ 2 (λ h. refl, λ h. refl, λ h. refl, λ h. refl, λ h. refl, λ h. refl, λ h. refl, λ h. refl)
+
+  compares-at :
+      (t u : Bool) (r b : ℕ) → b / 8 ≡ 2 → 0x14 ≤ b →
+      lookup (memoryRows z o ++ (cond t (copies z 2 3) (cond u (copies z 4 5) []) ++ compares z r)) b ≡ compare z (eqb (b / 2 % 2) 0) (eqb (b % 2) 1) r
+  unfolding memoryRows copies compares lookup
+  compares-at true u r = in-group _ 2 (λ h. never h (omega arith), λ h. never h (omega arith), λ h. never h (omega arith), λ h. never h (omega arith), λ h. refl, λ h. refl, λ h. refl, λ h. refl)
+  compares-at false true r = in-group _ 2 (λ h. never h (omega arith), λ h. never h (omega arith), λ h. never h (omega arith), λ h. never h (omega arith), λ h. refl, λ h. refl, λ h. refl, λ h. refl)
+  compares-at false false r = in-group _ 2 (λ h. never h (omega arith), λ h. never h (omega arith), λ h. never h (omega arith), λ h. never h (omega arith), λ h. refl, λ h. refl, λ h. refl, λ h. refl)
+
+  no-compares-at :
+      (t u : Bool) (b : ℕ) → b / 8 ≡ 2 → 0x14 ≤ b →
+      lookup (memoryRows z o ++ (cond t (copies z 2 3) (cond u (copies z 4 5) []) ++ [])) b ≡ unlisted
+  unfolding memoryRows copies lookup
+  no-compares-at true u = in-group _ 2 (λ h. never h (omega arith), λ h. never h (omega arith), λ h. never h (omega arith), λ h. never h (omega arith), λ h. refl, λ h. refl, λ h. refl, λ h. refl)
+  no-compares-at false true = in-group _ 2 (λ h. never h (omega arith), λ h. never h (omega arith), λ h. never h (omega arith), λ h. never h (omega arith), λ h. refl, λ h. refl, λ h. refl, λ h. refl)
+  no-compares-at false false = in-group _ 2 (λ h. refl, λ h. refl, λ h. refl, λ h. refl, λ h. refl, λ h. refl, λ h. refl, λ h. refl)
+
+module _ (z : Size) (o : Operand) (r b : ℕ) (g : b / 8 ≡ 2) where
+  pub copies-hl : b < 0x14 → r ≡ 3 → lookup (memoryRows z o ++ blocks z r) b ≡ copy z (eqb (b / 2 % 2) 0) (eqb (b % 2) 1) 2 3
+  unfolding blocks
+  copies-hl h e = rw e (copies-at z o 2 3 (compares z 3) b g h)
+
+  pub copies-iy : b < 0x14 → r ≡ 5 → lookup (memoryRows z o ++ blocks z r) b ≡ copy z (eqb (b / 2 % 2) 0) (eqb (b % 2) 1) 4 5
+  unfolding blocks
+  copies-iy h e = rw e (copies-at z o 4 5 (compares z 5) b g h)
+
+  pub no-copies : b < 0x14 → (r ≡ 3 → ⊥) → (r ≡ 5 → ⊥) → lookup (memoryRows z o ++ blocks z r) b ≡ unlisted
+  unfolding blocks
+  no-copies h m n = rw (ne-eqb r 3 m, ne-eqb r 5 n) (none-at z o (leb 2 r) r b g h)
+
+  pub compares-r : 0x14 ≤ b → 2 ≤ r → lookup (memoryRows z o ++ blocks z r) b ≡ compare z (eqb (b / 2 % 2) 0) (eqb (b % 2) 1) r
+  unfolding blocks
+  compares-r h k = rw (le-leb 2 r k) (compares-at z o (eqb r 3) (eqb r 5) r b g h)
+
+  pub no-compares : 0x14 ≤ b → r < 2 → lookup (memoryRows z o ++ blocks z r) b ≡ unlisted
+  unfolding blocks
+  no-compares h k = rw (lt-leb 2 r k) (no-compares-at z o (eqb r 3) (eqb r 5) b g h)
+
+-- ---- a form (R) has the common rows and its own
+abbrev at-pointer : ℕ → Operand
+at-pointer r = form (Indirect r) 0
+
+module _ (r b : ℕ) (d : Decoded) (s : List ℕ) (z : Size) (h : d ≡ judge (lookup (memoryRows z (at-pointer r) ++ blocks z r) b) s 2) where
+  pub block-byte : z ≡ Byte → d ≡ judge (lookup (indirectRows z r) b) s 2
+  unfolding indirectRows
+  block-byte e = rw e (rw e at h)
+
+  pub block-word : z ≡ Word → d ≡ judge (lookup (indirectRows z r) b) s 2
+  unfolding indirectRows
+  block-word e = rw e (rw e at h)
+
+long-at : (r b : ℕ) → b / 8 ≡ 2 → lookup (indirectRows Long r) b ≡ unlisted
+unfolding indirectRows memoryRows lookup
+long-at r = in-group _ 2 (refl, refl, refl, refl, refl, refl, refl, refl)
+
+pub block-long : (r b : ℕ) (z : Size) → b / 8 ≡ 2 → z ≡ Long → lookup (indirectRows z r) b ≡ unlisted
+block-long r b z g e = rw e (long-at r b g)
+
+-- rows that do not list the byte may be left out
+left-out : (xs ys : List Row) (b : ℕ) → lookup ys b ≡ unlisted → lookup (xs ++ ys) b ≡ lookup xs b
+unfolding lookup
+left-out [] ys b e = e
+left-out (x ∷ xs) ys b e = ap (λ (r : Said). cond (has (x .bytes) b) (x .says b) r) (left-out xs ys b e)
+
+module _ (b : ℕ) (g : b / 8 ≡ 2 → ⊥) where
+  other : (k : ℕ) → k / 8 ≡ 2 → eqb b k ≡ false
+  other k h = ne-eqb b k (λ e. g (ap (λ (x : ℕ). x / 8) e ∙ h))
+
+  no-copies-at : (z : Size) (to from : ℕ) → lookup (copies z to from) b ≡ unlisted
+  unfolding copies lookup
+  no-copies-at z to from = rw (other 0x10 refl, other 0x11 refl, other 0x12 refl, other 0x13 refl)
+
+  no-compares-at′ : (z : Size) (r : ℕ) → lookup (compares z r) b ≡ unlisted
+  unfolding compares lookup
+  no-compares-at′ z r = rw (other 0x14 refl, other 0x15 refl, other 0x16 refl, other 0x17 refl)
+
+  nothing : lookup [] b ≡ unlisted
+  unfolding lookup
+  nothing = refl
+
+  no-blocks : (t u v : Bool) (z : Size) (r : ℕ) → lookup (cond t (copies z 2 3) (cond u (copies z 4 5) []) ++ cond v (compares z r) []) b ≡ unlisted
+  no-blocks t u v z r = left-out _ _ b (second v) ∙ first t u
+    where
+      first : (t u : Bool) → lookup (cond t (copies z 2 3) (cond u (copies z 4 5) [])) b ≡ unlisted
+      first true u = no-copies-at z 2 3
+      first false true = no-copies-at z 4 5
+      first false false = nothing
+
+      second : (v : Bool) → lookup (cond v (compares z r) []) b ≡ unlisted
+      second true = no-compares-at′ z r
+      second false = nothing
+
+  no-block-rows : (z : Size) (r : ℕ) → lookup (blockRows z r) b ≡ unlisted
+  unfolding blocks
+  no-block-rows Byte r = no-blocks (eqb r 3) (eqb r 5) (leb 2 r) Byte r
+  no-block-rows Word r = no-blocks (eqb r 3) (eqb r 5) (leb 2 r) Word r
+  no-block-rows Long r = nothing
+
+  pub common : (z : Size) (r : ℕ) → lookup (indirectRows z r) b ≡ lookup (memoryRows z (at-pointer r)) b
+  unfolding indirectRows
+  common z r = left-out (memoryRows z (at-pointer r)) (blockRows z r) b (no-block-rows z r)

@@ -1,0 +1,9 @@
+pub mod Groups
+pub mod Judge
+pub mod FirstRows
+pub mod RegisterRows
+pub mod MemoryRows
+pub mod BlockRows
+pub mod Prefix
+pub mod Every
+pub mod Ranges

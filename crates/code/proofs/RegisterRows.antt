@@ -1,0 +1,76 @@
+-- Laws of the byte after a register form's register, group by group.
+use Prim.Native.Nat.{ℕ, zero, suc, _+_, _*_, _/_, _%_, _≤_, _<_}
+use mathlib.Core.Path.{_≡_, refl}
+use native.Mathlib.Omega.{arith}
+use mathlib.Core.List.{List, [], _∷_, _++_}
+use types.Run.{OneOf}
+use Rattle.little.specs.declared.Size.{Size}
+use Rattle.little.specs.declared.Size.the-variants.{Byte, Word, Long}
+use Rattle.code.specs.declared.Op.the-variants.{Load, Into, Compute, ComputeConstant, LoadConstant, Inc, Dec, Shifted, Extz, Exts}
+use Rattle.code.specs.declared.Op.{Op}
+use Rattle.code.specs.declared.Operand.{Operand}
+use Rattle.code.specs.declared.Decoded.{Decoded}
+use Rattle.code.specs.Said.{Said, whole, unlisted, number, judge, wholeOf}
+use Rattle.code.specs.Rows.{lookup, byRows}
+use Rattle.code.specs.Registers.{registerRows, placesRows, arithOf, shiftOf, notByte}
+use Rattle.little.specs.Width.{bytesOf}
+use Rattle.code.proofs.Groups.{in-group, in-groups, in-others, Missed}
+
+module _ (z : Size) (o : Operand) where
+  pub inc : (b : ℕ) → b / 8 ≡ 12 → lookup (registerRows z o) b ≡ whole (Inc (b % 8)) z o
+  unfolding registerRows lookup
+  inc = in-group _ 12 (refl, refl, refl, refl, refl, refl, refl, refl)
+
+  pub dec : (b : ℕ) → b / 8 ≡ 13 → lookup (registerRows z o) b ≡ whole (Dec (b % 8)) z o
+  unfolding registerRows lookup
+  dec = in-group _ 13 (refl, refl, refl, refl, refl, refl, refl, refl)
+
+  pub load : (b : ℕ) → b / 8 ≡ 17 → lookup (registerRows z o) b ≡ whole (Load (b % 8)) z o
+  unfolding registerRows lookup
+  load = in-group _ 17 (refl, refl, refl, refl, refl, refl, refl, refl)
+
+  pub into : (b : ℕ) → b / 8 ≡ 19 → lookup (registerRows z o) b ≡ whole (Into (b % 8)) z o
+  unfolding registerRows lookup
+  into = in-group _ 19 (refl, refl, refl, refl, refl, refl, refl, refl)
+
+  pub compute-constant : (b : ℕ) → b / 8 ≡ 25 → lookup (registerRows z o) b ≡ number (bytesOf z) (λ n. whole (ComputeConstant (arithOf (b % 8)) n) z o)
+  unfolding registerRows lookup
+  compute-constant = in-group _ 25 (refl, refl, refl, refl, refl, refl, refl, refl)
+
+  pub compute : (b : ℕ) → OneOf (16 ∷ 18 ∷ 20 ∷ 22 ∷ 24 ∷ 26 ∷ 28 ∷ 30 ∷ []) (b / 8) → lookup (registerRows z o) b ≡ whole (Compute (arithOf (b / 16 % 8)) (b % 8)) z o
+  unfolding registerRows lookup
+  compute = in-groups _ (16 ∷ 18 ∷ 20 ∷ 22 ∷ 24 ∷ 26 ∷ 28 ∷ 30 ∷ []) ((refl, refl, refl, refl, refl, refl, refl, refl), ((refl, refl, refl, refl, refl, refl, refl, refl), ((refl, refl, refl, refl, refl, refl, refl, refl), ((refl, refl, refl, refl, refl, refl, refl, refl), ((refl, refl, refl, refl, refl, refl, refl, refl), ((refl, refl, refl, refl, refl, refl, refl, refl), ((refl, refl, refl, refl, refl, refl, refl, refl), ((refl, refl, refl, refl, refl, refl, refl, refl), tt))))))))
+
+  pub no-load : (b : ℕ) → b / 8 ≡ 0 → (b ≡ 3 → ⊥) → lookup (registerRows z o) b ≡ unlisted
+  unfolding registerRows lookup
+  no-load = in-group _ 0 (λ h. refl, λ h. refl, λ h. refl, λ h. absurd (h refl), λ h. refl, λ h. refl, λ h. refl, λ h. refl)
+
+  pub no-extension : (b : ℕ) → b / 8 ≡ 2 → ((Unit {0} × (b ≡ 0x12 → ⊥)) × (b ≡ 0x13 → ⊥)) → lookup (registerRows z o) b ≡ unlisted
+  unfolding registerRows lookup
+  no-extension = in-group _ 2 (λ h. refl, λ h. refl, λ h. absurd (h .0 .1 refl), λ h. absurd (h .1 refl), λ h. refl, λ h. refl, λ h. refl, λ h. refl)
+
+  pub shift : (b : ℕ) → b / 8 ≡ 29 → 0xEC ≤ b → lookup (registerRows z o) b ≡ byRows (placesRows z o (shiftOf (b % 4)))
+  unfolding registerRows lookup
+  shift = in-group _ 29 (λ h. let x : ⊥ = omega arith in absurd x, λ h. let x : ⊥ = omega arith in absurd x, λ h. let x : ⊥ = omega arith in absurd x, λ h. let x : ⊥ = omega arith in absurd x, λ h. refl, λ h. refl, λ h. refl, λ h. refl)
+
+  pub no-shift : (b : ℕ) → b / 8 ≡ 29 → b < 0xEC → lookup (registerRows z o) b ≡ unlisted
+  unfolding registerRows lookup
+  no-shift = in-group _ 29 (λ h. refl, λ h. refl, λ h. refl, λ h. refl, λ h. let x : ⊥ = omega arith in absurd x, λ h. let x : ⊥ = omega arith in absurd x, λ h. let x : ⊥ = omega arith in absurd x, λ h. let x : ⊥ = omega arith in absurd x)
+
+  -- the arms, last first
+  abbrev pub register-arms : List (List ℕ)
+  register-arms = (29 ∷ []) ∷ (25 ∷ []) ∷ (16 ∷ 18 ∷ 20 ∷ 22 ∷ 24 ∷ 26 ∷ 28 ∷ 30 ∷ []) ∷ (19 ∷ []) ∷ (17 ∷ []) ∷ (13 ∷ []) ∷ (12 ∷ []) ∷ (2 ∷ []) ∷ (0 ∷ []) ∷ []
+
+  pub no-register : (b : ℕ) → b < 256 → Missed register-arms (b / 8) → lookup (registerRows z o) b ≡ unlisted
+  unfolding registerRows lookup
+  no-register = in-others _ register-arms ((((((((((((((((tt, (refl, refl, refl, refl, refl, refl, refl, refl)), (refl, refl, refl, refl, refl, refl, refl, refl)), (refl, refl, refl, refl, refl, refl, refl, refl)), (refl, refl, refl, refl, refl, refl, refl, refl)), (refl, refl, refl, refl, refl, refl, refl, refl)), (refl, refl, refl, refl, refl, refl, refl, refl)), (refl, refl, refl, refl, refl, refl, refl, refl)), (refl, refl, refl, refl, refl, refl, refl, refl)), (refl, refl, refl, refl, refl, refl, refl, refl)), (refl, refl, refl, refl, refl, refl, refl, refl)), (refl, refl, refl, refl, refl, refl, refl, refl)), (refl, refl, refl, refl, refl, refl, refl, refl)), (refl, refl, refl, refl, refl, refl, refl, refl)), (refl, refl, refl, refl, refl, refl, refl, refl)), (refl, refl, refl, refl, refl, refl, refl, refl)), (refl, refl, refl, refl, refl, refl, refl, refl))
+
+-- an extension of a word or a long
+module _ (op : Op) (z : Size) (o : Operand) (s : List ℕ) (i : ℕ) (d : Decoded) (h : d ≡ wholeOf op z o i) where
+  pub extends-word : z ≡ Word → d ≡ judge (notByte z (whole op z o)) s i
+  unfolding judge
+  extends-word e = rw e (rw e at h)
+
+  pub extends-long : z ≡ Long → d ≡ judge (notByte z (whole op z o)) s i
+  unfolding judge
+  extends-long e = rw e (rw e at h)

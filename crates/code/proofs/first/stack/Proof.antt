@@ -1,0 +1,19 @@
+use borrow.Author.Needs.{needs}
+use borrow.Author.Tests.{lt-ltb, le-ltb}
+use Rattle.code.specs.Said.{judge}
+use Rattle.code.proofs.first.stack.Statement.{statement}
+use Rattle.code.proofs.first.stack.Tie as tie
+
+whole-requires : tie.Need-whole-requires
+whole-requires c κs = search needs
+
+returns : tie.Need-returns
+unfolding judge
+returns c = λ s. simp (lt-ltb _ _ (c .before .if1 .taken)) (c .whole .ensures)
+
+returns-2 : tie.Need-returns-2
+unfolding judge
+returns-2 c = λ s. simp (le-ltb _ _ (c .if1 .left))
+
+pub stack-spec : {M : Type 1} → statement M
+stack-spec = tie.close (tie.spec whole-requires returns returns-2)

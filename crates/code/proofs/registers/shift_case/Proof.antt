@@ -1,0 +1,23 @@
+use borrow.Author.Needs.{needs}
+use mathlib.Core.Path.{_∙_}
+use Rattle.code.proofs.RegisterRows.{shift, no-shift}
+use native.Mathlib.Omega.{arith}
+use Rattle.code.specs.Said.{judge}
+use Rattle.code.proofs.registers.shift_case.Statement.{statement}
+use Rattle.code.proofs.registers.shift_case.Tie as tie
+
+shift-of-requires : tie.Need-shift-of-requires
+shift-of-requires c κs = search needs
+
+shifted-requires : tie.Need-shifted-requires
+shifted-requires c κs = search needs
+
+returns : tie.Need-returns
+returns c = rw (shift _ _ (c .before .before .before .before .args .c) (omega arith) (omega arith)) (c .shifted .ensures ∙ rw (c .before .shift-of .ensures))
+
+returns-2 : tie.Need-returns-2
+unfolding judge
+returns-2 c = rw (no-shift _ _ (c .before .before .args .c) (omega arith) (omega arith))
+
+pub shift-case-spec : {M : Type 1} → statement M
+shift-case-spec = tie.close (tie.spec shift-of-requires shifted-requires returns returns-2)

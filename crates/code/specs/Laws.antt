@@ -1,0 +1,59 @@
+-- What holds of every code: statements, each proved in proofs/.
+use Prim.Native.Nat.{ℕ, _<_, _≤_}
+use mathlib.Core.Path.{_≡_}
+use mathlib.Core.List.{List, [], _∷_, _++_}
+use lib.ListN.{length, getD, take}
+use Rattle.code.specs.declared.Form.{Form}
+use Rattle.code.specs.declared.Op.the-variants.{Block}
+use Rattle.code.specs.declared.Instruction.{Instruction}
+use Rattle.code.specs.declared.Decoded.the-variants.{Whole, Short, Unlisted}
+use Rattle.code.specs.Listed.{decodeOf}
+use Rattle.code.specs.Range.{InRange, lengthOf}
+
+-- all are bytes
+abbrev pub Bytes : List ℕ → Type 0
+Bytes s = (k : ℕ) → getD s k 0 < 256
+
+-- an instruction has 1 to 6 bytes, and they are all there
+abbrev pub LengthFits : Type 0
+LengthFits =
+    (s : List ℕ) (i : Instruction) → decodeOf s ≡ Whole i →
+    (1 ≤ i .length) × ((i .length ≤ 6) × (i .length ≤ length s))
+
+-- what comes after it does not matter
+abbrev pub WholeStays : Type 0
+WholeStays = (s t : List ℕ) (i : Instruction) → decodeOf s ≡ Whole i → decodeOf (s ++ t) ≡ Whole i
+
+-- its own bytes are enough
+abbrev pub OwnBytes : Type 0
+OwnBytes = (s : List ℕ) (i : Instruction) → decodeOf s ≡ Whole i → decodeOf (take (i .length) s) ≡ Whole i
+
+-- two codes that agree on those bytes are the same instruction
+abbrev pub SameStart : Type 0
+SameStart =
+    (s t : List ℕ) (i : Instruction) → decodeOf s ≡ Whole i →
+    i .length ≤ length t → take (i .length) s ≡ take (i .length) t → decodeOf t ≡ Whole i
+
+-- bytes that begin no listed instruction never will
+abbrev pub UnlistedStays : Type 0
+UnlistedStays = (s t : List ℕ) → decodeOf s ≡ Unlisted → decodeOf (s ++ t) ≡ Unlisted
+
+-- bytes that are refused as short do begin a listed instruction
+abbrev pub ShortBegins : Type 0
+ShortBegins = (s : List ℕ) → decodeOf s ≡ Short → (t : List ℕ) × (i : Instruction) × (Bytes t) × (decodeOf (s ++ t) ≡ Whole i)
+
+-- each code and number is within its range
+abbrev pub Ranges : Type 0
+Ranges = (s : List ℕ) (i : Instruction) → Bytes s → decodeOf s ≡ Whole i → InRange (i .op) (i .size) (i .operand)
+
+-- the length is that of the operation and its operand
+abbrev pub LengthIs : Type 0
+LengthIs = (s : List ℕ) (i : Instruction) → decodeOf s ≡ Whole i → i .length ≡ lengthOf (i .op) (i .size) (i .operand)
+
+-- a copy or a compare has two bytes
+abbrev pub BlockLength : Type 0
+BlockLength = (s : List ℕ) (i : Instruction) (f : Form) → decodeOf s ≡ Whole i → i .op ≡ Block f → i .length ≡ 2
+
+-- an instruction of two bytes is known by them
+abbrev pub TwoBytes : Type 0
+TwoBytes = (b c : ℕ) (s : List ℕ) (i : Instruction) → decodeOf (b ∷ c ∷ []) ≡ Whole i → decodeOf (b ∷ c ∷ s) ≡ Whole i

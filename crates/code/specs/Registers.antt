@@ -1,0 +1,59 @@
+-- The byte after a register form's register.
+use Prim.Native.Nat.{ℕ, zero, suc, _/_, _%_}
+use mathlib.Core.List.{List, [], _∷_}
+use Rattle.little.specs.Width.{bytesOf}
+use Rattle.little.specs.declared.Size.{Size}
+use Rattle.little.specs.declared.Size.the-variants.{Byte, Word, Long}
+use Rattle.alu.specs.declared.Arith.{Arith}
+use Rattle.alu.specs.declared.Arith.the-variants.{Add, Adc, Sub, Sbc, And, Xor, Or, Cp}
+use Rattle.alu.specs.declared.Shift.{Shift}
+use Rattle.alu.specs.declared.Shift.the-variants.{Sla, Sra, Sll, Srl}
+use Rattle.code.specs.declared.Op.{Op}
+use Rattle.code.specs.declared.Op.the-variants.{LoadConstant, Load, Into, Compute, ComputeConstant, Inc, Dec, Shifted, Extz, Exts}
+use Rattle.code.specs.declared.Operand.{Operand}
+use Rattle.code.specs.Said.{Said, whole, unlisted, number}
+use Rattle.code.specs.Rows.{Bytes, one, run, columns, Row, _⇒_, byRows}
+
+-- ADD ADC SUB SBC AND XOR OR CP by number, 0 to 7
+abbrev pub arithOf : ℕ → Arith
+arithOf zero = Add
+arithOf (suc zero) = Adc
+arithOf (suc (suc zero)) = Sub
+arithOf (suc (suc (suc zero))) = Sbc
+arithOf (suc (suc (suc (suc zero)))) = And
+arithOf (suc (suc (suc (suc (suc zero))))) = Xor
+arithOf (suc (suc (suc (suc (suc (suc zero)))))) = Or
+arithOf (suc (suc (suc (suc (suc (suc (suc n))))))) = Cp
+
+-- SLA SRA SLL SRL by number, 0 to 3
+abbrev pub shiftOf : ℕ → Shift
+shiftOf zero = Sla
+shiftOf (suc zero) = Sra
+shiftOf (suc (suc zero)) = Sll
+shiftOf (suc (suc (suc n))) = Srl
+
+-- a byte 00 to 0F
+unfoldable pub placesRows : Size → Operand → Shift → List Row
+placesRows z o shift = (run 0x00 0x0F ⇒ λ n. whole (Shifted shift n) z o) ∷ []
+
+-- words and longs only
+abbrev pub notByte : Size → Said → Said
+notByte Byte d = unlisted
+notByte Word d = d
+notByte Long d = d
+
+-- 03 constant (load); 88+R load R from r; 98+R load r from R; 80, 90 .. F0 +R: ADD .. CP of R with r; C8 to CF and a constant:
+-- ADD .. CP of r; 60+n INC, 68+n DEC; EC SLA, ED SRA, EE SLL, EF SRL and a byte 00 to 0F; 12 EXTZ, 13 EXTS (word and long only)
+unfoldable pub registerRows : Size → Operand → List Row
+registerRows z o =
+    (one 0x03 ⇒ λ b. number (bytesOf z) (λ n. whole (LoadConstant n) z o))
+    ∷ (run 0x88 0x8F ⇒ λ b. whole (Load (b % 8)) z o)
+    ∷ (run 0x98 0x9F ⇒ λ b. whole (Into (b % 8)) z o)
+    ∷ (columns 0x80 ⇒ λ b. whole (Compute (arithOf (b / 16 % 8)) (b % 8)) z o)
+    ∷ (run 0xC8 0xCF ⇒ λ b. number (bytesOf z) (λ n. whole (ComputeConstant (arithOf (b % 8)) n) z o))
+    ∷ (run 0x60 0x67 ⇒ λ b. whole (Inc (b % 8)) z o)
+    ∷ (run 0x68 0x6F ⇒ λ b. whole (Dec (b % 8)) z o)
+    ∷ (run 0xEC 0xEF ⇒ λ b. byRows (placesRows z o (shiftOf (b % 4))))
+    ∷ (one 0x12 ⇒ λ b. notByte z (whole Extz z o))
+    ∷ (one 0x13 ⇒ λ b. notByte z (whole Exts z o))
+    ∷ []

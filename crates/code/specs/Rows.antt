@@ -1,0 +1,34 @@
+-- A list of codes as data: a row has the bytes that it is for, and what each of them says.
+use Prim.Native.Nat.{ℕ, _/_, _%_}
+use mathlib.Core.List.{List, [], _∷_}
+use mathlib.Core.Bool.{Bool, true, false, cond, _&&_}
+use lib.Dec.{leb, eqb}
+use Rattle.code.specs.Said.{Said, unlisted, next}
+
+-- the bytes of a row
+pub data Bytes : Type 0 where
+  one : ℕ → Bytes  -- this byte
+  run : ℕ → ℕ → Bytes  -- from the first to the second
+  columns : ℕ → Bytes  -- 8 bytes from here, and again every 16 bytes up to FFH
+
+abbrev pub has : Bytes → ℕ → Bool
+has (one a) b = eqb b a
+has (run lo hi) b = leb lo b && leb b hi
+has (columns lo) b = leb lo b && leb b 0xFF && eqb (b / 8 % 2) (lo / 8 % 2)
+
+pub record Row : Type 0 where
+  pub bytes : Bytes
+  pub says : ℕ → Said
+
+infix 20 _⇒_
+abbrev pub _⇒_ : Bytes → (ℕ → Said) → Row
+b ⇒ f = record { bytes = b; says = f }
+
+-- what the first row that has the byte says, and that it is not listed where none has
+unfoldable pub lookup : List Row → ℕ → Said
+lookup [] b = unlisted
+lookup (r ∷ rs) b = cond (has (r .bytes) b) (r .says b) (lookup rs b)
+
+-- the byte that follows stands in these rows
+abbrev pub byRows : List Row → Said
+byRows rows = next (lookup rows)

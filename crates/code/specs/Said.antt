@@ -1,0 +1,45 @@
+-- Code bytes, judged one at a time.
+use Prim.Native.Nat.{ℕ, _+_}
+use mathlib.Core.List.{List}
+use mathlib.Core.Bool.{Bool, true, false, cond}
+use lib.ListN.{length, getD, take, drop}
+use lib.Dec.{ltb, leb}
+use Rattle.little.specs.Bytes.{valueOf}
+use Rattle.little.specs.declared.Size.{Size}
+use Rattle.code.specs.declared.Op.{Op}
+use Rattle.code.specs.declared.Operand.{Operand}
+use Rattle.code.specs.declared.Instruction.{Instruction}
+use Rattle.code.specs.declared.Decoded.{Decoded}
+use Rattle.code.specs.declared.Decoded.the-variants.{Whole, Short, Unlisted}
+use Rattle.code.specs.declared.Found.{Found}
+use Rattle.code.specs.declared.Found.the-variants.{Value, Missing}
+
+-- what the bytes so far say
+pub data Said : Type 0 where
+  whole : Op → Size → Operand → Said  -- they are this instruction
+  unlisted : Said  -- they begin no listed one
+  next : (ℕ → Said) → Said  -- by the byte that follows, what is said then
+  number : ℕ → (ℕ → Said) → Said  -- by the number in so many bytes that follow, what is said then
+
+-- the number in n bytes of the code from i on, low byte first, where they are all there
+unfoldable pub numberAt : List ℕ → ℕ → ℕ → Found
+numberAt s i n = cond (leb (i + n) (length s)) (Value (valueOf (take n (drop i s)))) Missing
+
+abbrev pub withFound : Found → (ℕ → Decoded) → Decoded
+withFound (Value v) k = k v
+withFound Missing k = Short
+
+-- the number found, and 0 where it is missing
+abbrev pub valueIn : Found → ℕ
+valueIn (Value v) = v
+valueIn Missing = 0
+
+abbrev pub wholeOf : Op → Size → Operand → ℕ → Decoded
+wholeOf op size operand length = Whole (record { op = op; size = size; operand = operand; length = length })
+
+-- what is made of the code s, of which i bytes have said this
+unfoldable pub judge : Said → List ℕ → ℕ → Decoded
+judge (whole op size operand) s i = wholeOf op size operand i
+judge unlisted s i = Unlisted
+judge (next f) s i = cond (ltb i (length s)) (judge (f (getD s i 0)) s (i + 1)) Short
+judge (number n f) s i = withFound (numberAt s i n) (λ v. judge (f v) s (i + n))

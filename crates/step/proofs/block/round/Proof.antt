@@ -1,0 +1,79 @@
+use Rattle.step.specs.Try.{leaves}
+use mathlib.Core.Path.{ap, sym, _∙_}
+use Rattle.step.proofs.Rounds.{round-copies, round-compares, round-refused}
+use borrow.Author.Needs.{needs}
+use Rattle.step.proofs.block.round.Statement.{statement}
+use Rattle.step.proofs.block.round.Tie as tie
+
+pointer-requires : tie.Need-pointer-requires
+pointer-requires c κs = search needs
+
+load-requires : tie.Need-load-requires
+load-requires c κs = search needs
+
+enum-known-v : tie.Need-enum-known-v
+enum-known-v c = search needs
+
+copy-requires : tie.Need-copy-requires
+copy-requires c κs = search needs
+
+same-length : tie.Need-same-length
+same-length c = search needs
+
+returns : tie.Need-returns
+returns c =
+    let a = c .before .before .before .before .before .before .before .before .before .before .before .before .before .args in
+    let e = sym (rw (c .before .before .before .before .before .before .before .before .before .pointer .ensures) at (c .before .before .before .before .before .before .before .before .load .ensures)) ∙ c .before .before .before .before .before .before .v .given .1 in
+    c .before .before .copy .ensures
+    ∙ ap (leaves (a .s) (a .ram .now)) (sym (round-copies (a .f) (a .s) (a .ram .now) (a .rom .now) (c .before .before .before .before .before .before .v .given .0 .0) e (c .before .before .before .before .if1 .taken)))
+
+compared-requires : tie.Need-compared-requires
+compared-requires c κs = search needs
+
+done-requires : tie.Need-done-requires
+done-requires c κs = search needs
+
+enum-known-w : tie.Need-enum-known-w
+enum-known-w c = search needs
+
+refuse-requires : tie.Need-refuse-requires
+refuse-requires c κs = search needs
+
+same-length-2 : tie.Need-same-length-2
+same-length-2 c = search needs
+
+returns-2 : tie.Need-returns-2
+returns-2 c =
+    let a = c .before .before .before .before .before .before .before .before .before .before .before .args in
+    let e = sym (rw (c .before .before .before .before .before .before .before .pointer .ensures) at (c .before .before .before .before .before .before .load .ensures)) ∙ c .before .before .before .before .v .given .1 in
+    rw (c .done .ensures, c .before .compared .ensures)
+    (ap (leaves (a .s) (a .ram .now)) (sym (round-compares (a .f) (a .s) (a .ram .now) (a .rom .now) (c .before .before .before .before .v .given .0 .0) e (c .before .before .if1 .left))))
+
+same-length-3 : tie.Need-same-length-3
+same-length-3 c = search needs
+
+returns-3 : tie.Need-returns-3
+returns-3 c =
+    let a = c .before .before .before .before .before .before .before .before .before .args in
+    let e = sym (rw (c .before .before .before .before .before .pointer .ensures) at (c .before .before .before .before .load .ensures)) ∙ c .before .before .w .given .1 in
+    rw (c .refuse .ensures)
+    (ap (leaves (a .s) (a .ram .now)) (sym (round-refused (a .f) (a .s) (a .ram .now) (a .rom .now) (c .before .before .w .given .0 .0) e)))
+
+pub round-spec : {M : Type 1} → statement M
+round-spec =
+    tie.close
+    (tie.spec
+    pointer-requires
+    load-requires
+    enum-known-v
+    copy-requires
+    same-length
+    returns
+    compared-requires
+    done-requires
+    enum-known-w
+    refuse-requires
+    same-length-2
+    returns-2
+    same-length-3
+    returns-3)

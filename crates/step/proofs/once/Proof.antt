@@ -1,0 +1,65 @@
+use mathlib.Core.Path.{refl, sym, _∙_}
+use Rattle.step.specs.Step.{onceOf}
+use borrow.Author.Needs.{needs}
+use Rattle.step.proofs.once.Statement.{statement}
+use Rattle.step.proofs.once.Tie as tie
+
+decode-at-requires : tie.Need-decode-at-requires
+decode-at-requires c κs = search needs
+
+enum-known-i : tie.Need-enum-known-i
+enum-known-i c = search needs
+
+execute-requires : tie.Need-execute-requires
+execute-requires c κs = search needs
+
+enum-told : tie.Need-enum-told
+enum-told c = search needs
+
+refuse-requires : tie.Need-refuse-requires
+refuse-requires c κs = search needs
+
+enum-told-2 : tie.Need-enum-told-2
+enum-told-2 c = search needs
+
+refuse-requires-2 : tie.Need-refuse-requires-2
+refuse-requires-2 c κs = search needs
+
+same-length : tie.Need-same-length
+same-length c = search needs
+
+returns : tie.Need-returns
+unfolding onceOf
+returns c = rw (sym (c .before .before .before .before .before .before .before .decode-at .ensures) ∙ c .before .before .before .before .before .i .given .1) (c .before .before .execute .ensures)
+
+same-length-2 : tie.Need-same-length-2
+same-length-2 c = search needs
+
+returns-2 : tie.Need-returns-2
+unfolding onceOf
+returns-2 c = rw (sym (c .before .before .before .decode-at .ensures) ∙ c .before .enum-told .given .1, c .refuse .ensures) refl
+
+same-length-3 : tie.Need-same-length-3
+same-length-3 c = search needs
+
+returns-3 : tie.Need-returns-3
+unfolding onceOf
+returns-3 c = rw (sym (c .before .before .before .decode-at .ensures) ∙ c .before .enum-told2 .given .1, c .refuse2 .ensures) refl
+
+pub once-spec : {M : Type 1} → statement M
+once-spec =
+    tie.close
+    (tie.spec
+    decode-at-requires
+    enum-known-i
+    execute-requires
+    enum-told
+    refuse-requires
+    enum-told-2
+    refuse-requires-2
+    same-length
+    returns
+    same-length-2
+    returns-2
+    same-length-3
+    returns-3)

@@ -1,0 +1,35 @@
+use mathlib.Core.Path.{refl, _∙_}
+use native.Mathlib.Omega.{arith}
+use Rattle.memory.proofs.Laws.{bytes-le}
+use borrow.Author.Needs.{needs}
+use Rattle.step.proofs.stack.popped.Statement.{statement}
+use Rattle.step.proofs.stack.popped.Tie as tie
+
+bytes-requires : tie.Need-bytes-requires
+bytes-requires c κs = search needs
+
+cast-n : tie.Need-cast-n
+cast-n c = omega (arith, bytes-le (c .before .args .size))
+
+register-requires : tie.Need-register-requires
+register-requires c κs = search needs
+
+wrapping-add-u32-requires : tie.Need-wrapping-add-u32-requires
+wrapping-add-u32-requires c κs = search needs
+
+with-register-requires : tie.Need-with-register-requires
+with-register-requires c κs = search needs
+
+returns : tie.Need-returns
+returns c = c .with-register .ensures ∙ rw (c .before .wrapping-add-u32 .ensures, c .before .before .register .ensures, c .before .before .before .bytes .ensures) refl
+
+pub popped-spec : {M : Type 1} → statement M
+popped-spec =
+    tie.close
+    (tie.spec
+    bytes-requires
+    cast-n
+    register-requires
+    wrapping-add-u32-requires
+    with-register-requires
+    returns)

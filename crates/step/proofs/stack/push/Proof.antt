@@ -1,0 +1,101 @@
+use Prim.Native.Nat.{_%_, _^_}
+use mathlib.Core.Path.{_≡_, sym, _∙_}
+use native.Mathlib.Omega.{arith}
+use Rattle.little.specs.Width.{bytesOf}
+use Rattle.little.specs.declared.Size.the-variants.{Long}
+use Rattle.memory.proofs.Laws.{bytes-le}
+use Rattle.state.specs.Register.{getRegister}
+use Rattle.state.proofs.Laws.{register-lt}
+use Rattle.step.specs.Stack.{less, withStack, pushOf}
+use Rattle.step.proofs.Laws.{stored, not-stored, less-is}
+use borrow.Author.Needs.{needs}
+use Rattle.step.proofs.stack.push.Statement.{statement}
+use Rattle.step.proofs.stack.push.Tie as tie
+
+-- the end of the stack that the code finds
+end-is : (c : tie.After-wrapping-sub-u32) → c .wrapping-sub-u32 .result ≡ less 32 (getRegister (c .before .before .before .before .before .args .s) Long 7) (bytesOf (c .before .before .before .before .before .args .size))
+end-is c =
+    let s = c .before .before .before .before .before .args .s in
+    let e = c .before .register .ensures in
+    let n = c .before .before .bytes .ensures in
+    rw (← e, ← n)
+    (less-is 32 (c .before .register .result) (c .before .before .bytes .result) (c .wrapping-sub-u32 .result)
+    (rw e (register-lt s Long 7)) (omega (arith, bytes-le (c .before .before .before .before .before .args .size))) (omega arith) (c .wrapping-sub-u32 .ensures))
+
+bytes-requires : tie.Need-bytes-requires
+bytes-requires c κs = search needs
+
+cast-n : tie.Need-cast-n
+cast-n c = omega (arith, bytes-le (c .before .before .before .args .size))
+
+register-requires : tie.Need-register-requires
+register-requires c κs = search needs
+
+wrapping-sub-u32-requires : tie.Need-wrapping-sub-u32-requires
+wrapping-sub-u32-requires c κs = search needs
+
+store-requires : tie.Need-store-requires
+store-requires c κs = search needs
+
+enum-told : tie.Need-enum-told
+enum-told c = search needs
+
+with-register-requires : tie.Need-with-register-requires
+with-register-requires c κs = search needs
+
+done-requires : tie.Need-done-requires
+done-requires c κs = search needs
+
+enum-known-w : tie.Need-enum-known-w
+enum-known-w c = search needs
+
+refuse-requires : tie.Need-refuse-requires
+refuse-requires c κs = search needs
+
+same-length : tie.Need-same-length
+same-length c = search needs
+
+returns : tie.Need-returns
+unfolding pushOf
+returns c =
+    let a = c .before .before .before .before .before .before .before .before .before .before .before .before .before .args in
+    let x = less 32 (getRegister (a .s) Long 7) (bytesOf (a .size)) in
+    let e = end-is (c .before .before .before .before .before .before .before .before) in
+    rw (c .done .ensures, c .before .with-register .ensures, e)
+    (stored (a .s) (withStack (a .s) x) (a .ram .now) (a .rom .now) (x % 2 ^ 24) (a .size) (a .v) (c .before .before .before .before .before .before .store .last .0)
+    (rw e at (c .before .before .before .before .before .before .store .ensures .1))
+    (sym (rw e at (c .before .before .before .before .before .before .store .ensures .0)) ∙ c .before .before .enum-told .given .1))
+
+same-length-2 : tie.Need-same-length-2
+same-length-2 c = search needs
+
+returns-2 : tie.Need-returns-2
+unfolding pushOf
+returns-2 c =
+    let a = c .before .before .before .before .before .before .before .before .before .before .before .before .before .args in
+    let x = less 32 (getRegister (a .s) Long 7) (bytesOf (a .size)) in
+    let e = end-is (c .before .before .before .before .before .before .before .before) in
+    rw (c .refuse .ensures)
+    (not-stored (a .s) (withStack (a .s) x) (a .ram .now) (a .rom .now) (x % 2 ^ 24) (a .size) (a .v) (c .before .before .before .before .before .before .store .last .0)
+    (rw e at (c .before .before .before .before .before .before .store .ensures .1))
+    (c .before .before .w .given .0 .0)
+    (sym (rw e at (c .before .before .before .before .before .before .store .ensures .0)) ∙ c .before .before .w .given .1))
+
+pub push-spec : {M : Type 1} → statement M
+push-spec =
+    tie.close
+    (tie.spec
+    bytes-requires
+    cast-n
+    register-requires
+    wrapping-sub-u32-requires
+    store-requires
+    enum-told
+    with-register-requires
+    done-requires
+    enum-known-w
+    refuse-requires
+    same-length
+    returns
+    same-length-2
+    returns-2)

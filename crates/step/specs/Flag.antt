@@ -1,0 +1,16 @@
+-- The flags in the state: F as six flags, changed and packed again.
+use Prim.Native.Nat.{ℕ}
+use Rattle.alu.specs.Flag.{byteOf, flagsOf}
+use Rattle.alu.specs.declared.Flags.{Flags}
+use Rattle.state.specs.State.{withFlags, withBothFlags}
+use Rattle.state.specs.declared.State.{State}
+
+abbrev pub flagsIn : State → Flags
+flagsIn s = flagsOf (s .flags)
+
+unfoldable pub flagged : State → Flags → State
+flagged s f = withFlags s (byteOf f)
+
+-- EX F,F'
+abbrev pub exchanged : State → State
+exchanged s = withBothFlags s (s .spare) (s .flags)

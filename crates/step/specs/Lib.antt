@@ -1,0 +1,11 @@
+pub mod Try
+pub mod Operand
+pub mod Stack
+pub mod Flag
+pub mod Jump
+pub mod Compute
+pub mod Block
+pub mod Exec
+pub mod Step
+pub mod Show
+pub mod Reset

@@ -1,0 +1,37 @@
+-- An instruction's bytes, shown where they stand.
+use Prim.Native.Nat.{ℕ, _^_}
+use mathlib.Core.List.{List, []}
+use mathlib.Core.Bool.{cond}
+use lib.ListN.{length, take}
+use lib.Dec.{ltb}
+use Rattle.answer.specs.declared.Answer.{Answer}
+use Rattle.answer.specs.declared.Answer.the-variants.{Done, Refused}
+use Rattle.answer.specs.declared.Why.the-variants.{TooLong, Invalid, NoCode, Unlisted}
+use Rattle.memory.specs.Access.{codeAt}
+use Rattle.code.specs.Listed.{decodeOf}
+use Rattle.code.specs.declared.Decoded.{Decoded}
+use Rattle.code.specs.declared.Decoded.the-variants as decoded
+use Rattle.step.specs.Step.{tooLong}
+
+abbrev pub judgedOf : Decoded → Answer
+judgedOf decoded.Short = Refused NoCode
+judgedOf decoded.Unlisted = Refused Unlisted
+judgedOf (decoded.Whole i) = Done
+
+-- 1, then 2 for an address of 2^24 or more, then 3 or 4
+unfoldable pub showAnswerOf : List ℕ → List ℕ → ℕ → Answer
+showAnswerOf ram rom at =
+    cond (tooLong (length ram) (length rom)) (Refused TooLong)
+    (cond (ltb at (2 ^ 24)) (judgedOf (decodeOf (codeAt ram rom at))) (Refused Invalid))
+
+-- how many bytes a whole instruction has; 0 of what is none
+abbrev pub lengthIn : Decoded → ℕ
+lengthIn decoded.Short = 0
+lengthIn decoded.Unlisted = 0
+lengthIn (decoded.Whole i) = i .length
+
+-- the instruction's bytes; a refusal shows none
+unfoldable pub shownOf : List ℕ → List ℕ → ℕ → List ℕ
+shownOf ram rom at =
+    cond (tooLong (length ram) (length rom)) []
+    (cond (ltb at (2 ^ 24)) (take (lengthIn (decodeOf (codeAt ram rom at))) (codeAt ram rom at)) [])

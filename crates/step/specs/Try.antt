@@ -1,0 +1,47 @@
+-- A step that is tried, and what a call leaves.
+use Prim.Native.Nat.{ℕ}
+use mathlib.Core.List.{List}
+use Rattle.answer.specs.declared.Why.{Why}
+use Rattle.answer.specs.declared.Answer.{Answer}
+use Rattle.answer.specs.declared.Answer.the-variants.{Done, Refused}
+use Rattle.memory.specs.declared.Loaded.{Loaded}
+use Rattle.memory.specs.declared.Loaded.the-variants as loaded
+use Rattle.state.specs.declared.State.{State}
+use Rattle.step.specs.declared.Stepped.{Stepped}
+
+-- it is done, with the state and the bytes of RAM after it, or it is refused
+pub data Try : Type 0 where
+  did : State → List ℕ → Try
+  no : Why → Try
+
+-- what a call leaves: the state, the bytes of RAM, and its answer
+pub record Outcome : Type 0 where
+  pub state : State
+  pub ram : List ℕ
+  pub answer : Answer
+
+-- a function's result, with what RAM holds after it
+abbrev pub outcome : Stepped → List ℕ → Outcome
+outcome r ram = record { state = r .state; ram = ram; answer = r .answer }
+
+-- what a function answers where it is done, and where it is refused
+abbrev pub doneWith : State → Stepped
+doneWith s = record { state = s; answer = Done }
+
+abbrev pub refusedWith : State → Why → Stepped
+refusedWith s w = record { state = s; answer = Refused w }
+
+-- what a tried step leaves: a refused one the state and the RAM that were given
+abbrev pub leaves : State → List ℕ → Try → Outcome
+leaves s ram (did t m) = record { state = t; ram = m; answer = Done }
+leaves s ram (no w) = record { state = s; ram = ram; answer = Refused w }
+
+-- a tried step, and then a change of the state where it is done
+abbrev pub andThen : Try → (State → State) → Try
+andThen (did s ram) f = did (f s) ram
+andThen (no w) f = no w
+
+-- what is tried with a value that was loaded
+abbrev pub withLoaded : Loaded → (ℕ → Try) → Try
+withLoaded (loaded.Value v) f = f v
+withLoaded (loaded.Refused w) f = no w

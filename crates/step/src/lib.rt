@@ -1,0 +1,170 @@
+// One step: the instruction at the counter is done as the book says, or refused and nothing changes.
+ghost use mathlib.Core.Path.{_≡_};
+ghost use Rattle.memory.specs.Access.{codeAt};
+ghost use Rattle.code.specs.Listed.{decodeOf};
+ghost use Rattle.step.specs.Try.{doneWith, refusedWith, outcome, leaves};
+ghost use Rattle.step.specs.Exec.{backAt, executedOf};
+ghost use Rattle.step.specs.Step.{tooLong, onceOf, stepOf};
+ghost use Rattle.step.specs.Show.{judgedOf, lengthIn, showAnswerOf, shownOf};
+ghost use Rattle.step.specs.Reset.{resetOf};
+use answer::Answer;
+use answer::Why;
+use code::Decoded;
+use code::Instruction;
+use little::Size;
+use memory::Loaded;
+use state::State;
+
+mod block;
+mod compute;
+mod control;
+mod effect;
+mod operand;
+mod stack;
+
+pub struct Stepped {
+    pub state: State,
+    pub answer: Answer,
+}
+
+fn done(s: State) -> Stepped
+    ensures { λ r. ⌜ r ≡ doneWith s ⌝ }
+{
+    Stepped {
+        state: s,
+        answer: Answer::Done,
+    }
+}
+
+fn refuse(s: State, w: Why) -> Stepped
+    ensures { λ r. ⌜ r ≡ refusedWith s w ⌝ }
+{
+    Stepped {
+        state: s,
+        answer: Answer::Refused(w),
+    }
+}
+
+// The state with the counter that it had, so that a refused step needs no second copy of the state.
+fn back(s: State, at: u32) -> State
+    ensures { λ r. ⌜ r ≡ backAt s at ⌝ }
+{
+    let mut t = s;
+    t.counter = at;
+    t
+}
+
+fn execute(i: Instruction, s: State, ram: &mut [u8], rom: &[u8]) -> Stepped
+    ensures { λ r. ⌜ outcome r (now (ram .exit)) ≡ leaves s (now (ram .entry)) (executedOf i s (now (ram .entry)) (now (rom .entry))) ⌝ }
+{
+    let at = s.counter;
+    let n = (i.length % 16777216) as u32;
+    let past = s.with_counter(std::num::wrapping_add_u32(at, n));
+    let op = i.op;
+    let size = i.size;
+    let operand = i.operand;
+    let r = effect::effect(op, size, operand, at, past, ram, rom);
+    let t = r.state;
+    let a = r.answer;
+    match a {
+        Answer::Done => done(t),
+        Answer::Refused(w) => refuse(back(t, at), w),
+    }
+}
+
+fn decode_at<'a>(ram: &'a [u8], rom: &'a [u8], at: u32) -> Decoded
+    ensures { λ r. ⌜ r ≡ decodeOf (codeAt (now (ram .entry)) (now (rom .entry)) at) ⌝ }
+{
+    code::decode(memory::fetch(ram, rom, at))
+}
+
+// What stands at the counter, done or refused, whatever the state is: the checks before it are the caller's.
+pub fn once(s: State, ram: &mut [u8], rom: &[u8]) -> Stepped
+    ensures { λ r. ⌜ outcome r (now (ram .exit)) ≡ leaves s (now (ram .entry)) (onceOf s (now (ram .entry)) (now (rom .entry))) ⌝ }
+{
+    match decode_at(&*ram, rom, s.counter) {
+        Decoded::Whole(i) => execute(i, s, ram, rom),
+        Decoded::Short => refuse(s, Why::NoCode),
+        Decoded::Unlisted => refuse(s, Why::Unlisted),
+    }
+}
+
+// Whether a memory is longer than the address space has room for.
+pub fn too_long(ram_len: usize, rom_len: usize) -> bool
+    ensures { λ r. ⌜ r ≡ tooLong «ram_len» «rom_len» ⌝ }
+{
+    (65536 < ram_len) | (65536 < rom_len)
+}
+
+// One step, with all its checks.
+pub fn step(s: State, ram: &mut [u8], rom: &[u8]) -> Stepped
+    ensures { λ r. ⌜ outcome r (now (ram .exit)) ≡ stepOf s (now (ram .entry)) (now (rom .entry)) ⌝ }
+{
+    if too_long(ram.len(), rom.len()) {
+        return refuse(s, Why::TooLong);
+    }
+    if s.valid() {
+        return once(s, ram, rom);
+    }
+    refuse(s, Why::Invalid)
+}
+
+fn judged(d: Decoded) -> Answer
+    ensures { λ r. ⌜ r ≡ judgedOf d ⌝ }
+{
+    match d {
+        Decoded::Whole(_) => Answer::Done,
+        Decoded::Short => Answer::Refused(Why::NoCode),
+        Decoded::Unlisted => Answer::Refused(Why::Unlisted),
+    }
+}
+
+// Whether there is an instruction to show at an address.
+pub fn show_answer<'a>(ram: &'a [u8], rom: &'a [u8], at: u32) -> Answer
+    ensures { λ r. ⌜ r ≡ showAnswerOf (now (ram .entry)) (now (rom .entry)) at ⌝ }
+{
+    if too_long(ram.len(), rom.len()) {
+        return Answer::Refused(Why::TooLong);
+    }
+    if at < 16777216 {
+        return judged(decode_at(ram, rom, at));
+    }
+    Answer::Refused(Why::Invalid)
+}
+
+fn length_in(code: &[u8]) -> usize
+    ensures { λ r. ⌜ r ≡ lengthIn (decodeOf (now (code .entry))) ⌝ }
+{
+    match code::decode(code) {
+        Decoded::Whole(i) => i.length,
+        Decoded::Short => 0,
+        Decoded::Unlisted => 0,
+    }
+}
+
+// The bytes of the instruction at an address, as a part of the memory that holds them; none where it is refused.
+pub fn show<'a>(ram: &'a [u8], rom: &'a [u8], at: u32) -> &'a [u8]
+    ensures { λ r. ⌜ now r ≡ shownOf (now (ram .entry)) (now (rom .entry)) at ⌝ }
+{
+    if too_long(ram.len(), rom.len()) {
+        return &rom[..0];
+    }
+    if at < 16777216 {
+        let code = memory::fetch(ram, rom, at);
+        let n = length_in(code);
+        return &code[..n];
+    }
+    &rom[..0]
+}
+
+pub fn reset(ram: &[u8], rom: &[u8]) -> Stepped
+    ensures { λ r. ⌜ r ≡ resetOf (now (ram .entry)) (now (rom .entry)) ⌝ }
+{
+    if too_long(ram.len(), rom.len()) {
+        return refuse(State::zero(), Why::TooLong);
+    }
+    match memory::load(ram, rom, State::VECTOR, Size::Long) {
+        Loaded::Value(v) => done(State::at_reset(v)),
+        Loaded::Refused(w) => refuse(State::zero(), w),
+    }
+}
