@@ -1,0 +1,70 @@
+// Many steps.
+ghost use mathlib.Core.Path.{_≡_};
+ghost use mathlib.Core.Bool.{true, false};
+ghost use lib.ListN.{length};
+ghost use Rattle.state.specs.State.{validOf};
+ghost use Rattle.step.specs.Step.{tooLong};
+ghost use Rattle.run.specs.Run.{result, stopped, goOf, runOf};
+use answer::Answer;
+use answer::Why;
+use state::State;
+
+// The state so far, the count of steps done, and how it ended.
+pub struct Ran {
+    pub state: State,
+    pub done: u32,
+    pub answer: Answer,
+}
+
+fn refuse(s: State, w: Why) -> Ran
+    ensures { λ r. ⌜ r ≡ stopped s 0 (Answer.Refused w) ⌝ }
+{
+    Ran {
+        state: s,
+        done: 0,
+        answer: Answer::Refused(w),
+    }
+}
+
+// A step keeps a valid state valid, so that its checks are made once for all steps.
+fn go(s: State, ram: &mut [u8], rom: &[u8], steps: u32) -> Ran
+    requires { ⌜ (validOf s ≡ true) × (tooLong (length (now ram)) (length (now rom)) ≡ false) ⌝ }
+    ensures { λ r. ⌜ result r (now (ram .exit)) ≡ goOf steps 0 s (now (ram .entry)) (now (rom .entry)) ⌝ }
+{
+    let mut t = s;
+    let mut i: u32 = 0;
+    while i < steps {
+        let r = step::once(t, &mut *ram, rom);
+        t = r.state;
+        let a = r.answer;
+        if let Answer::Refused(w) = a {
+            return Ran {
+                state: t,
+                done: i,
+                answer: Answer::Refused(w),
+            };
+        }
+        i += 1;
+    }
+    Ran {
+        state: t,
+        done: i,
+        answer: Answer::Done,
+    }
+}
+
+// All the steps asked for, or those before the first one refused.
+pub fn run(s: State, ram: &mut [u8], rom: &[u8], steps: u32) -> Ran
+    ensures { λ r. ⌜ result r (now (ram .exit)) ≡ runOf steps s (now (ram .entry)) (now (rom .entry)) ⌝ }
+{
+    if 1000000 < steps {
+        return refuse(s, Why::TooMany);
+    }
+    if step::too_long(ram.len(), rom.len()) {
+        return refuse(s, Why::TooLong);
+    }
+    if s.valid() {
+        return go(s, ram, rom, steps);
+    }
+    refuse(s, Why::Invalid)
+}
