@@ -1,0 +1,102 @@
+-- Demand 3, as specs/Demand.antt states it.
+use Prim.Native.Nat.{ℕ, zero, suc, _+_, _-_, _<_, _≤_}
+use mathlib.Core.Path.{_≡_, refl, ap, sym, _∙_, subst}
+use mathlib.Core.Logic.{_⊎_, inl, inr}
+use mathlib.Core.List.{List}
+use mathlib.Core.Bool.{Bool, true, false}
+use native.Mathlib.Omega.{arith}
+use native.Mathlib.Nat.{zero-add, add-zero}
+use native.Mathlib.Numerals.{add-one}
+use Rattle.answer.specs.declared.Answer.the-variants.{Done, Refused}
+use Rattle.answer.specs.declared.Why.{Why}
+use Rattle.answer.specs.declared.Why.the-variants.{Missing, ToRom}
+use Rattle.state.specs.declared.State.{State}
+use Rattle.code.specs.declared.Form.{Form}
+use Rattle.step.specs.Try.{did, no}
+use Rattle.step.specs.Block.{roundOf}
+use Rattle.step.specs.Exec.{pastOf}
+use Rattle.run.specs.Run.{ends, goOf, runOf}
+use Rattle.run.specs.Repeat.{At, ElementsThere, TargetsInRam, Spares, EqualAt, NoneEqual, countOf, roundsOf}
+use Rattle.run.specs.Demand.{EndsAfter, GoesOnAfter, CopyRepeats, CompareFinds, CompareExhausts, NotBefore, StopsAtRefusal}
+use Rattle.run.proofs.Laws.{go-none}
+use Rattle.run.proofs.Counts.{count-some}
+use Rattle.run.proofs.Rounds.{round-why}
+use Rattle.run.proofs.Repeats.{Clear, Goes, Ended, repeat-on, repeat-ends, repeat-refused, run-at}
+
+-- a compare writes nothing
+compare-clear : (n : ℕ) (f : Form) (s : State) (ram rom : List ℕ) → f .copies ≡ false → ElementsThere n f s ram rom → Clear n f s ram rom
+compare-clear n f s ram rom c there =
+    record {
+      there = there;
+      writable = λ e i h. let z : _≡_ {A = ℕ} 0 1 = cc in absurd (omega arith);
+      spared = λ e i h. let z : _≡_ {A = ℕ} 0 1 = cc in absurd (omega arith);
+    }
+
+-- a copy has no equal element
+copy-none : (n : ℕ) (f : Form) (s : State) (ram rom : List ℕ) → f .copies ≡ true → NoneEqual n f s ram rom
+copy-none n f s ram rom c i h q = let b = q .0 in let z : _≡_ {A = ℕ} 0 1 = cc in omega arith
+
+-- n rounds that end it, as a run of n steps
+ended-run :
+    (j : ℕ) (f : Form) (s : State) (ram rom : List ℕ) → At f s ram rom → suc j ≤ countOf s →
+    Clear (suc j) f s ram rom → NoneEqual j f s ram rom → (suc j ≡ countOf s) ⊎ EqualAt f s ram rom j → EndsAfter (suc j) f s ram rom
+ended-run j f s ram rom a le c none last =
+    let x = repeat-ends j 0 f s ram rom a le c none last in
+    let few = count-some s in (
+      x .0,
+      x .1,
+      x .2 .rounds,
+      run-at (suc j) f s ram rom a (omega arith)
+          ∙ ap (λ (n : ℕ). goOf n 0 s ram rom) (sym (add-zero (suc j)))
+          ∙ x .2 .goes
+          ∙ go-none (suc j) (pastOf 2 (x .0)) (x .1) rom,
+    )
+
+-- as many as the counter says
+to-the-end :
+    (f : Form) (s : State) (ram rom : List ℕ) → At f s ram rom → Clear (countOf s) f s ram rom → NoneEqual (countOf s) f s ram rom →
+    EndsAfter (countOf s) f s ram rom
+to-the-end f s ram rom a c none =
+    let some = count-some s in
+    let e : suc (countOf s - 1) ≡ countOf s = omega arith in
+    subst (λ (n : ℕ). EndsAfter n f s ram rom) e
+    (ended-run (countOf s - 1) f s ram rom a (omega arith)
+    (subst (λ (n : ℕ). Clear n f s ram rom) (sym e) c) (λ i h. none i (omega arith)) (inl e))
+
+pub copy-repeats : CopyRepeats
+copy-repeats f s ram rom a c there writable spared =
+    to-the-end f s ram rom a (record { there = there; writable = writable; spared = spared }) (copy-none (countOf s) f s ram rom c)
+
+pub compare-finds : CompareFinds
+compare-finds f s ram rom i a lt there none q =
+    let e : suc i ≡ i + 1 = omega arith in
+    subst (λ (n : ℕ). EndsAfter n f s ram rom) e
+    (ended-run i f s ram rom a (omega arith)
+    (subst (λ (n : ℕ). Clear n f s ram rom) (sym e) (compare-clear (i + 1) f s ram rom (q .0) there)) none (inr q))
+
+pub compare-exhausts : CompareExhausts
+compare-exhausts f s ram rom a c there none = to-the-end f s ram rom a (compare-clear (countOf s) f s ram rom c there) none
+
+pub not-before : NotBefore
+not-before f s ram rom n a lt there writable spared none =
+    let x = repeat-on n 0 0 f s ram rom a lt (record { there = there; writable = writable; spared = spared }) none in
+    let few = count-some s in (
+      x .0,
+      x .1,
+      x .2 .rounds,
+      run-at n f s ram rom a (omega arith)
+          ∙ ap (λ (k : ℕ). goOf k 0 s ram rom) (sym (add-zero n))
+          ∙ x .2 .goes
+          ∙ go-none (0 + n) (x .0) (x .1) rom
+          ∙ ap (λ (k : ℕ). ends k (x .0) (x .1) Done) (zero-add n),
+      x .2 .counter,
+    )
+
+pub stops-at-refusal : StopsAtRefusal
+stops-at-refusal f s ram rom n steps t m w a lt more few there writable spared none e r =
+    let z : n + suc (steps - suc n) ≡ steps = omega arith in (
+      run-at steps f s ram rom a few
+          ∙ ap (λ (k : ℕ). goOf k 0 s ram rom) (sym z)
+          ∙ repeat-refused n (steps - suc n) f s ram rom t m w a lt (record { there = there; writable = writable; spared = spared }) none e r,
+      round-why f t m rom w r,
+    )

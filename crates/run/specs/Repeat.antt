@@ -1,0 +1,89 @@
+-- Rounds of a copy or a compare, and the elements that they meet.
+use Prim.Native.Nat.{ℕ, zero, suc, _+_, _-_, _*_, _%_, _^_, _<_, _≤_}
+use mathlib.Core.Path.{_≡_}
+use mathlib.Core.Logic.{_⊎_, _≢_}
+use mathlib.Core.List.{List}
+use mathlib.Core.Bool.{Bool, true, false, cond}
+use lib.Dec.{eqb}
+use lib.ListN.{length, getD}
+use Rattle.little.specs.declared.Size.the-variants.{Long}
+use Rattle.little.specs.Width.{bytesOf}
+use Rattle.memory.specs.Place.{placeOf}
+use Rattle.memory.specs.Access.{loadOf, codeAt}
+use Rattle.memory.specs.declared.Place.the-variants.{Missing}
+use Rattle.memory.specs.declared.Loaded.the-variants.{Value}
+use Rattle.state.specs.State.{validOf}
+use Rattle.state.specs.Sound.{Sound}
+use Rattle.state.specs.Register.{getRegister}
+use Rattle.state.specs.declared.State.{State}
+use Rattle.code.specs.Listed.{decodeOf}
+use Rattle.code.specs.declared.Form.{Form}
+use Rattle.code.specs.declared.Instruction.{Instruction}
+use Rattle.code.specs.declared.Op.the-variants.{Block}
+use Rattle.code.specs.declared.Decoded.the-variants.{Whole}
+use Rattle.step.specs.Try.{Try, did, no}
+use Rattle.step.specs.Block.{countIn, accumulator, roundOf}
+
+-- n rounds one after the other, each on the registers, flags and memory that the one before left; or the first refusal
+unfoldable pub roundsOf : ℕ → Form → State → List ℕ → List ℕ → Try
+roundsOf zero f s ram rom = did s ram
+roundsOf (suc n) f s ram rom =
+    elim (roundOf f s ram rom) [
+      | did t m ↦ roundsOf n f t m rom
+      | no w ↦ no w
+    ]
+
+-- as many rounds as the counter BC says: 0 means 65,536
+unfoldable pub countOf : State → ℕ
+countOf s = cond (eqb (countIn s) 0) (2 ^ 16) (countIn s)
+
+-- a pointer that has passed i elements, up or down, round at 32 bits
+unfoldable pub passed : Form → ℕ → ℕ → ℕ
+passed f x i = cond (f .up) ((x + i * bytesOf (f .size)) % 2 ^ 32) ((x + i * (2 ^ 32 - bytesOf (f .size))) % 2 ^ 32)
+
+-- the address of element i, from 0, and of the place that a copy writes it to
+abbrev pub elementOf : Form → State → ℕ → ℕ
+elementOf f s i = passed f (getRegister s Long (f .from)) i % 2 ^ 24
+
+abbrev pub targetOf : Form → State → ℕ → ℕ
+targetOf f s i = passed f (getRegister s Long (f .to)) i % 2 ^ 24
+
+-- ---- what demand 3 supposes
+-- every number of a memory is a byte
+abbrev pub Bytes : List ℕ → Type 0
+Bytes l = (i : ℕ) → getD l i 0 < 2 ^ 8
+
+-- a valid state, with both memories within their limits, at a listed repeating copy or compare whose bytes lie in one memory
+pub record At (f : Form) (s : State) (ram rom : List ℕ) : Type 0 where
+  pub sound : Sound s
+  pub valid : validOf s ≡ true
+  pub ramBytes : Bytes ram
+  pub romBytes : Bytes rom
+  pub ramFits : length ram ≤ 2 ^ 16
+  pub romFits : length rom ≤ 2 ^ 16
+  pub instruction : Instruction
+  pub here : decodeOf (codeAt ram rom (s .counter)) ≡ Whole instruction
+  pub form : instruction .op ≡ Block f
+  pub repeats : f .again ≡ true
+
+-- of the first n elements: every element is there
+abbrev pub ElementsThere : ℕ → Form → State → List ℕ → List ℕ → Type 0
+ElementsThere n f s ram rom = (i : ℕ) → i < n → placeOf (length ram) (length rom) (elementOf f s i) (bytesOf (f .size)) ≢ Missing
+
+-- every byte that a copy writes is RAM
+abbrev pub TargetsInRam : ℕ → Form → State → List ℕ → Type 0
+TargetsInRam n f s ram = f .copies ≡ true → (i : ℕ) → i < n → targetOf f s i + bytesOf (f .size) ≤ length ram
+
+-- and none of them is one of the instruction's own two bytes
+abbrev pub Spares : ℕ → Form → State → Type 0
+Spares n f s =
+    f .copies ≡ true → (i : ℕ) → i < n →
+    (targetOf f s i + bytesOf (f .size) ≤ s .counter) ⊎ (s .counter + 2 ≤ targetOf f s i)
+
+-- element i equals A, or WA: what a compare looks for
+abbrev pub EqualAt : Form → State → List ℕ → List ℕ → ℕ → Type 0
+EqualAt f s ram rom i = (f .copies ≡ false) × (loadOf ram rom (elementOf f s i) (f .size) ≡ Value (accumulator s (f .size)))
+
+-- none of the first n does
+abbrev pub NoneEqual : ℕ → Form → State → List ℕ → List ℕ → Type 0
+NoneEqual n f s ram rom = (i : ℕ) → i < n → EqualAt f s ram rom i → ⊥
