@@ -1,0 +1,282 @@
+-- Runs one after the other, the run of one step, and the count.
+use Prim.Native.Nat.{ℕ, zero, suc, _+_, _-_, _<_, _≤_}
+use mathlib.Core.Path.{_≡_, refl, ap, sym, _∙_, subst}
+use mathlib.Core.Logic.{_⊎_, inl, inr}
+use mathlib.Core.List.{List}
+use mathlib.Core.Bool.{Bool, true, false, cond}
+use native.Mathlib.Omega.{arith}
+use native.Mathlib.Nat.{zero-add, add-zero}
+use lib.ListN.{length}
+use lib.Dec.{ltb}
+use borrow.Author.Tests.{le-ltb, ltb-true, ltb-false}
+use Rattle.answer.specs.declared.Answer.{Answer}
+use Rattle.answer.specs.declared.Answer.the-variants.{Done, Refused}
+use Rattle.answer.specs.declared.Why.{Why}
+use Rattle.answer.specs.declared.Why.the-variants.{TooMany, TooLong, Invalid}
+use Rattle.state.specs.State.{validOf}
+use Rattle.state.specs.declared.State.{State}
+use Rattle.state.proofs.Valid.{Valid, valid-says, valid-from}
+use Rattle.step.specs.Try.{Try, did, no, Outcome, leaves}
+use Rattle.step.specs.Step.{tooLong, guarded, onceOf, tryOf, stepOf}
+use Rattle.step.proofs.Kept.{Keeps, keeps-once}
+use Rattle.run.specs.declared.Ran.{Ran}
+use Rattle.run.specs.Run.{Result, result, ends, goOf, afterChecks, runOf}
+use Rattle.run.specs.Statements.{RunSettled, RunsJoin, RunStops, OneStepRun, CountIsTrue, later, doneBy, asRun}
+use Rattle.run.proofs.Laws.{guard-passes, try-once, run-many, run-long, run-invalid, run-goes, go-none, go-did, go-no}
+
+pub run-settled : RunSettled
+run-settled n s ram rom p q l m e f =
+    let g : result p l ≡ result q m = e ∙ sym f in
+    (ap (λ (r : Result). record { state = r .state; done = r .done; answer = r .answer }) g, ap (λ (r : Result). r .ram) g)
+
+-- ---- steps left, from any count
+not-refused : {A : Type 0} {a : Answer} {w : Why} → a ≡ Done → a ≡ Refused w → A
+not-refused e f = let z : _≡_ {A = ℕ} 0 1 = cc in absurd (omega arith)
+
+shift : (n d : ℕ) (s : State) (ram rom : List ℕ) → goOf n d s ram rom ≡ later d (goOf n 0 s ram rom)
+shift zero d s ram rom =
+    go-none d s ram rom ∙ sym (ap (later d) (go-none 0 s ram rom) ∙ ap (λ (k : ℕ). ends k s ram Done) (add-zero d))
+shift (suc n) d s ram rom = go (λ t m e. shift n e t m rom) (tryOf s ram rom) refl
+  where
+    go : ((t : State) (m : List ℕ) (e : ℕ) → goOf n e t m rom ≡ later e (goOf n 0 t m rom))
+        → (t : Try) → tryOf s ram rom ≡ t → goOf (suc n) d s ram rom ≡ later d (goOf (suc n) 0 s ram rom)
+    go ih (did t m) e =
+        let r = goOf n 0 t m rom in
+        let k : d + 1 + r .done ≡ d + (0 + 1 + r .done) = omega arith in
+        go-did n d s ram rom t m e
+        ∙ ih t m (d + 1)
+        ∙ ap (λ (x : ℕ). ends x (r .state) (r .ram) (r .answer)) k
+        ∙ sym (ap (later d) (go-did n 0 s ram rom t m e ∙ ih t m (0 + 1)))
+    go ih (no w) e =
+        go-no n d s ram rom w e
+        ∙ sym (ap (later d) (go-no n 0 s ram rom w e) ∙ ap (λ (k : ℕ). ends k s ram (Refused w)) (add-zero d))
+
+-- n steps that were all done, and then m
+pub record Joined (n m d : ℕ) (s : State) (ram rom : List ℕ) : Type 0 where
+  pub count : goOf n d s ram rom .done ≡ d + n
+  pub rest : goOf (n + m) d s ram rom ≡ goOf m (d + n) (goOf n d s ram rom .state) (goOf n d s ram rom .ram) rom
+
+join : (n m d : ℕ) (s : State) (ram rom : List ℕ) → goOf n d s ram rom .answer ≡ Done → Joined n m d s ram rom
+join zero m d s ram rom a =
+    let e = go-none d s ram rom in
+    record {
+      count = ap (λ (r : Result). r .done) e ∙ sym (add-zero d);
+      rest =
+          ap (λ (k : ℕ). goOf k d s ram rom) (zero-add m)
+          ∙ ap (λ (k : ℕ). goOf m k s ram rom) (sym (add-zero d))
+          ∙ sym (ap (λ (r : Result). goOf m (d + 0) (r .state) (r .ram) rom) e);
+    }
+join (suc n) m d s ram rom a = go (λ t l e. join n m e t l rom) (tryOf s ram rom) refl
+  where
+    go : ((t : State) (l : List ℕ) (e : ℕ) → goOf n e t l rom .answer ≡ Done → Joined n m e t l rom)
+        → (t : Try) → tryOf s ram rom ≡ t → Joined (suc n) m d s ram rom
+    go ih (did t l) e =
+        let f = go-did n d s ram rom t l e in
+        let j = ih t l (d + 1) (sym (ap (λ (r : Result). r .answer) f) ∙ a) in
+        let k : d + 1 + n ≡ d + suc n = omega arith in
+        let p : suc n + m ≡ suc (n + m) = omega arith in
+        record {
+          count = ap (λ (r : Result). r .done) f ∙ j .count ∙ k;
+          rest =
+              ap (λ (x : ℕ). goOf x d s ram rom) p
+              ∙ go-did (n + m) d s ram rom t l e
+              ∙ j .rest
+              ∙ ap (λ (x : ℕ). goOf m x (goOf n (d + 1) t l rom .state) (goOf n (d + 1) t l rom .ram) rom) k
+              ∙ sym (ap (λ (r : Result). goOf m (d + suc n) (r .state) (r .ram) rom) f);
+        }
+    go ih (no w) e = not-refused a (ap (λ (r : Result). r .answer) (go-no n d s ram rom w e))
+
+-- n steps that were not
+stop : (n m d : ℕ) (s : State) (ram rom : List ℕ) (w : Why) → goOf n d s ram rom .answer ≡ Refused w → goOf (n + m) d s ram rom ≡ goOf n d s ram rom
+stop zero m d s ram rom w a = not-refused (ap (λ (r : Result). r .answer) (go-none d s ram rom)) a
+stop (suc n) m d s ram rom w a = go (λ t l e. stop n m e t l rom w) (tryOf s ram rom) refl
+  where
+    go : ((t : State) (l : List ℕ) (e : ℕ) → goOf n e t l rom .answer ≡ Refused w → goOf (n + m) e t l rom ≡ goOf n e t l rom)
+        → (t : Try) → tryOf s ram rom ≡ t → goOf (suc n + m) d s ram rom ≡ goOf (suc n) d s ram rom
+    go ih (did t l) e =
+        let f = go-did n d s ram rom t l e in
+        let p : suc n + m ≡ suc (n + m) = omega arith in
+        ap (λ (x : ℕ). goOf x d s ram rom) p
+        ∙ go-did (n + m) d s ram rom t l e
+        ∙ ih t l (d + 1) (sym (ap (λ (r : Result). r .answer) f) ∙ a)
+        ∙ sym f
+    go ih (no x) e =
+        let p : suc n + m ≡ suc (n + m) = omega arith in
+        ap (λ (y : ℕ). goOf y d s ram rom) p ∙ go-no (n + m) d s ram rom x e ∙ sym (go-no n d s ram rom x e)
+
+-- the steps before the first one refused
+pub record Before (n d : ℕ) (s : State) (ram rom : List ℕ) (w : Why) : Type 0 where
+  pub steps : ℕ
+  pub fewer : steps < n
+  pub count : goOf n d s ram rom .done ≡ d + steps
+  pub done : goOf steps d s ram rom ≡ ends (d + steps) (goOf n d s ram rom .state) (goOf n d s ram rom .ram) Done
+  pub refused : tryOf (goOf n d s ram rom .state) (goOf n d s ram rom .ram) rom ≡ no w
+
+before : (n d : ℕ) (s : State) (ram rom : List ℕ) (w : Why) → goOf n d s ram rom .answer ≡ Refused w → Before n d s ram rom w
+before zero d s ram rom w a = not-refused (ap (λ (r : Result). r .answer) (go-none d s ram rom)) a
+before (suc n) d s ram rom w a = go (λ t l e. before n e t l rom w) (tryOf s ram rom) refl
+  where
+    go : ((t : State) (l : List ℕ) (e : ℕ) → goOf n e t l rom .answer ≡ Refused w → Before n e t l rom w)
+        → (t : Try) → tryOf s ram rom ≡ t → Before (suc n) d s ram rom w
+    go ih (did t l) e =
+        let f = go-did n d s ram rom t l e in
+        let b = ih t l (d + 1) (sym (ap (λ (r : Result). r .answer) f) ∙ a) in
+        let k = b .steps in
+        let p : d + 1 + k ≡ d + suc k = omega arith in
+        record {
+          steps = suc k;
+          fewer = let h = b .fewer in omega arith;
+          count = ap (λ (r : Result). r .done) f ∙ b .count ∙ p;
+          done =
+              go-did k d s ram rom t l e
+              ∙ b .done
+              ∙ ap (λ (x : ℕ). ends x (goOf n (d + 1) t l rom .state) (goOf n (d + 1) t l rom .ram) Done) p
+              ∙ sym (ap (λ (r : Result). ends (d + suc k) (r .state) (r .ram) Done) f);
+          refused = ap (λ (r : Result). tryOf (r .state) (r .ram) rom) f ∙ b .refused;
+        }
+    go ih (no x) e =
+        let f = go-no n d s ram rom x e in
+        let y : Refused x ≡ Refused w = sym (ap (λ (r : Result). r .answer) f) ∙ a in
+        let z : no x ≡ no w = cc in
+        record {
+          steps = 0;
+          fewer = omega arith;
+          count = ap (λ (r : Result). r .done) f ∙ sym (add-zero d);
+          done =
+              go-none d s ram rom
+              ∙ ap (λ (x : ℕ). ends x s ram Done) (sym (add-zero d))
+              ∙ sym (ap (λ (r : Result). ends (d + 0) (r .state) (r .ram) Done) f);
+          refused = ap (λ (r : Result). tryOf (r .state) (r .ram) rom) f ∙ e ∙ z;
+        }
+
+-- ---- the checks of a run pass, or every run is refused by them
+pub data Checks (s : State) (ram rom : List ℕ) : Type 0 where
+  pass : tooLong (length ram) (length rom) ≡ false → validOf s ≡ true → Checks s ram rom
+  fail : (w : Why) → ((n : ℕ) → n ≤ 1000000 → runOf n s ram rom ≡ ends 0 s ram (Refused w)) → tryOf s ram rom ≡ no w → Checks s ram rom
+
+long-fails : (s : State) (ram rom : List ℕ) → tooLong (length ram) (length rom) ≡ true → tryOf s ram rom ≡ no TooLong
+unfolding tryOf guarded
+long-fails s ram rom l = rw l refl
+
+invalid-fails : (s : State) (ram rom : List ℕ) → tooLong (length ram) (length rom) ≡ false → validOf s ≡ false → tryOf s ram rom ≡ no Invalid
+unfolding tryOf guarded
+invalid-fails s ram rom l v = rw (l, v) refl
+
+pub checks : (s : State) (ram rom : List ℕ) → Checks s ram rom
+checks s ram rom = go (tooLong (length ram) (length rom)) (validOf s) refl refl
+  where
+    go : (a b : Bool) → tooLong (length ram) (length rom) ≡ a → validOf s ≡ b → Checks s ram rom
+    go true b l v = fail TooLong (λ n h. run-long s ram rom n h l) (long-fails s ram rom l)
+    go false false l v = fail Invalid (λ n h. run-invalid s ram rom n h l v) (invalid-fails s ram rom l v)
+    go false true l v = pass l v
+
+did-keeps : (ram : List ℕ) (t : State) (m : List ℕ) → Keeps ram (did t m) → Valid t × (length m ≡ length ram)
+unfolding Keeps
+did-keeps ram t m k = k
+
+step-from : (s : State) (ram rom : List ℕ) (t : Try) → tryOf s ram rom ≡ t → asRun (stepOf s ram rom) ≡ asRun (leaves s ram t)
+unfolding stepOf
+step-from s ram rom t e = ap (λ (x : Try). asRun (leaves s ram x)) e
+
+-- steps that were done keep a valid state valid, and RAM's length
+go-keeps :
+    (n d : ℕ) (s : State) (ram rom : List ℕ) → tooLong (length ram) (length rom) ≡ false → validOf s ≡ true → goOf n d s ram rom .answer ≡ Done →
+    (validOf (goOf n d s ram rom .state) ≡ true) × (length (goOf n d s ram rom .ram) ≡ length ram)
+go-keeps zero d s ram rom l v a =
+    let e = go-none d s ram rom in
+    (ap (λ (r : Result). validOf (r .state)) e ∙ v, ap (λ (r : Result). length (r .ram)) e)
+go-keeps (suc n) d s ram rom l v a =
+    go (λ t m e. go-keeps n e t m rom) (onceOf s ram rom) refl (keeps-once ram rom s (valid-says s v))
+  where
+    go :
+        ((t : State) (m : List ℕ) (e : ℕ) → tooLong (length m) (length rom) ≡ false → validOf t ≡ true → goOf n e t m rom .answer ≡ Done →
+        (validOf (goOf n e t m rom .state) ≡ true) × (length (goOf n e t m rom .ram) ≡ length m))
+        → (t : Try) → onceOf s ram rom ≡ t → Keeps ram t
+        → (validOf (goOf (suc n) d s ram rom .state) ≡ true) × (length (goOf (suc n) d s ram rom .ram) ≡ length ram)
+    go ih (did t m) e k =
+        let kept = did-keeps ram t m k in
+        let f = go-did n d s ram rom t m (try-once s ram rom l v ∙ e) in
+        let w : tooLong (length m) (length rom) ≡ false = ap (λ (x : ℕ). tooLong x (length rom)) (kept .1) ∙ l in
+        let r = ih t m (d + 1) w (valid-from t (kept .0)) (sym (ap (λ (r : Result). r .answer) f) ∙ a) in
+        (ap (λ (r : Result). validOf (r .state)) f ∙ r .0, ap (λ (r : Result). length (r .ram)) f ∙ r .1 ∙ kept .1)
+    go ih (no w) e k =
+        not-refused a (ap (λ (r : Result). r .answer) (go-no n d s ram rom w (try-once s ram rom l v ∙ e)))
+
+-- ---- the statements
+pub runs-join : RunsJoin
+runs-join n m s ram rom h a = go (checks s ram rom)
+  where
+    go : Checks s ram rom → runOf (n + m) s ram rom ≡ later n (runOf m (runOf n s ram rom .state) (runOf n s ram rom .ram) rom)
+    go (fail w f t) = not-refused a (ap (λ (r : Result). r .answer) (f n (omega arith)))
+    go (pass l v) =
+        let e = run-goes s ram rom n (omega arith) l v in
+        let b = sym (ap (λ (r : Result). r .answer) e) ∙ a in
+        let j = join n m 0 s ram rom b in
+        let k = go-keeps n 0 s ram rom l v b in
+        let r = goOf n 0 s ram rom in
+        let w : tooLong (length (r .ram)) (length rom) ≡ false = ap (λ (x : ℕ). tooLong x (length rom)) (k .1) ∙ l in
+        run-goes s ram rom (n + m) h l v
+        ∙ j .rest
+        ∙ shift m (0 + n) (r .state) (r .ram) rom
+        ∙ ap (λ (x : ℕ). later x (goOf m 0 (r .state) (r .ram) rom)) (zero-add n)
+        ∙ ap (later n) (sym (run-goes (r .state) (r .ram) rom m (omega arith) w (k .0)))
+        ∙ sym (ap (λ (x : Result). later n (runOf m (x .state) (x .ram) rom)) e)
+
+pub run-stops : RunStops
+run-stops n m s ram rom w h a = go (checks s ram rom)
+  where
+    go : Checks s ram rom → runOf (n + m) s ram rom ≡ runOf n s ram rom
+    go (fail x f t) = f (n + m) h ∙ sym (f n (omega arith))
+    go (pass l v) =
+        let e = run-goes s ram rom n (omega arith) l v in
+        run-goes s ram rom (n + m) h l v ∙ stop n m 0 s ram rom w (sym (ap (λ (r : Result). r .answer) e) ∙ a) ∙ sym e
+
+pub one-step-run : OneStepRun
+one-step-run s ram rom = go (checks s ram rom)
+  where
+    go : Checks s ram rom → runOf 1 s ram rom ≡ asRun (stepOf s ram rom)
+    go (fail w f t) = f 1 (omega arith) ∙ sym (step-from s ram rom (no w) t)
+    go (pass l v) = run-goes s ram rom 1 (omega arith) l v ∙ tried (tryOf s ram rom) refl
+      where
+        tried : (t : Try) → tryOf s ram rom ≡ t → goOf 1 0 s ram rom ≡ asRun (stepOf s ram rom)
+        tried (did t m) e = go-did 0 0 s ram rom t m e ∙ go-none (0 + 1) t m rom ∙ sym (step-from s ram rom (did t m) e)
+        tried (no w) e = go-no 0 0 s ram rom w e ∙ sym (step-from s ram rom (no w) e)
+
+pub count-is-true : CountIsTrue
+count-is-true n s ram rom = go (ltb 1000000 n) refl (checks s ram rom)
+  where
+    r : Result
+    r = runOf n s ram rom
+
+    Count : Type 0
+    Count =
+        (r .answer ≡ Done → r .done ≡ n)
+        × ((w : Why) → 0 < r .done → r .answer ≡ Refused w →
+        (r .done < n) × (runOf (r .done) s ram rom ≡ ends (r .done) (r .state) (r .ram) Done) × (tryOf (r .state) (r .ram) rom ≡ no w))
+
+    none-done : (w : Why) → r ≡ ends 0 s ram (Refused w) → Count
+    none-done w e =
+        let d : r .done ≡ 0 = ap (λ (x : Result). x .done) e in
+        (λ a. not-refused a (ap (λ (x : Result). x .answer) e), λ x h a. absurd (omega (arith, d, h)))
+
+    go : (b : Bool) → ltb 1000000 n ≡ b → Checks s ram rom → Count
+    go true e c = none-done TooMany (run-many s ram rom n (ltb-true 1000000 n e))
+    go false e (fail w f t) = none-done w (f n (ltb-false 1000000 n e))
+    go false e (pass l v) =
+        let few = ltb-false 1000000 n e in
+        let g = run-goes s ram rom n few l v in (
+          λ a.
+              ap (λ (x : Result). x .done) g ∙ join n 0 0 s ram rom (sym (ap (λ (x : Result). x .answer) g) ∙ a) .count ∙ zero-add n,
+          λ w h a.
+              let b = before n 0 s ram rom w (sym (ap (λ (x : Result). x .answer) g) ∙ a) in
+              let k : r .done ≡ b .steps = ap (λ (x : Result). x .done) g ∙ b .count ∙ zero-add (b .steps) in
+              let less = b .fewer in (
+                omega (arith, k, less),
+                ap (λ (x : ℕ). runOf x s ram rom) k
+                    ∙ run-goes s ram rom (b .steps) (omega (arith, few, less)) l v
+                    ∙ b .done
+                    ∙ ap (λ (x : ℕ). ends x (goOf n 0 s ram rom .state) (goOf n 0 s ram rom .ram) Done) (zero-add (b .steps) ∙ sym k)
+                    ∙ sym (ap (λ (x : Result). ends (r .done) (x .state) (x .ram) Done) g),
+                ap (λ (x : Result). tryOf (x .state) (x .ram) rom) g ∙ b .refused,
+              ),
+        )
