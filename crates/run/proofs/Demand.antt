@@ -24,7 +24,7 @@ use Rattle.run.proofs.Rounds.{round-why}
 use Rattle.run.proofs.Repeats.{Clear, Goes, Ended, repeat-on, repeat-ends, repeat-refused, run-at}
 
 -- a compare writes nothing
-compare-clear : (n : ℕ) (f : Form) (s : State) (ram rom : List ℕ) → f .copies ≡ false → ElementsThere n f s ram rom → Clear n f s ram rom
+pub compare-clear : (n : ℕ) (f : Form) (s : State) (ram rom : List ℕ) → f .copies ≡ false → ElementsThere n f s ram rom → Clear n f s ram rom
 compare-clear n f s ram rom c there =
     record {
       there = there;
@@ -33,7 +33,7 @@ compare-clear n f s ram rom c there =
     }
 
 -- a copy has no equal element
-copy-none : (n : ℕ) (f : Form) (s : State) (ram rom : List ℕ) → f .copies ≡ true → NoneEqual n f s ram rom
+pub copy-none : (n : ℕ) (f : Form) (s : State) (ram rom : List ℕ) → f .copies ≡ true → NoneEqual n f s ram rom
 copy-none n f s ram rom c i h q = let b = q .0 in let z : _≡_ {A = ℕ} 0 1 = cc in omega arith
 
 -- n rounds that end it, as a run of n steps

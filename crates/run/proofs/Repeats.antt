@@ -3,7 +3,7 @@ use Prim.Native.Nat.{ℕ, zero, suc, _+_, _-_, _*_, _%_, _^_, _<_, _≤_}
 use mathlib.Core.Path.{_≡_, refl, ap, sym, _∙_, subst}
 use mathlib.Core.Logic.{_⊎_, inl, inr, ⊎-elim, _≢_}
 use mathlib.Core.List.{List}
-use mathlib.Core.Bool.{Bool, true, false, cond}
+use mathlib.Core.Bool.{Bool, true, false, cond, not, _&&_}
 use native.Mathlib.Omega.{arith}
 use native.Mathlib.Nat.{zero-add, add-zero}
 use lib.Dec.{eqb}
@@ -25,6 +25,7 @@ use Rattle.state.proofs.Laws.{register-lt}
 use Rattle.code.specs.declared.Form.{Form}
 use Rattle.step.specs.Try.{Try, did, no}
 use Rattle.step.specs.Operand.{pointerOf}
+use Rattle.step.specs.Flag.{flagsIn}
 use Rattle.step.specs.Block.{countIn, accumulator, compared, roundOf, equalIn, goesOn}
 use Rattle.step.specs.Exec.{pastOf}
 use Rattle.step.specs.Step.{tryOf}
@@ -280,6 +281,14 @@ module _ (n k d : ℕ) (f : Form) (s : State) (ram rom : List ℕ) (t : State) (
         ∙ ap Value (sym (g .acc)),
   )
 
+  equal-back : EqualAt f t m rom 0 → EqualAt f s ram rom n
+  equal-back q =
+      (q .0,
+       ap (λ (x : ℕ). loadOf ram rom x (f .size)) (sym element-at)
+       ∙ ap (λ (x : List ℕ). loadOf x rom (elementOf f t 0) (f .size)) (sym (g .same (q .0)))
+       ∙ q .1
+       ∙ ap Value (g .acc))
+
 -- a pointer that passed j elements and then one more
 once-passed : (f : Form) (j x : ℕ) → x < 2 ^ 32 → once f (passed f x j) ≡ passed f x (suc j)
 once-passed f zero x h =
@@ -291,19 +300,25 @@ after-one : (f : Form) (x y j : ℕ) → y ≡ passed f x j → x < 2 ^ 32 → o
 after-one f x y j e h = ap (once f) e ∙ once-passed f j x h
 
 -- ---- it ends: as many rounds as BC says, or the last is the first equal one
-pub record Ended (n k : ℕ) (f : Form) (s : State) (ram rom : List ℕ) (t : State) (m : List ℕ) : Type 0 where
-  pub rounds : roundsOf n f s ram rom ≡ did t m
-  pub goes : goOf (n + k) 0 s ram rom ≡ goOf k n (pastOf 2 t) m rom
+pub record Ended (j k : ℕ) (f : Form) (s : State) (ram rom : List ℕ) (t : State) (m : List ℕ) : Type 0 where
+  pub rounds : roundsOf (suc j) f s ram rom ≡ did t m
+  pub goes : goOf (suc j + k) 0 s ram rom ≡ goOf k (suc j) (pastOf 2 t) m rom
   pub counter : t .counter ≡ s .counter
-  pub from : getRegister t Long (f .from) ≡ passed f (getRegister s Long (f .from)) n
-  pub to : f .copies ≡ true → getRegister t Long (f .to) ≡ passed f (getRegister s Long (f .to)) n
-  pub bc : countIn t + n ≡ countOf s
+  pub from : getRegister t Long (f .from) ≡ passed f (getRegister s Long (f .from)) (suc j)
+  pub to : f .copies ≡ true → getRegister t Long (f .to) ≡ passed f (getRegister s Long (f .to)) (suc j)
+  pub bc : countIn t + suc j ≡ countOf s
   pub same : f .copies ≡ false → m ≡ ram
+  pub equal : EqualAt f s ram rom j → flagsIn t .z ≡ true
+  pub unequal : f .copies ≡ false → (EqualAt f s ram rom j → ⊥) → flagsIn t .z ≡ false
+
+-- the round of a compare is equal where Z is set
+zero-set : (f : Form) (t : State) → f .copies ≡ false → equalIn f t ≡ flagsIn t .z
+zero-set f t c = ap (λ (b : Bool). not b && flagsIn t .z) c
 
 pub repeat-ends :
     (j k : ℕ) (f : Form) (s : State) (ram rom : List ℕ) → At f s ram rom → suc j ≤ countOf s →
     Clear (suc j) f s ram rom → NoneEqual j f s ram rom → (suc j ≡ countOf s) ⊎ EqualAt f s ram rom j →
-    (t : State) × (m : List ℕ) × Ended (suc j) k f s ram rom t m
+    (t : State) × (m : List ℕ) × Ended j k f s ram rom t m
 repeat-ends j k f s ram rom a le c none last =
     let w = repeat-on j (suc k) 0 f s ram rom a (omega arith) (clear-less j (suc j) f s ram rom (omega arith) c) none in
     let u = w .0 in
@@ -338,6 +353,10 @@ repeat-ends j k f s ram rom a le c none last =
         to = λ e. r .to e ∙ after-one f (getRegister s Long (f .to)) (getRegister u Long (f .to)) j (g .to e) (register-lt s Long (f .to));
         bc = omega (arith, bc, left);
         same = λ e. left-compare e (y .1) ∙ g .same e;
+        equal = λ q. sym (zero-set f t (q .0)) ∙ equal f u v rom (g .there) t m (x .2) (equal-at j (suc k) 0 f s ram rom u v g q);
+        unequal = λ e q.
+          sym (zero-set f t e)
+          ∙ unequal f u v rom (g .there) t m (x .2) (λ z. q (equal-back j (suc k) 0 f s ram rom u v g z));
       },
     )
 
