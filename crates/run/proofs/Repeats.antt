@@ -282,12 +282,13 @@ module _ (n k d : ℕ) (f : Form) (s : State) (ram rom : List ℕ) (t : State) (
   )
 
   equal-back : EqualAt f t m rom 0 → EqualAt f s ram rom n
-  equal-back q =
-      (q .0,
-       ap (λ (x : ℕ). loadOf ram rom x (f .size)) (sym element-at)
-       ∙ ap (λ (x : List ℕ). loadOf x rom (elementOf f t 0) (f .size)) (sym (g .same (q .0)))
-       ∙ q .1
-       ∙ ap Value (g .acc))
+  equal-back q = (
+    q .0,
+    ap (λ (x : ℕ). loadOf ram rom x (f .size)) (sym element-at)
+        ∙ ap (λ (x : List ℕ). loadOf x rom (elementOf f t 0) (f .size)) (sym (g .same (q .0)))
+        ∙ q .1
+        ∙ ap Value (g .acc),
+  )
 
 -- a pointer that passed j elements and then one more
 once-passed : (f : Form) (j x : ℕ) → x < 2 ^ 32 → once f (passed f x j) ≡ passed f x (suc j)
@@ -355,8 +356,8 @@ repeat-ends j k f s ram rom a le c none last =
         same = λ e. left-compare e (y .1) ∙ g .same e;
         equal = λ q. sym (zero-set f t (q .0)) ∙ equal f u v rom (g .there) t m (x .2) (equal-at j (suc k) 0 f s ram rom u v g q);
         unequal = λ e q.
-          sym (zero-set f t e)
-          ∙ unequal f u v rom (g .there) t m (x .2) (λ z. q (equal-back j (suc k) 0 f s ram rom u v g z));
+            sym (zero-set f t e)
+            ∙ unequal f u v rom (g .there) t m (x .2) (λ z. q (equal-back j (suc k) 0 f s ram rom u v g z));
       },
     )
 

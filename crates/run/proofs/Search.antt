@@ -42,7 +42,7 @@ unfolding pastOf withCounter
 past-counter t c e = ap (λ (x : ℕ). (x + 2) % 2 ^ 24) e
 
 -- upwards, a pointer that passed i elements is so many sizes on
-up-passed : (f : Form) (x i : ℕ) → f .up ≡ true → passed f x i ≡ (x + i * bytesOf (f .size)) % 2 ^ 32
+pub up-passed : (f : Form) (x i : ℕ) → f .up ≡ true → passed f x i ≡ (x + i * bytesOf (f .size)) % 2 ^ 32
 unfolding passed
 up-passed f x i e =
     ap (λ (b : Bool). cond b ((x + i * bytesOf (f .size)) % 2 ^ 32) ((x + i * (2 ^ 32 - bytesOf (f .size))) % 2 ^ 32)) e
@@ -65,17 +65,18 @@ search-finds f s ram rom i a up lt there none q =
     let x = repeat-ends i 0 f s ram rom a (omega arith) c none (inr q) in
     let t = x .0 in
     let e = x .2 in
-    let bc = e .bc in
-    (pastOf 2 t,
-     ap (λ (k : ℕ). runOf k s ram rom) (sym n)
-     ∙ ended-steps i f s ram rom t (x .1) a (omega arith) e
-     ∙ ap (λ (m : List ℕ). ends (suc i) (pastOf 2 t) m Done) (e .same (q .0))
-     ∙ ap (λ (k : ℕ). ends k (pastOf 2 t) ram Done) n,
-     past-register t (f .from) ∙ e .from ∙ up-passed f (getRegister s Long (f .from)) (suc i) up
-     ∙ ap (λ (k : ℕ). (getRegister s Long (f .from) + k * bytesOf (f .size)) % 2 ^ 32) n,
-     past-count t ∙ omega (arith, bc),
-     past-flags t ∙ e .equal q,
-     past-counter t (s .counter) (e .counter))
+    let bc = e .bc in (
+      pastOf 2 t,
+      ap (λ (k : ℕ). runOf k s ram rom) (sym n)
+          ∙ ended-steps i f s ram rom t (x .1) a (omega arith) e
+          ∙ ap (λ (m : List ℕ). ends (suc i) (pastOf 2 t) m Done) (e .same (q .0))
+          ∙ ap (λ (k : ℕ). ends k (pastOf 2 t) ram Done) n,
+      past-register t (f .from) ∙ e .from ∙ up-passed f (getRegister s Long (f .from)) (suc i) up
+          ∙ ap (λ (k : ℕ). (getRegister s Long (f .from) + k * bytesOf (f .size)) % 2 ^ 32) n,
+      past-count t ∙ omega (arith, bc),
+      past-flags t ∙ e .equal q,
+      past-counter t (s .counter) (e .counter),
+    )
 
 -- the last round of as many as the counter says
 last-of : (s : State) → suc (countOf s - 1) ≡ countOf s
@@ -89,17 +90,18 @@ search-fails f s ram rom a c up there none =
     let x = repeat-ends j 0 f s ram rom a (omega arith) k (λ i h. none i (omega arith)) (inl n) in
     let t = x .0 in
     let e = x .2 in
-    let bc = e .bc in
-    (pastOf 2 t,
-     ap (λ (y : ℕ). runOf y s ram rom) (sym n)
-     ∙ ended-steps j f s ram rom t (x .1) a (omega arith) e
-     ∙ ap (λ (m : List ℕ). ends (suc j) (pastOf 2 t) m Done) (e .same c)
-     ∙ ap (λ (y : ℕ). ends y (pastOf 2 t) ram Done) n,
-     past-register t (f .from) ∙ e .from ∙ up-passed f (getRegister s Long (f .from)) (suc j) up
-     ∙ ap (λ (y : ℕ). (getRegister s Long (f .from) + y * bytesOf (f .size)) % 2 ^ 32) n,
-     past-count t ∙ omega (arith, bc, n),
-     past-flags t ∙ e .unequal c (none j (omega arith)),
-     past-counter t (s .counter) (e .counter))
+    let bc = e .bc in (
+      pastOf 2 t,
+      ap (λ (y : ℕ). runOf y s ram rom) (sym n)
+          ∙ ended-steps j f s ram rom t (x .1) a (omega arith) e
+          ∙ ap (λ (m : List ℕ). ends (suc j) (pastOf 2 t) m Done) (e .same c)
+          ∙ ap (λ (y : ℕ). ends y (pastOf 2 t) ram Done) n,
+      past-register t (f .from) ∙ e .from ∙ up-passed f (getRegister s Long (f .from)) (suc j) up
+          ∙ ap (λ (y : ℕ). (getRegister s Long (f .from) + y * bytesOf (f .size)) % 2 ^ 32) n,
+      past-count t ∙ omega (arith, bc, n),
+      past-flags t ∙ e .unequal c (none j (omega arith)),
+      past-counter t (s .counter) (e .counter),
+    )
 
 pub copy-ends : CopyEnds
 copy-ends f s ram rom a c there writable spared =
@@ -109,12 +111,14 @@ copy-ends f s ram rom a c there writable spared =
     let x = repeat-ends j 0 f s ram rom a (omega arith) k (copy-none j f s ram rom c) (inl n) in
     let t = x .0 in
     let e = x .2 in
-    let bc = e .bc in
-    (pastOf 2 t, x .1,
-     ap (λ (y : ℕ). runOf y s ram rom) (sym n)
-     ∙ ended-steps j f s ram rom t (x .1) a (omega arith) e
-     ∙ ap (λ (y : ℕ). ends y (pastOf 2 t) (x .1) Done) n,
-     past-register t (f .from) ∙ e .from ∙ ap (passed f (getRegister s Long (f .from))) n,
-     past-register t (f .to) ∙ e .to c ∙ ap (passed f (getRegister s Long (f .to))) n,
-     past-count t ∙ omega (arith, bc, n),
-     past-counter t (s .counter) (e .counter))
+    let bc = e .bc in (
+      pastOf 2 t,
+      x .1,
+      ap (λ (y : ℕ). runOf y s ram rom) (sym n)
+          ∙ ended-steps j f s ram rom t (x .1) a (omega arith) e
+          ∙ ap (λ (y : ℕ). ends y (pastOf 2 t) (x .1) Done) n,
+      past-register t (f .from) ∙ e .from ∙ ap (passed f (getRegister s Long (f .from))) n,
+      past-register t (f .to) ∙ e .to c ∙ ap (passed f (getRegister s Long (f .to))) n,
+      past-count t ∙ omega (arith, bc, n),
+      past-counter t (s .counter) (e .counter),
+    )
