@@ -48,9 +48,13 @@ setSlot s t v = withLong s (t .index) (setBits (startOf (t .part)) (widthOf (t .
 abbrev pub indexOf : ℕ → ℕ → ℕ
 indexOf bank code = cond (ltb code 4) (4 * bank + code) (12 + code)
 
+-- the high byte of a word has an even code, the low byte an odd one
+abbrev pub bytePart : ℕ → Part
+bytePart code = cond (eqb (code % 2) 0) Byte1 Byte0
+
 -- Byte: W A B C D E H L, the high and the low byte of WA BC DE HL. Word: WA BC DE HL IX IY IZ SP, the low halves. Long: the whole
 unfoldable pub slotOf : ℕ → Size → ℕ → Slot
-slotOf bank Byte code = record { index = 4 * bank + code / 2; part = cond (eqb (code % 2) 0) Byte1 Byte0 }
+slotOf bank Byte code = record { index = 4 * bank + code / 2; part = bytePart code }
 slotOf bank Word code = record { index = indexOf bank code; part = Half0 }
 slotOf bank Long code = record { index = indexOf bank code; part = Whole }
 

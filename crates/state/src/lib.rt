@@ -2,7 +2,7 @@
 ghost use mathlib.Core.Path.{_≡_};
 ghost use Prim.Native.Nat.{_%_, _<_};
 ghost use Rattle.state.specs.State.{zeroState, resetState, flagsValid, validOf, longOf, withLong, withCounter, withBank, withFlags, withBothFlags};
-ghost use Rattle.state.specs.Register.{getBits, setBits, startOf, widthOf, getSlot, setSlot, indexOf, slotOf, getRegister, setRegister};
+ghost use Rattle.state.specs.Register.{getBits, setBits, startOf, widthOf, getSlot, setSlot, indexOf, bytePart, slotOf, getRegister, setRegister};
 use little::Size;
 
 // A bank number: which of the four banks the codes 0 to 3 name.
@@ -221,6 +221,17 @@ fn index_of(bank: usize, code: usize) -> usize
     if code < 4 { 4 * bank + code } else { 12 + code }
 }
 
+// The part of a word that a byte code names: the high byte by an even code, the low byte by an odd one.
+fn byte_part(code: usize) -> Part
+    ensures { λ r. ⌜ r ≡ bytePart code ⌝ }
+{
+    if code % 2 == 0 {
+        Part::Byte1
+    } else {
+        Part::Byte0
+    }
+}
+
 // The slot of the register of a size and a code, in a bank: both numbers are taken modulo what there is.
 pub fn slot_of(bank: Bank, size: Size, code: u8) -> Slot
     ensures { λ r. ⌜ r ≡ slotOf (bank .0 % 4) size (code % 8) ⌝ }
@@ -230,20 +241,10 @@ pub fn slot_of(bank: Bank, size: Size, code: u8) -> Slot
     let m = code % 8;
     let c = m as usize;
     match size {
-        Size::Byte => {
-            let i = 4 * b + c / 2;
-            if c % 2 == 0 {
-                Slot {
-                    index: i,
-                    part: Part::Byte1,
-                }
-            } else {
-                Slot {
-                    index: i,
-                    part: Part::Byte0,
-                }
-            }
-        }
+        Size::Byte => Slot {
+            index: 4 * b + c / 2,
+            part: byte_part(c),
+        },
         Size::Word => Slot {
             index: index_of(b, c),
             part: Part::Half0,

@@ -1,8 +1,5 @@
-use Prim.Native.Nat.{ℕ}
-use mathlib.Core.Path.{ap}
-use borrow.Author.Tests.{eq-eqb, ne-eqb}
+use mathlib.Core.Path.{refl}
 use Rattle.state.specs.Register.{slotOf}
-use Rattle.state.specs.declared.Part.the-variants.{Half0, Whole}
 use borrow.Author.Needs.{needs}
 use Rattle.state.proofs.slot_of.Statement.{statement}
 use Rattle.state.proofs.slot_of.Tie as tie
@@ -16,11 +13,14 @@ cast-c c = search needs
 enum-told : tie.Need-enum-told
 enum-told c = search needs
 
-mul-i : tie.Need-mul-i
-mul-i c = search needs
+mul-t9 : tie.Need-mul-t9
+mul-t9 c = search needs
 
-add-i : tie.Need-add-i
-add-i c = search needs
+add-t11 : tie.Need-add-t11
+add-t11 c = search needs
+
+byte-part-requires : tie.Need-byte-part-requires
+byte-part-requires c κs = search needs
 
 enum-told-2 : tie.Need-enum-told-2
 enum-told-2 c = search needs
@@ -36,19 +36,15 @@ index-of-requires-2 c κs = search needs
 
 returns : tie.Need-returns
 unfolding slotOf
-returns c = rw (c .before .enum-told .given .1) (simp (eq-eqb _ _ (c .if1 .taken)))
+returns c = rw (c .before .enum-told .given .1, c .byte-part .ensures) refl
 
 returns-2 : tie.Need-returns-2
 unfolding slotOf
-returns-2 c = rw (c .before .enum-told .given .1) (simp (ne-eqb _ _ (c .if1 .left)))
+returns-2 c = rw (c .before .enum-told2 .given .1, c .index-of .ensures) refl
 
 returns-3 : tie.Need-returns-3
 unfolding slotOf
-returns-3 c = rw (c .before .enum-told2 .given .1) (ap (λ (i : ℕ). record { index = i; part = Half0 }) (c .index-of .ensures))
-
-returns-4 : tie.Need-returns-4
-unfolding slotOf
-returns-4 c = rw (c .before .enum-told3 .given .1) (ap (λ (i : ℕ). record { index = i; part = Whole }) (c .index-of2 .ensures))
+returns-3 c = rw (c .before .enum-told3 .given .1, c .index-of2 .ensures) refl
 
 pub slot-of-spec : {M : Type 1} → statement M
 slot-of-spec =
@@ -57,13 +53,13 @@ slot-of-spec =
     cast-b
     cast-c
     enum-told
-    mul-i
-    add-i
+    mul-t9
+    add-t11
+    byte-part-requires
     enum-told-2
     index-of-requires
     enum-told-3
     index-of-requires-2
     returns
     returns-2
-    returns-3
-    returns-4)
+    returns-3)
