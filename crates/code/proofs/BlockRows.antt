@@ -1,18 +1,18 @@
 -- Laws of the copies and compares: the byte 10 to 17 after a form (R).
-use Prim.Native.Nat.{ℕ, zero, suc, _+_, _*_, _/_, _%_, _≤_, _<_}
+use Prim.Native.Nat.{ℕ, _+_, _/_, _%_, _≤_, _<_}
 use mathlib.Core.Path.{_≡_, refl, ap, _∙_}
 use mathlib.Core.Bool.{Bool, true, false, cond}
 use mathlib.Core.List.{List, [], _∷_, _++_}
 use native.Mathlib.Omega.{arith}
 use lib.Dec.{leb, eqb}
-use borrow.Author.Tests.{eq-eqb, ne-eqb, le-leb, lt-leb}
+use borrow.Author.Tests.{ne-eqb, le-leb, lt-leb}
 use Rattle.little.specs.declared.Size.{Size}
 use Rattle.little.specs.declared.Size.the-variants.{Byte, Word, Long}
 use Rattle.code.specs.declared.Base.the-variants.{Indirect}
 use Rattle.code.specs.declared.Operand.{Operand}
 use Rattle.code.specs.declared.Decoded.{Decoded}
-use Rattle.code.specs.Said.{Said, whole, unlisted, judge}
-use Rattle.code.specs.Rows.{Row, has, lookup, byRows}
+use Rattle.code.specs.Said.{Said, unlisted, judge}
+use Rattle.code.specs.Rows.{Row, has, lookup}
 use Rattle.code.specs.Memory.{form, memoryRows, copies, compares, copy, compare, blocks, blockRows, indirectRows}
 use Rattle.code.proofs.Groups.{in-group}
 

@@ -1,6 +1,6 @@
 -- What holds of every instruction that may still come, after the bytes so far.
-use Prim.Native.Nat.{ℕ, zero, suc, _+_, _≤_, _<_, _^_}
-use mathlib.Core.Path.{_≡_, refl, ap, subst}
+use Prim.Native.Nat.{ℕ, _+_, _≤_, _<_}
+use mathlib.Core.Path.{_≡_, refl, subst}
 use mathlib.Core.Bool.{Bool, true, false, cond}
 use mathlib.Core.List.{List, [], _∷_, _++_}
 use native.Mathlib.Omega.{arith}
@@ -12,8 +12,9 @@ use Rattle.code.specs.declared.Operand.{Operand}
 use Rattle.code.specs.declared.Instruction.{Instruction}
 use Rattle.code.specs.declared.Decoded.{Decoded}
 use Rattle.code.specs.declared.Decoded.the-variants.{Whole, Short, Unlisted}
-use Rattle.code.specs.Said.{Said, whole, unlisted, next, number, judge, wholeOf}
+use Rattle.code.specs.Said.{Said, whole, unlisted, next, number, judge}
 use Rattle.code.specs.Rows.{Row, has, lookup}
+use Rattle.code.proofs.AllRows.{AllRows, in-rows, both-rows as join}
 use Rattle.code.proofs.Prefix.{after-next, after-number}
 
 -- of a number in so many bytes it is known that it is fit; P is of an instruction and its length
@@ -24,26 +25,15 @@ module _ (fit : ℕ → ℕ → Type 0) (P : ℕ → Op → Size → Operand →
   Every (next f) i = (b : ℕ) → fit 1 b → Every (f b) (i + 1)
   Every (number n f) i = (v : ℕ) → fit n v → Every (f v) (i + n)
 
-  -- row by row: a byte that the row is for says something of which it holds
+  -- row by row
   abbrev pub EveryRow : List Row → ℕ → Type 0
-  EveryRow [] i = Unit {0}
-  EveryRow (r ∷ rs) i = ((b : ℕ) → has (r .bytes) b ≡ true → fit 1 b → Every (r .says b) i) × EveryRow rs i
-
-  in-rows : (rs : List Row) (i : ℕ) → EveryRow rs i → (b : ℕ) → fit 1 b → Every (lookup rs b) i
-  unfolding lookup
-  in-rows [] i e b h = tt
-  in-rows (r ∷ rs) i e b h = go (has (r .bytes) b) refl (in-rows rs i (e .1) b h)
-    where
-      go : (t : Bool) → has (r .bytes) b ≡ t → Every (lookup rs b) i → Every (cond t (r .says b) (lookup rs b)) i
-      go true a f = e .0 b a h
-      go false a f = f
+  EveryRow rs i = AllRows (λ b j. fit 1 b → Every j i) rs
 
   pub both-rows : (xs ys : List Row) (i : ℕ) → EveryRow xs i → EveryRow ys i → EveryRow (xs ++ ys) i
-  both-rows [] ys i e f = f
-  both-rows (x ∷ xs) ys i e f = (e .0, both-rows xs ys i (e .1) f)
+  both-rows xs ys i e f = join (λ b j. fit 1 b → Every j i) xs ys e f
 
   pub by-rows : (rs : List Row) (i : ℕ) → EveryRow rs (i + 1) → Every (next (lookup rs)) i
-  by-rows rs i e b h = in-rows rs (i + 1) e b h
+  by-rows rs i e b h = in-rows (λ b j. fit 1 b → Every j (i + 1)) (λ b h. tt) rs e b h
 
   abbrev At : Decoded → Type 0
   At (Whole y) = P (y .length) (y .op) (y .size) (y .operand)

@@ -1,6 +1,6 @@
 -- Laws of judging: one byte more, a number, and rows that say the same.
-use Prim.Native.Nat.{ℕ, zero, suc, _+_, _*_, _≤_, _<_}
-use mathlib.Core.Path.{_≡_, refl, sym, _∙_}
+use Prim.Native.Nat.{ℕ, suc, _+_, _*_, _≤_, _<_}
+use mathlib.Core.Path.{_≡_, refl, _∙_}
 use mathlib.Core.List.{List, [], _∷_}
 use native.Mathlib.Omega.{arith}
 use native.Mathlib.Numerals.{add-one}
@@ -19,7 +19,7 @@ use Rattle.code.specs.declared.Found.the-variants.{Value, Missing}
 use Rattle.code.specs.declared.Decoded.{Decoded}
 use Rattle.code.specs.declared.Decoded.the-variants.{Short, Unlisted}
 use Rattle.code.specs.Said.{Said, whole, next, number, judge, numberAt, withFound, valueIn, wholeOf}
-use Rattle.code.specs.Rows.{Row, run, _⇒_, lookup, byRows}
+use Rattle.code.specs.Rows.{run, _⇒_, lookup, byRows}
 
 module _ (f : ℕ → Said) (s : List ℕ) (i : ℕ) where
   pub next-there : (d : Decoded) → i < length s → d ≡ judge (f (getD s i 0)) s (i + 1) → d ≡ judge (next f) s i

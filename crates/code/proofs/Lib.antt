@@ -5,5 +5,9 @@ pub mod RegisterRows
 pub mod MemoryRows
 pub mod BlockRows
 pub mod Prefix
+pub mod AllRows
 pub mod Every
 pub mod Ranges
+pub mod Begins
+pub mod Keeps
+pub mod Kept

@@ -1,13 +1,13 @@
 -- Laws of the byte after a memory form's address, group by group.
-use Prim.Native.Nat.{ℕ, zero, suc, _+_, _*_, _/_, _%_, _≤_, _<_}
+use Prim.Native.Nat.{ℕ, _/_, _%_, _<_}
 use mathlib.Core.Path.{_≡_, refl}
-use mathlib.Core.List.{List, [], _∷_, _++_}
+use mathlib.Core.List.{List, [], _∷_}
 use types.Run.{OneOf}
 use Rattle.little.specs.declared.Size.{Size}
 use Rattle.little.specs.declared.Size.the-variants.{Byte, Word, Long}
 use Rattle.code.specs.declared.Op.the-variants.{Load, Compute, ComputeInto, Store}
 use Rattle.code.specs.declared.Operand.{Operand}
-use Rattle.code.specs.Said.{Said, whole, unlisted, number}
+use Rattle.code.specs.Said.{whole, unlisted}
 use Rattle.code.specs.Rows.{Row, lookup}
 use Rattle.code.specs.Registers.{arithOf}
 use Rattle.code.specs.Memory.{memoryRows, storeRows}

@@ -1,5 +1,5 @@
 -- Judging reads no further than the bytes that it has judged.
-use Prim.Native.Nat.{ℕ, zero, suc, _+_, _≤_, _<_}
+use Prim.Native.Nat.{ℕ, suc, _+_, _≤_, _<_}
 use mathlib.Core.Path.{_≡_, refl, sym, ap, subst, _∙_}
 use mathlib.Core.Bool.{Bool, true, false, cond}
 use mathlib.Core.List.{List, [], _∷_, _++_}
@@ -47,22 +47,22 @@ module _ (f : ℕ → Said) (s : List ℕ) (i : ℕ) (d : Decoded) (w : Settled 
 
 -- the same two steps in a code that begins with p
 module _ (p q : List ℕ) (i : ℕ) where
-  byte-in : i < length p → getD (p ++ q) i 0 ≡ getD p i 0
+  pub byte-in : i < length p → getD (p ++ q) i 0 ≡ getD p i 0
   byte-in h = List·getD-append p q 0 i h
 
-  value-in : (n : ℕ) → i + n ≤ length p → valueOf (take n (drop i (p ++ q))) ≡ valueOf (take n (drop i p))
+  pub value-in : (n : ℕ) → i + n ≤ length p → valueOf (take n (drop i (p ++ q))) ≡ valueOf (take n (drop i p))
   value-in n h =
       let k : i ≤ length p = omega arith in
       let l : n ≤ length (drop i p) = rw length-drop (omega arith) in
       rw (drop-append-le i p q k, take-append-le n (drop i p) q l)
 
-  longer : (n : ℕ) → n ≤ length p → n ≤ length (p ++ q)
+  pub longer : (n : ℕ) → n ≤ length p → n ≤ length (p ++ q)
   longer n h = rw length-append (omega arith)
 
-step-next : (f : ℕ → Said) (s : List ℕ) (i b : ℕ) → i < length s → getD s i 0 ≡ b → judge (next f) s i ≡ judge (f b) s (i + 1)
+pub step-next : (f : ℕ → Said) (s : List ℕ) (i b : ℕ) → i < length s → getD s i 0 ≡ b → judge (next f) s i ≡ judge (f b) s (i + 1)
 step-next f s i b h e = sym (next-there f s i _ h (ap (λ (c : ℕ). judge (f c) s (i + 1)) (sym e)))
 
-step-number :
+pub step-number :
     (f : ℕ → Said) (s : List ℕ) (i n v : ℕ) → i + n ≤ length s → valueOf (take n (drop i s)) ≡ v →
     judge (number n f) s i ≡ judge (f v) s (i + n)
 step-number f s i n v h e = sym (number-then f s i n v (numberAt s i n) _ refl (sym (number-there s i n v h (sym e))) refl)

@@ -1,34 +1,32 @@
 -- Row by row: an instruction has at most 6 bytes, a copy or a compare has 2, and each code and number is within its range.
-use Prim.Native.Nat.{ℕ, zero, suc, _+_, _/_, _%_, _≤_, _<_, _^_}
+use Prim.Native.Nat.{ℕ, zero, suc, _+_, _%_, _≤_, _<_, _^_}
 use mathlib.Core.Path.{_≡_, refl, ap, _∙_, sym}
 use mathlib.Core.Bool.{Bool, true, false, cond, _&&_}
 use mathlib.Core.List.{List, [], _∷_, _++_}
-use mathlib.Core.Logic.{_⊎_, inl, inr}
+use mathlib.Core.Logic.{inl, inr}
 use native.Mathlib.Omega.{arith}
 use native.Mathlib.Nat.{mod-lt}
 use lib.ListN.{length, getD, take, drop, length-drop}
 use lib.Seq.{length-take-le, getD-drop}
 use lib.Dec.{leb, eqb}
-use borrow.Author.Tests.{leb-true, eqb-true}
+use borrow.Author.Tests.{leb-true}
 use Rattle.little.specs.Bytes.{valueOf}
 use Rattle.little.proofs.Laws.{value-lt}
 use Rattle.little.specs.Width.{bytesOf}
 use Rattle.little.specs.declared.Size.{Size}
 use Rattle.little.specs.declared.Size.the-variants.{Byte, Word, Long}
-use Rattle.code.specs.declared.Form.{Form}
 use Rattle.code.specs.declared.Op.{Op}
-use Rattle.code.specs.declared.Op.the-variants.{Nop, Incf, Decf, Ldf, Rcf, Scf, Ccf, Zcf, Exf, PushF, PopF, Set, Push, Pop, Jp16, Jp24, Call16, Call24, Calr, Ret, Jr, Jrl, LoadConstant, Load, Into, Compute, ComputeInto, ComputeConstant, Inc, Dec, Shifted, Extz, Exts, Store, Block}
-use Rattle.code.specs.declared.Base.{Base}
+use Rattle.code.specs.declared.Op.the-variants.{Extz, Exts}
 use Rattle.code.specs.declared.Base.the-variants.{Indirect, Displaced, Absolute8, Absolute16, Absolute24}
 use Rattle.code.specs.declared.Operand.{Operand}
 use Rattle.code.specs.declared.Operand.the-variants.{Register, Constant, Memory}
-use Rattle.code.specs.Said.{Said, whole, unlisted, next, number}
+use Rattle.code.specs.Said.{whole}
 use Rattle.code.specs.Rows.{Row, lookup, byRows}
 use Rattle.code.specs.Registers.{registerRows, placesRows, notByte, shiftOf}
 use Rattle.code.specs.Memory.{form, memoryRows, storeRows, copies, compares, blocks, blockRows, indirectRows}
 use Rattle.code.specs.Listed.{formWith, absoluteRows, bankNumberRows, bankRows, flagRows, constantRows, stackRows, jumpRows, relativeRows, registerFormRows, memoryFormRows, memoryAtRows, storeFormRows, firstRows, decodeOf}
-use Rattle.code.specs.Range.{InRange, MemoryIn, PlaceIn, BaseIn, NotByte, NotLong, PointersIn, placeBytes, lengthOf}
-use Rattle.code.specs.Laws.{Bytes, LengthFits, LengthIs, Ranges, BlockLength}
+use Rattle.code.specs.Range.{InRange, MemoryIn, PlaceIn, NotByte, NotLong, PointersIn, placeBytes, lengthOf}
+use Rattle.code.specs.Laws.{AllBytes, LengthFits, LengthIs, Ranges, BlockLength}
 use Rattle.code.specs.declared.Instruction.{Instruction}
 use Rattle.code.specs.declared.Decoded.the-variants.{Whole}
 use Rattle.alu.specs.declared.Shift.{Shift}
@@ -37,7 +35,7 @@ use Rattle.code.proofs.Judge.{bytes-bounds}
 use Rattle.code.proofs.Every.{Every, EveryRow, both-rows, by-rows, met}
 
 -- a byte of a run
-run-in : (lo hi b : ℕ) → leb lo b && leb b hi ≡ true → (lo ≤ b) × (b ≤ hi)
+pub run-in : (lo hi b : ℕ) → leb lo b && leb b hi ≡ true → (lo ≤ b) × (b ≤ hi)
 run-in lo hi b = go (leb lo b) (leb b hi) refl refl
   where
     go : (t u : Bool) → leb lo b ≡ t → leb b hi ≡ u → t && u ≡ true → (lo ≤ b) × (b ≤ hi)
@@ -316,25 +314,27 @@ module _ (Y : Type 0) where
       (both-rows Fit Fine memoryAtRows _ 1 memory-at-rows store-form-rows)))))))))
 
 -- ---- a part of bytes is of bytes, and a number in n of them is below 256 to the n
-bytes-take : (n : ℕ) (l : List ℕ) → Bytes l → Bytes (take n l)
+pub bytes-take : (n : ℕ) (l : List ℕ) → AllBytes l → AllBytes (take n l)
 bytes-take zero l y k = omega arith
 bytes-take (suc n) [] y k = y k
 bytes-take (suc n) (b ∷ l) y zero = y 0
 bytes-take (suc n) (b ∷ l) y (suc k) = bytes-take n l (λ j. y (suc j)) k
 
-value-below : (s : List ℕ) (i n : ℕ) → i + n ≤ length s → Bytes s → valueOf (take n (drop i s)) < 256 ^ n
+pub bytes-drop : (i : ℕ) (l : List ℕ) → AllBytes l → AllBytes (drop i l)
+bytes-drop i l y k = rw getD-drop (y (i + k))
+
+value-below : (s : List ℕ) (i n : ℕ) → i + n ≤ length s → AllBytes s → valueOf (take n (drop i s)) < 256 ^ n
 value-below s i n h y =
     let l : n ≤ length (drop i s) = rw length-drop (omega arith) in
-    let d : Bytes (drop i s) = λ k. rw getD-drop (y (i + k)) in
-    rw (length-take-le n (drop i s) l) at (value-lt (take n (drop i s)) (bytes-take n (drop i s) d))
+    rw (length-take-le n (drop i s) l) at (value-lt (take n (drop i s)) (bytes-take n (drop i s) (bytes-drop i s y)))
 
 -- ---- the statements
 module _ (s : List ℕ) (x : Instruction) (e : decodeOf s ≡ Whole x) where
-  fine : Fine (Bytes s) (x .length) (x .op) (x .size) (x .operand)
+  fine : Fine (AllBytes s) (x .length) (x .op) (x .size) (x .operand)
   unfolding decodeOf
   fine =
-      met (Fit (Bytes s)) (Fine (Bytes s)) s x (λ i h y. y i) (value-below s)
-      (byRows firstRows) 0 (first-rows (Bytes s)) e
+      met (Fit (AllBytes s)) (Fine (AllBytes s)) s x (λ i h y. y i) (value-below s)
+      (byRows firstRows) 0 (first-rows (AllBytes s)) e
 
 pub length-fits : LengthFits
 unfolding decodeOf

@@ -1,16 +1,16 @@
 -- Laws of the byte after a register form's register, group by group.
-use Prim.Native.Nat.{ℕ, zero, suc, _+_, _*_, _/_, _%_, _≤_, _<_}
+use Prim.Native.Nat.{ℕ, _/_, _%_, _≤_, _<_}
 use mathlib.Core.Path.{_≡_, refl}
 use native.Mathlib.Omega.{arith}
-use mathlib.Core.List.{List, [], _∷_, _++_}
+use mathlib.Core.List.{List, [], _∷_}
 use types.Run.{OneOf}
 use Rattle.little.specs.declared.Size.{Size}
-use Rattle.little.specs.declared.Size.the-variants.{Byte, Word, Long}
-use Rattle.code.specs.declared.Op.the-variants.{Load, Into, Compute, ComputeConstant, LoadConstant, Inc, Dec, Shifted, Extz, Exts}
+use Rattle.little.specs.declared.Size.the-variants.{Word, Long}
+use Rattle.code.specs.declared.Op.the-variants.{Load, Into, Compute, ComputeConstant, Inc, Dec}
 use Rattle.code.specs.declared.Op.{Op}
 use Rattle.code.specs.declared.Operand.{Operand}
 use Rattle.code.specs.declared.Decoded.{Decoded}
-use Rattle.code.specs.Said.{Said, whole, unlisted, number, judge, wholeOf}
+use Rattle.code.specs.Said.{whole, unlisted, number, judge, wholeOf}
 use Rattle.code.specs.Rows.{lookup, byRows}
 use Rattle.code.specs.Registers.{registerRows, placesRows, arithOf, shiftOf, notByte}
 use Rattle.little.specs.Width.{bytesOf}

@@ -9,10 +9,11 @@ use Rattle.code.specs.declared.Instruction.{Instruction}
 use Rattle.code.specs.declared.Decoded.the-variants.{Whole, Short, Unlisted}
 use Rattle.code.specs.Listed.{decodeOf}
 use Rattle.code.specs.Range.{InRange, lengthOf}
+use Rattle.code.specs.Written.{codeOf}
 
 -- all are bytes
-abbrev pub Bytes : List ℕ → Type 0
-Bytes s = (k : ℕ) → getD s k 0 < 256
+abbrev pub AllBytes : List ℕ → Type 0
+AllBytes s = (k : ℕ) → getD s k 0 < 256
 
 -- an instruction has 1 to 6 bytes, and they are all there
 abbrev pub LengthFits : Type 0
@@ -40,15 +41,25 @@ UnlistedStays = (s t : List ℕ) → decodeOf s ≡ Unlisted → decodeOf (s ++ 
 
 -- bytes that are refused as short do begin a listed instruction
 abbrev pub ShortBegins : Type 0
-ShortBegins = (s : List ℕ) → decodeOf s ≡ Short → (t : List ℕ) × (i : Instruction) × (Bytes t) × (decodeOf (s ++ t) ≡ Whole i)
+ShortBegins = (s : List ℕ) → decodeOf s ≡ Short → (t : List ℕ) × (i : Instruction) × (AllBytes t) × (decodeOf (s ++ t) ≡ Whole i)
 
 -- each code and number is within its range
 abbrev pub Ranges : Type 0
-Ranges = (s : List ℕ) (i : Instruction) → Bytes s → decodeOf s ≡ Whole i → InRange (i .op) (i .size) (i .operand)
+Ranges = (s : List ℕ) (i : Instruction) → AllBytes s → decodeOf s ≡ Whole i → InRange (i .op) (i .size) (i .operand)
 
 -- the length is that of the operation and its operand
 abbrev pub LengthIs : Type 0
 LengthIs = (s : List ℕ) (i : Instruction) → decodeOf s ≡ Whole i → i .length ≡ lengthOf (i .op) (i .size) (i .operand)
+
+-- an instruction keeps all that its bytes said
+abbrev pub KeepsBytes : Type 0
+KeepsBytes = (s : List ℕ) (i : Instruction) → AllBytes s → decodeOf s ≡ Whole i → take (i .length) s ≡ codeOf (i .op) (i .size) (i .operand)
+
+-- no two codes are the same instruction
+abbrev pub NoTwins : Type 0
+NoTwins =
+    (s t : List ℕ) (i : Instruction) → AllBytes s → AllBytes t → decodeOf s ≡ Whole i → decodeOf t ≡ Whole i →
+    take (i .length) s ≡ take (i .length) t
 
 -- a copy or a compare has two bytes
 abbrev pub BlockLength : Type 0

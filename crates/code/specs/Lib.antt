@@ -4,4 +4,6 @@ pub mod Registers
 pub mod Memory
 pub mod Listed
 pub mod Range
+pub mod Written
 pub mod Laws
+pub mod Examples

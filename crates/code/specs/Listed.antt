@@ -1,5 +1,5 @@
 -- The listed codes, bullet by bullet, and the decoder.
-use Prim.Native.Nat.{ℕ, zero, suc, _+_, _%_}
+use Prim.Native.Nat.{ℕ, _+_, _%_}
 use mathlib.Core.List.{List, [], _∷_, _++_}
 use Rattle.little.specs.declared.Size.{Size}
 use Rattle.little.specs.declared.Size.the-variants.{Byte, Word, Long}
@@ -8,10 +8,10 @@ use Rattle.code.specs.declared.Op.the-variants.{Nop, Incf, Decf, Ldf, Rc
 use Rattle.code.specs.declared.Base.{Base}
 use Rattle.code.specs.declared.Base.the-variants.{Indirect, Displaced, Absolute8, Absolute16, Absolute24}
 use Rattle.code.specs.declared.Operand.{Operand}
-use Rattle.code.specs.declared.Operand.the-variants.{Register, Constant, Memory}
+use Rattle.code.specs.declared.Operand.the-variants.{Register, Constant}
 use Rattle.code.specs.declared.Decoded.{Decoded}
-use Rattle.code.specs.Said.{Said, whole, unlisted, number, judge}
-use Rattle.code.specs.Rows.{Bytes, one, run, Row, _⇒_, lookup, byRows}
+use Rattle.code.specs.Said.{Said, whole, number, judge}
+use Rattle.code.specs.Rows.{one, run, Row, _⇒_, byRows}
 use Rattle.code.specs.Registers.{registerRows}
 use Rattle.code.specs.Memory.{form, memoryRows, storeRows, indirectRows}
 
@@ -125,6 +125,7 @@ storeFormRows =
     ∷ (run 0xB8 0xBF ⇒ λ b. formWith (Displaced (b % 8)) 1 storeRows)
     ∷ absoluteRows 0xF0 storeRows
 
+-- the first byte: all bullets; a new list stands at the end
 unfoldable pub firstRows : List Row
 firstRows =
     bankRows

@@ -1,19 +1,18 @@
 -- The byte after a memory form's address.
-use Prim.Native.Nat.{ℕ, zero, suc, _/_, _%_}
+use Prim.Native.Nat.{ℕ, _/_, _%_}
 use mathlib.Core.List.{List, [], _∷_, _++_}
 use mathlib.Core.Bool.{Bool, true, false, cond}
 use lib.Dec.{leb, eqb}
 use Rattle.little.specs.declared.Size.{Size}
 use Rattle.little.specs.declared.Size.the-variants.{Byte, Word, Long}
 use Rattle.code.specs.declared.Form.{Form}
-use Rattle.code.specs.declared.Op.{Op}
 use Rattle.code.specs.declared.Op.the-variants.{Load, Compute, ComputeInto, Store, Block}
 use Rattle.code.specs.declared.Base.{Base}
 use Rattle.code.specs.declared.Base.the-variants.{Indirect}
 use Rattle.code.specs.declared.Operand.{Operand}
 use Rattle.code.specs.declared.Operand.the-variants.{Memory}
-use Rattle.code.specs.Said.{Said, whole, unlisted}
-use Rattle.code.specs.Rows.{Bytes, one, run, columns, Row, _⇒_}
+use Rattle.code.specs.Said.{Said, whole}
+use Rattle.code.specs.Rows.{one, run, columns, Row, _⇒_}
 use Rattle.code.specs.Registers.{arithOf}
 
 -- 20+R load; 80, 90 .. F0 +R: ADD .. CP of R with memory; 88, 98 .. F8 +R the same, memory with R
@@ -32,6 +31,7 @@ storeRows o =
     ∷ (run 0x60 0x67 ⇒ λ b. whole (Store (b % 8)) Long o)
     ∷ []
 
+-- a memory form: where the address comes from, and the number in the code
 abbrev pub form : Base → ℕ → Operand
 form base v = Memory (record { base = base; number = v })
 

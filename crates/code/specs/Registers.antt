@@ -8,11 +8,10 @@ use Rattle.alu.specs.declared.Arith.{Arith}
 use Rattle.alu.specs.declared.Arith.the-variants.{Add, Adc, Sub, Sbc, And, Xor, Or, Cp}
 use Rattle.alu.specs.declared.Shift.{Shift}
 use Rattle.alu.specs.declared.Shift.the-variants.{Sla, Sra, Sll, Srl}
-use Rattle.code.specs.declared.Op.{Op}
 use Rattle.code.specs.declared.Op.the-variants.{LoadConstant, Load, Into, Compute, ComputeConstant, Inc, Dec, Shifted, Extz, Exts}
 use Rattle.code.specs.declared.Operand.{Operand}
 use Rattle.code.specs.Said.{Said, whole, unlisted, number}
-use Rattle.code.specs.Rows.{Bytes, one, run, columns, Row, _⇒_, byRows}
+use Rattle.code.specs.Rows.{one, run, columns, Row, _⇒_, byRows}
 
 -- ADD ADC SUB SBC AND XOR OR CP by number, 0 to 7
 abbrev pub arithOf : ℕ → Arith

@@ -1,7 +1,7 @@
 -- A list of codes as data: a row has the bytes that it is for, and what each of them says.
 use Prim.Native.Nat.{ℕ, _/_, _%_}
 use mathlib.Core.List.{List, [], _∷_}
-use mathlib.Core.Bool.{Bool, true, false, cond, _&&_}
+use mathlib.Core.Bool.{Bool, cond, _&&_}
 use lib.Dec.{leb, eqb}
 use Rattle.code.specs.Said.{Said, unlisted, next}
 

@@ -35,7 +35,7 @@ fn with_constant(code: &[u8], op: Op, size: Size, n: usize) -> Decoded
     )
 }
 
-// A load of a constant of the register's size.
+// Loads of a constant of the register's size: 20 to 27, 30 to 37, 40 to 47.
 fn set(code: &[u8], r: u8, size: Size) -> Decoded
     ensures { λ d. ⌜ d ≡ judge (withConstant (Op.Set r) size (bytesOf size)) (now (code .entry)) 1 ⌝ }
 {
@@ -54,27 +54,52 @@ fn jump(code: &[u8], op: Op, n: usize) -> Decoded
 fn stack(op: Op, size: Size, r: u8) -> Decoded
     ensures { λ d. ⌜ ((s : List ℕ) → d ≡ judge (cond (ltb r 7) (Said.whole op size (Operand.Register r)) Said.unlisted) s 1) ⌝ }
 {
-    if r < 7 {
-        crate::whole(op, size, Operand::Register(r), 1)
-    } else {
-        Decoded::Unlisted
+    if 7 <= r {
+        return Decoded::Unlisted;
     }
+    crate::whole(op, size, Operand::Register(r), 1)
+}
+
+// Pushes: 28 to 2E, 38 to 3E.
+fn push(r: u8, size: Size) -> Decoded
+    ensures { λ d. ⌜ ((s : List ℕ) → d ≡ judge (cond (ltb r 7) (Said.whole Op.Push size (Operand.Register r)) Said.unlisted) s 1) ⌝ }
+{
+    stack(Op::Push, size, r)
+}
+
+// Pops: 48 to 4E, 58 to 5E.
+fn pop(r: u8, size: Size) -> Decoded
+    ensures { λ d. ⌜ ((s : List ℕ) → d ≡ judge (cond (ltb r 7) (Said.whole Op.Pop size (Operand.Register r)) Said.unlisted) s 1) ⌝ }
+{
+    stack(Op::Pop, size, r)
+}
+
+// JR: 60 to 6F.
+fn short_jump(code: &[u8], cc: u8) -> Decoded
+    ensures { λ r. ⌜ r ≡ judge (withConstant (Op.Jr cc) Size.Byte 1) (now (code .entry)) 1 ⌝ }
+{
+    jump(code, Op::Jr(cc), 1)
+}
+
+// JRL: 70 to 7F.
+fn long_jump(code: &[u8], cc: u8) -> Decoded
+    ensures { λ r. ⌜ r ≡ judge (withConstant (Op.Jrl cc) Size.Byte 2) (now (code .entry)) 1 ⌝ }
+{
+    jump(code, Op::Jrl(cc), 2)
 }
 
 // LDF, by the byte of its bank.
 fn bank_number(code: &[u8]) -> Decoded
     ensures { λ r. ⌜ r ≡ judge (byRows bankNumberRows) (now (code .entry)) 1 ⌝ }
 {
-    if 1 < code.len() {
-        let n = code[1];
-        if n <= 3 {
-            crate::whole(Op::Ldf, Size::Byte, Operand::Constant(n as u32), 2)
-        } else {
-            Decoded::Unlisted
-        }
-    } else {
-        Decoded::Short
+    if code.len() <= 1 {
+        return Decoded::Short;
     }
+    let n = code[1];
+    if 3 < n {
+        return Decoded::Unlisted;
+    }
+    crate::whole(Op::Ldf, Size::Byte, Operand::Constant(n as u32), 2)
 }
 
 // 00 to 0F.
@@ -129,40 +154,37 @@ pub fn first_case(code: &[u8], b: u8) -> Decoded
     ensures { λ r. ⌜ r ≡ judge (lookup firstRows b) (now (code .entry)) 1 ⌝ }
 {
     let r = b % 8;
-    let byte = Size::Byte;
-    let word = Size::Word;
-    let long = Size::Long;
     match b / 8 {
         0 => case_00(b),
         1 => case_00(b),
         2 => case_10(code, b),
         3 => case_18(code, b),
-        4 => set(code, r, byte),
-        5 => stack(Op::Push, word, r),
-        6 => set(code, r, word),
-        7 => stack(Op::Push, long, r),
-        8 => set(code, r, long),
-        9 => stack(Op::Pop, word, r),
-        11 => stack(Op::Pop, long, r),
-        12 => jump(code, Op::Jr(b % 16), 1),
-        13 => jump(code, Op::Jr(b % 16), 1),
-        14 => jump(code, Op::Jrl(b % 16), 2),
-        15 => jump(code, Op::Jrl(b % 16), 2),
-        16 => crate::memory::indirect(code, r, byte),
-        17 => crate::memory::displaced(code, r, byte, false),
-        18 => crate::memory::indirect(code, r, word),
-        19 => crate::memory::displaced(code, r, word, false),
-        20 => crate::memory::indirect(code, r, long),
-        21 => crate::memory::displaced(code, r, long, false),
+        4 => set(code, r, Size::Byte),
+        5 => push(r, Size::Word),
+        6 => set(code, r, Size::Word),
+        7 => push(r, Size::Long),
+        8 => set(code, r, Size::Long),
+        9 => pop(r, Size::Word),
+        11 => pop(r, Size::Long),
+        12 => short_jump(code, b % 16),
+        13 => short_jump(code, b % 16),
+        14 => long_jump(code, b % 16),
+        15 => long_jump(code, b % 16),
+        16 => crate::memory::indirect(code, r, Size::Byte),
+        17 => crate::memory::displaced(code, r, Size::Byte, false),
+        18 => crate::memory::indirect(code, r, Size::Word),
+        19 => crate::memory::displaced(code, r, Size::Word, false),
+        20 => crate::memory::indirect(code, r, Size::Long),
+        21 => crate::memory::displaced(code, r, Size::Long, false),
         22 => crate::memory::indirect_store(code, r),
-        23 => crate::memory::displaced(code, r, byte, true),
-        24 => crate::memory::absolute(code, r, byte, false),
-        25 => crate::registers::register_form(code, 1, byte, r),
-        26 => crate::memory::absolute(code, r, word, false),
-        27 => crate::registers::register_form(code, 1, word, r),
-        28 => crate::memory::absolute(code, r, long, false),
-        29 => crate::registers::register_form(code, 1, long, r),
-        30 => crate::memory::absolute(code, r, byte, true),
+        23 => crate::memory::displaced(code, r, Size::Byte, true),
+        24 => crate::memory::absolute(code, r, Size::Byte, false),
+        25 => crate::registers::register_form(code, 1, Size::Byte, r),
+        26 => crate::memory::absolute(code, r, Size::Word, false),
+        27 => crate::registers::register_form(code, 1, Size::Word, r),
+        28 => crate::memory::absolute(code, r, Size::Long, false),
+        29 => crate::registers::register_form(code, 1, Size::Long, r),
+        30 => crate::memory::absolute(code, r, Size::Byte, true),
         _ => Decoded::Unlisted,
     }
 }

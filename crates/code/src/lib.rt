@@ -99,7 +99,7 @@ pub enum Decoded {
 }
 
 // A number in the code, or that its bytes are not all there.
-pub enum Found {
+enum Found {
     Value(u32),
     Missing,
 }
@@ -181,10 +181,8 @@ fn when_found(found: Found, op: Op, size: Size, operand: Operand, length: usize)
 pub fn decode(code: &[u8]) -> Decoded
     ensures { λ r. ⌜ r ≡ decodeOf (now (code .entry)) ⌝ }
 {
-    if 0 < code.len() {
-        let b = code[0];
-        first::first_case(code, b)
-    } else {
-        Decoded::Short
+    if code.len() == 0 {
+        return Decoded::Short;
     }
+    first::first_case(code, code[0])
 }

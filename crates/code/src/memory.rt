@@ -49,26 +49,28 @@ fn block_case(size: Size, r: u8, c: u8) -> Decoded
         }
         return Decoded::Unlisted;
     }
-    if 2 <= r {
-        block(false, size, r, r, c)
-    } else {
-        Decoded::Unlisted
+    if r < 2 {
+        return Decoded::Unlisted;
     }
+    block(false, size, r, r, c)
 }
 
+// What the byte c says of memory, with `at` bytes read.
 fn memory_case(at: usize, size: Size, operand: Operand, c: u8) -> Decoded
     ensures { λ r. ⌜ ((s : List ℕ) → r ≡ judge (lookup (memoryRows size operand) c) s at) ⌝ }
 {
+    let n = c % 8;
+    let arith = crate::registers::arith_of(c / 16 % 8);
     match c / 8 {
-        4 => crate::whole(Op::Load(c % 8), size, operand, at),
+        4 => crate::whole(Op::Load(n), size, operand, at),
         16 | 18 | 20 | 22 | 24 | 26 | 28 | 30 => crate::whole(
-            Op::Compute(crate::registers::arith_of(c / 16 % 8), c % 8),
+            Op::Compute(arith, n),
             size,
             operand,
             at,
         ),
         17 | 19 | 21 | 23 | 25 | 27 | 29 | 31 => crate::whole(
-            Op::ComputeInto(crate::registers::arith_of(c / 16 % 8), c % 8),
+            Op::ComputeInto(arith, n),
             size,
             operand,
             at,
@@ -77,13 +79,15 @@ fn memory_case(at: usize, size: Size, operand: Operand, c: u8) -> Decoded
     }
 }
 
+// What the byte c says of a store.
 fn store_case(at: usize, operand: Operand, c: u8) -> Decoded
     ensures { λ r. ⌜ ((s : List ℕ) → r ≡ judge (lookup (storeRows operand) c) s at) ⌝ }
 {
+    let op = Op::Store(c % 8);
     match c / 8 {
-        8 => crate::whole(Op::Store(c % 8), Size::Byte, operand, at),
-        10 => crate::whole(Op::Store(c % 8), Size::Word, operand, at),
-        12 => crate::whole(Op::Store(c % 8), Size::Long, operand, at),
+        8 => crate::whole(op, Size::Byte, operand, at),
+        10 => crate::whole(op, Size::Word, operand, at),
+        12 => crate::whole(op, Size::Long, operand, at),
         _ => Decoded::Unlisted,
     }
 }
@@ -92,16 +96,14 @@ fn store_case(at: usize, operand: Operand, c: u8) -> Decoded
 fn after_address(code: &[u8], at: usize, size: Size, operand: Operand, store: bool) -> Decoded
     ensures { λ r. ⌜ r ≡ judge (byRows (rowsAfter store size operand)) (now (code .entry)) at ⌝ }
 {
-    if at < code.len() {
-        let c = code[at];
-        if store {
-            store_case(at + 1, operand, c)
-        } else {
-            memory_case(at + 1, size, operand, c)
-        }
-    } else {
-        Decoded::Short
+    if code.len() <= at {
+        return Decoded::Short;
     }
+    let c = code[at];
+    if store {
+        return store_case(at + 1, operand, c);
+    }
+    memory_case(at + 1, size, operand, c)
 }
 
 // A form whose number has n bytes.
@@ -162,11 +164,10 @@ fn indirect_case(size: Size, r: u8, c: u8) -> Decoded
 pub fn indirect(code: &[u8], r: u8, size: Size) -> Decoded
     ensures { λ d. ⌜ d ≡ judge (byRows (indirectRows size r)) (now (code .entry)) 1 ⌝ }
 {
-    if 1 < code.len() {
-        indirect_case(size, r, code[1])
-    } else {
-        Decoded::Short
+    if code.len() <= 1 {
+        return Decoded::Short;
     }
+    indirect_case(size, r, code[1])
 }
 
 // A form (R) of a store.

@@ -105,16 +105,14 @@ fn extension(at: usize, size: Size, r: u8, c: u8) -> Decoded
 fn shifted(code: &[u8], at: usize, size: Size, r: u8, shift: Shift) -> Decoded
     ensures { λ d. ⌜ d ≡ judge (byRows (placesRows size (Operand.Register r) shift)) (now (code .entry)) at ⌝ }
 {
-    if at < code.len() {
-        let places = code[at];
-        if places <= 15 {
-            on(r, Op::Shifted(shift, places), size, at + 1)
-        } else {
-            Decoded::Unlisted
-        }
-    } else {
-        Decoded::Short
+    if code.len() <= at {
+        return Decoded::Short;
     }
+    let places = code[at];
+    if 15 < places {
+        return Decoded::Unlisted;
+    }
+    on(r, Op::Shifted(shift, places), size, at + 1)
 }
 
 // EC SLA, ED SRA, EE SLL, EF SRL, and nothing else from E8 to EF.
@@ -122,11 +120,10 @@ fn shift_case(code: &[u8], at: usize, size: Size, r: u8, c: u8) -> Decoded
     requires { ⌜ c / 8 ≡ 29 ⌝ }
     ensures { λ d. ⌜ d ≡ judge (lookup (registerRows size (Operand.Register r)) c) (now (code .entry)) at ⌝ }
 {
-    if 0xEC <= c {
-        shifted(code, at, size, r, shift_of(c % 4))
-    } else {
-        Decoded::Unlisted
+    if c < 0xEC {
+        return Decoded::Unlisted;
     }
+    shifted(code, at, size, r, shift_of(c % 4))
 }
 
 // What the byte c says, with `at` bytes read.
@@ -158,10 +155,8 @@ fn register_case(code: &[u8], at: usize, size: Size, r: u8, c: u8) -> Decoded
 pub fn register_form(code: &[u8], at: usize, size: Size, r: u8) -> Decoded
     ensures { λ d. ⌜ d ≡ judge (byRows (registerRows size (Operand.Register r))) (now (code .entry)) at ⌝ }
 {
-    if at < code.len() {
-        let c = code[at];
-        register_case(code, at + 1, size, r, c)
-    } else {
-        Decoded::Short
+    if code.len() <= at {
+        return Decoded::Short;
     }
+    register_case(code, at + 1, size, r, code[at])
 }

@@ -20,35 +20,35 @@ case-18-requires c κs = search needs
 set-requires : tie.Need-set-requires
 set-requires c κs = search needs
 
-stack-requires : tie.Need-stack-requires
-stack-requires c κs = search needs
+push-requires : tie.Need-push-requires
+push-requires c κs = search needs
 
 set-requires-2 : tie.Need-set-requires-2
 set-requires-2 c κs = search needs
 
-stack-requires-2 : tie.Need-stack-requires-2
-stack-requires-2 c κs = search needs
+push-requires-2 : tie.Need-push-requires-2
+push-requires-2 c κs = search needs
 
 set-requires-3 : tie.Need-set-requires-3
 set-requires-3 c κs = search needs
 
-stack-requires-3 : tie.Need-stack-requires-3
-stack-requires-3 c κs = search needs
+pop-requires : tie.Need-pop-requires
+pop-requires c κs = search needs
 
-stack-requires-4 : tie.Need-stack-requires-4
-stack-requires-4 c κs = search needs
+pop-requires-2 : tie.Need-pop-requires-2
+pop-requires-2 c κs = search needs
 
-jump-requires : tie.Need-jump-requires
-jump-requires c κs = search needs
+short-jump-requires : tie.Need-short-jump-requires
+short-jump-requires c κs = search needs
 
-jump-requires-2 : tie.Need-jump-requires-2
-jump-requires-2 c κs = search needs
+short-jump-requires-2 : tie.Need-short-jump-requires-2
+short-jump-requires-2 c κs = search needs
 
-jump-requires-3 : tie.Need-jump-requires-3
-jump-requires-3 c κs = search needs
+long-jump-requires : tie.Need-long-jump-requires
+long-jump-requires c κs = search needs
 
-jump-requires-4 : tie.Need-jump-requires-4
-jump-requires-4 c κs = search needs
+long-jump-requires-2 : tie.Need-long-jump-requires-2
+long-jump-requires-2 c κs = search needs
 
 indirect-requires : tie.Need-indirect-requires
 indirect-requires c κs = search needs
@@ -111,34 +111,34 @@ returns-5 : tie.Need-returns-5
 returns-5 c = rw (set-byte _ (c .before .match .keys5)) (c .set .ensures)
 
 returns-6 : tie.Need-returns-6
-returns-6 c = rw (push-word _ (c .before .match .keys6)) (c .stack .ensures _)
+returns-6 c = rw (push-word _ (c .before .match .keys6)) (c .push .ensures _)
 
 returns-7 : tie.Need-returns-7
 returns-7 c = rw (set-word _ (c .before .match .keys7)) (c .set2 .ensures)
 
 returns-8 : tie.Need-returns-8
-returns-8 c = rw (push-long _ (c .before .match .keys8)) (c .stack2 .ensures _)
+returns-8 c = rw (push-long _ (c .before .match .keys8)) (c .push2 .ensures _)
 
 returns-9 : tie.Need-returns-9
 returns-9 c = rw (set-long _ (c .before .match .keys9)) (c .set3 .ensures)
 
 returns-10 : tie.Need-returns-10
-returns-10 c = rw (pop-word _ (c .before .match .keys10)) (c .stack3 .ensures _)
+returns-10 c = rw (pop-word _ (c .before .match .keys10)) (c .pop .ensures _)
 
 returns-11 : tie.Need-returns-11
-returns-11 c = rw (pop-long _ (c .before .match .keys11)) (c .stack4 .ensures _)
+returns-11 c = rw (pop-long _ (c .before .match .keys11)) (c .pop2 .ensures _)
 
 returns-12 : tie.Need-returns-12
-returns-12 c = rw (jump-short-0 _ (c .before .match .keys12)) (c .jump .ensures)
+returns-12 c = rw (jump-short-0 _ (c .before .match .keys12)) (c .short-jump .ensures)
 
 returns-13 : tie.Need-returns-13
-returns-13 c = rw (jump-short-1 _ (c .before .match .keys13)) (c .jump2 .ensures)
+returns-13 c = rw (jump-short-1 _ (c .before .match .keys13)) (c .short-jump2 .ensures)
 
 returns-14 : tie.Need-returns-14
-returns-14 c = rw (jump-long-0 _ (c .before .match .keys14)) (c .jump3 .ensures)
+returns-14 c = rw (jump-long-0 _ (c .before .match .keys14)) (c .long-jump .ensures)
 
 returns-15 : tie.Need-returns-15
-returns-15 c = rw (jump-long-1 _ (c .before .match .keys15)) (c .jump4 .ensures)
+returns-15 c = rw (jump-long-1 _ (c .before .match .keys15)) (c .long-jump2 .ensures)
 
 returns-16 : tie.Need-returns-16
 returns-16 c = rw (indirect-byte _ (c .before .match .keys16)) (c .indirect .ensures)
@@ -198,16 +198,16 @@ first-case-spec =
     case-10-requires
     case-18-requires
     set-requires
-    stack-requires
+    push-requires
     set-requires-2
-    stack-requires-2
+    push-requires-2
     set-requires-3
-    stack-requires-3
-    stack-requires-4
-    jump-requires
-    jump-requires-2
-    jump-requires-3
-    jump-requires-4
+    pop-requires
+    pop-requires-2
+    short-jump-requires
+    short-jump-requires-2
+    long-jump-requires
+    long-jump-requires-2
     indirect-requires
     displaced-requires
     indirect-requires-2

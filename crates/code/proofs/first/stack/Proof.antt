@@ -4,16 +4,16 @@ use Rattle.code.specs.Said.{judge}
 use Rattle.code.proofs.first.stack.Statement.{statement}
 use Rattle.code.proofs.first.stack.Tie as tie
 
+returns : tie.Need-returns
+unfolding judge
+returns c = λ s. simp (le-ltb _ _ (c .if1 .taken))
+
 whole-requires : tie.Need-whole-requires
 whole-requires c κs = search needs
 
-returns : tie.Need-returns
-unfolding judge
-returns c = λ s. simp (lt-ltb _ _ (c .before .if1 .taken)) (c .whole .ensures)
-
 returns-2 : tie.Need-returns-2
 unfolding judge
-returns-2 c = λ s. simp (le-ltb _ _ (c .if1 .left))
+returns-2 c = λ s. simp (lt-ltb _ _ (c .before .if1 .left)) (c .whole .ensures)
 
 pub stack-spec : {M : Type 1} → statement M
-stack-spec = tie.close (tie.spec whole-requires returns returns-2)
+stack-spec = tie.close (tie.spec returns whole-requires returns-2)

@@ -23,16 +23,16 @@ returns-3 : tie.Need-returns-3
 unfolding judge
 returns-3 c = λ s. rw (no-copies _ _ _ _ (c .before .before .before .pre) (omega arith) (c .before .if2 .left) (c .if3 .left))
 
+returns-4 : tie.Need-returns-4
+unfolding judge
+returns-4 c = λ s. rw (no-compares _ _ _ _ (c .before .before .pre) (omega arith) (c .if4 .taken))
+
 block-requires-3 : tie.Need-block-requires-3
 block-requires-3 c κs = search needs
 
-returns-4 : tie.Need-returns-4
-unfolding judge
-returns-4 c = λ s. rw (compares-r _ _ _ _ (c .before .before .before .pre) (omega arith) (c .before .if4 .taken)) (c .block3 .ensures)
-
 returns-5 : tie.Need-returns-5
 unfolding judge
-returns-5 c = λ s. rw (no-compares _ _ _ _ (c .before .before .pre) (omega arith) (c .if4 .left))
+returns-5 c = λ s. rw (compares-r _ _ _ _ (c .before .before .before .pre) (omega arith) (c .before .if4 .left)) (c .block3 .ensures)
 
 pub block-case-spec : {M : Type 1} → statement M
 block-case-spec =
@@ -43,6 +43,6 @@ block-case-spec =
     block-requires-2
     returns-2
     returns-3
-    block-requires-3
     returns-4
+    block-requires-3
     returns-5)

@@ -6,17 +6,14 @@ use Rattle.code.specs.Said.{judge}
 use Rattle.code.proofs.memory.memory_case.Statement.{statement}
 use Rattle.code.proofs.memory.memory_case.Tie as tie
 
-whole-requires : tie.Need-whole-requires
-whole-requires c κs = search needs
-
 arith-of-requires : tie.Need-arith-of-requires
 arith-of-requires c κs = search needs
 
+whole-requires : tie.Need-whole-requires
+whole-requires c κs = search needs
+
 whole-requires-2 : tie.Need-whole-requires-2
 whole-requires-2 c κs = search needs
-
-arith-of-requires-2 : tie.Need-arith-of-requires-2
-arith-of-requires-2 c κs = search needs
 
 whole-requires-3 : tie.Need-whole-requires-3
 whole-requires-3 c κs = search needs
@@ -27,11 +24,11 @@ returns c = λ s. rw (load _ _ _ (c .before .match .keys1)) (c .whole .ensures)
 
 returns-2 : tie.Need-returns-2
 unfolding judge
-returns-2 c = λ s. rw (compute _ _ _ (c .before .before .match .keys2)) (c .whole2 .ensures ∙ rw (c .before .arith-of .ensures))
+returns-2 c = λ s. rw (compute _ _ _ (c .before .match .keys2)) (c .whole2 .ensures ∙ rw (c .before .before .arith-of .ensures))
 
 returns-3 : tie.Need-returns-3
 unfolding judge
-returns-3 c = λ s. rw (compute-into _ _ _ (c .before .before .match .keys3)) (c .whole3 .ensures ∙ rw (c .before .arith-of2 .ensures))
+returns-3 c = λ s. rw (compute-into _ _ _ (c .before .match .keys3)) (c .whole3 .ensures ∙ rw (c .before .before .arith-of .ensures))
 
 returns-4 : tie.Need-returns-4
 unfolding judge
@@ -41,10 +38,9 @@ pub memory-case-spec : {M : Type 1} → statement M
 memory-case-spec =
     tie.close
     (tie.spec
-    whole-requires
     arith-of-requires
+    whole-requires
     whole-requires-2
-    arith-of-requires-2
     whole-requires-3
     returns
     returns-2

@@ -6,18 +6,18 @@ use Rattle.code.specs.Said.{judge}
 use Rattle.code.proofs.registers.shift_case.Statement.{statement}
 use Rattle.code.proofs.registers.shift_case.Tie as tie
 
+returns : tie.Need-returns
+unfolding judge
+returns c = rw (no-shift _ _ (c .before .before .args .c) (omega arith) (omega arith))
+
 shift-of-requires : tie.Need-shift-of-requires
 shift-of-requires c κs = search needs
 
 shifted-requires : tie.Need-shifted-requires
 shifted-requires c κs = search needs
 
-returns : tie.Need-returns
-returns c = rw (shift _ _ (c .before .before .before .before .args .c) (omega arith) (omega arith)) (c .shifted .ensures ∙ rw (c .before .shift-of .ensures))
-
 returns-2 : tie.Need-returns-2
-unfolding judge
-returns-2 c = rw (no-shift _ _ (c .before .before .args .c) (omega arith) (omega arith))
+returns-2 c = rw (shift _ _ (c .before .before .before .before .args .c) (omega arith) (omega arith)) (c .shifted .ensures ∙ rw (c .before .shift-of .ensures))
 
 pub shift-case-spec : {M : Type 1} → statement M
-shift-case-spec = tie.close (tie.spec shift-of-requires shifted-requires returns returns-2)
+shift-case-spec = tie.close (tie.spec returns shift-of-requires shifted-requires returns-2)
