@@ -2,18 +2,17 @@
 use Prim.Native.Nat.{ℕ, _+_, _-_, _/_, _%_, _^_, _<_, _≤_}
 use mathlib.Core.Path.{_≡_, refl, ap, sym, _∙_}
 use mathlib.Core.List.{List}
-use mathlib.Core.Bool.{Bool, true, false, cond}
+use mathlib.Core.Bool.{Bool, true, false}
 use native.Mathlib.Omega.{arith}
 use native.Mathlib.Nat.{add-zero, mod-eq-of-lt, add-mod-right}
 use lib.Dec.{ltb}
-use lib.Pow.{mod-mod-pow, pow-mono, field}
+use lib.Pow.{mod-mod-pow, field}
 use borrow.Author.Tests.{le-leb, lt-leb, ltb-true, ltb-false}
-use Rattle.answer.specs.declared.Answer.{Answer}
 use Rattle.answer.specs.declared.Answer.the-variants.{Done, Refused}
 use Rattle.answer.specs.declared.Why.{Why}
 use Rattle.little.specs.declared.Size.{Size}
-use Rattle.little.specs.declared.Size.the-variants.{Long}
-use Rattle.little.specs.Width.{bytesOf}
+use Rattle.little.specs.declared.Size.the-variants.{Byte, Word, Long}
+use Rattle.little.specs.Width.{bitsOf, bytesOf}
 use Rattle.alu.specs.Flag.{flagsOf}
 use Rattle.memory.specs.Access.{loadOf, storeOf, ramAfter}
 use Rattle.memory.specs.declared.Loaded.the-variants as loaded
@@ -41,14 +40,10 @@ use Rattle.step.specs.Stack.{less, plus, withStack, popOf}
 as-address : (x y : ℕ) → (x + y % 2 ^ 32) % 2 ^ 32 % 2 ^ 24 ≡ (x + y) % 2 ^ 24
 as-address x y = mod-mod-pow (x + y % 2 ^ 32) 8 24 ∙ omega arith
 
-pub displaced-plus : (k x d r : ℕ) → d < 2 ^ (k - 1) → r ≡ (x + d) % 2 ^ 32 → r % 2 ^ 24 ≡ displaced k x d
-displaced-plus k x d r h e = rw (e, lt-leb (2 ^ (k - 1)) d h) (mod-mod-pow (x + d) 8 24 ∙ ap (λ (n : ℕ). n % 2 ^ 24) (sym (add-zero (x + d))))
-
-pub displaced-less :
-    (k x d m r : ℕ) → k ≤ 24 → 2 ^ (k - 1) ≤ d → m ≡ (d + (2 ^ 32 - 2 ^ k)) % 2 ^ 32 → r ≡ (x + m) % 2 ^ 32 → r % 2 ^ 24 ≡ displaced k x d
-displaced-less k x d m r h i e f =
-    let p : 2 ^ k ≤ 2 ^ 24 = pow-mono h in
-    rw (f, e, le-leb (2 ^ (k - 1)) d i) (as-address x (d + (2 ^ 32 - 2 ^ k)) ∙ omega arith)
+pub displaced-plus : (z : Size) (x d h r : ℕ) → h ≡ 2 ^ (bitsOf z - 1) → d < h → r ≡ (x + d) % 2 ^ 32 → r % 2 ^ 24 ≡ displaced (bitsOf z) x d
+displaced-plus z x d h r e l f =
+    let k : d < 2 ^ (bitsOf z - 1) = rw (← e) l in
+    rw (f, lt-leb (2 ^ (bitsOf z - 1)) d k) (mod-mod-pow (x + d) 8 24 ∙ ap (λ (n : ℕ). n % 2 ^ 24) (sym (add-zero (x + d))))
 
 wraps : (p x n r : ℕ) → x < p → n < p → r < p → (r + n) % p ≡ x → (b : Bool) → ltb (r + n) p ≡ b → r ≡ (x + (p - n)) % p
 wraps p x n r a b c f true e =
@@ -70,6 +65,20 @@ less-is k x n r hx hn hr e = go (2 ^ k) hx hn hr e
   where
     go : (p : ℕ) → x < p → n < p → r < p → (r + n) % p ≡ x → r ≡ (x + (p - n)) % p
     go p a b c f = wraps p x n r a b c f (ltb (r + n) p) refl
+
+-- twice the sign's weight below: what d stands for where it has its sign
+turned : (z : Size) (x d h : ℕ) → h ≡ 2 ^ (bitsOf z - 1) → h ≤ d → (x + (d - h + (2 ^ 32 - h))) % 2 ^ 24 ≡ (x + d + (2 ^ 24 - 2 ^ bitsOf z)) % 2 ^ 24
+turned Byte x d h e l = omega arith
+turned Word x d h e l = omega arith
+turned Long x d h e l = omega arith
+
+pub displaced-less :
+    (z : Size) (x d h m r : ℕ) → h ≡ 2 ^ (bitsOf z - 1) → h ≤ d → d < 2 ^ 32 → m < 2 ^ 32 → (m + h) % 2 ^ 32 ≡ d - h → r ≡ (x + m) % 2 ^ 32
+    → r % 2 ^ 24 ≡ displaced (bitsOf z) x d
+displaced-less z x d h m r e l b c f g =
+    let k : 2 ^ (bitsOf z - 1) ≤ d = rw (← e) l in
+    let i : m ≡ less 32 (d - h) h = less-is 32 (d - h) h m (omega arith) (omega arith) c f in
+    rw (g, i, le-leb (2 ^ (bitsOf z - 1)) d k) (as-address x (d - h + (2 ^ 32 - h)) ∙ turned z x d h e l)
 
 -- ---- stores
 module _ (s t : State) (ram rom : List ℕ) (a : ℕ) (z : Size) (v : ℕ) (m : List ℕ) (after : m ≡ ramAfter ram rom a z v) where

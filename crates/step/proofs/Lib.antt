@@ -1,3 +1,6 @@
 pub mod Laws
 pub mod Rounds
 pub mod Kept
+pub mod Touched
+pub mod Statements
+pub mod Examples

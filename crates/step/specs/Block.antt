@@ -1,7 +1,7 @@
 -- Copies and compares: one round, and whether a repeating form goes on after it.
-use Prim.Native.Nat.{ℕ, _%_, _^_}
+use Prim.Native.Nat.{ℕ}
 use mathlib.Core.List.{List}
-use mathlib.Core.Bool.{Bool, true, false, cond, not, _&&_}
+use mathlib.Core.Bool.{Bool, false, cond, not, _&&_}
 use lib.Dec.{eqb}
 use Rattle.little.specs.declared.Size.{Size}
 use Rattle.little.specs.declared.Size.the-variants.{Byte, Word, Long}
@@ -13,7 +13,7 @@ use Rattle.memory.specs.Access.{loadOf}
 use Rattle.state.specs.State.{withCounter}
 use Rattle.state.specs.Register.{getRegister, setRegister}
 use Rattle.state.specs.declared.State.{State}
-use Rattle.step.specs.Try.{Try, did, andThen, withLoaded}
+use Rattle.step.specs.Try.{Try, did, withLoaded}
 use Rattle.step.specs.Operand.{pointerOf, storing}
 use Rattle.step.specs.Stack.{less, plus}
 use Rattle.step.specs.Flag.{flagsIn, flagged}

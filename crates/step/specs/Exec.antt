@@ -1,5 +1,5 @@
 -- What each listed instruction does, in the order of the list of codes.
-use Prim.Native.Nat.{ℕ, _+_, _%_}
+use Prim.Native.Nat.{ℕ, _+_}
 use mathlib.Core.List.{List}
 use Rattle.little.specs.declared.Size.{Size}
 use Rattle.little.specs.Width.{bitsOf}
@@ -15,7 +15,7 @@ use Rattle.code.specs.declared.Op.the-variants.{Nop, Incf, Decf, Ldf, Rcf, Scf,
 use Rattle.state.specs.State.{withCounter, withBank}
 use Rattle.state.specs.Register.{getRegister, setRegister}
 use Rattle.state.specs.declared.State.{State}
-use Rattle.step.specs.Try.{Try, did, no, andThen, withLoaded}
+use Rattle.step.specs.Try.{Try, did, andThen, withLoaded}
 use Rattle.step.specs.Operand.{displaced, valueAt, putAt, numberIn, registerIn}
 use Rattle.step.specs.Stack.{pushOf, popOf, callOf, retOf, pushFOf, popFOf}
 use Rattle.step.specs.Jump.{jumpOf}

@@ -1,5 +1,4 @@
 -- The flags in the state: F as six flags, changed and packed again.
-use Prim.Native.Nat.{ℕ}
 use Rattle.alu.specs.Flag.{byteOf, flagsOf}
 use Rattle.alu.specs.declared.Flags.{Flags}
 use Rattle.state.specs.State.{withFlags, withBothFlags}

@@ -9,3 +9,6 @@ pub mod Exec
 pub mod Step
 pub mod Show
 pub mod Reset
+pub mod Touched
+pub mod Statements
+pub mod Examples

@@ -2,7 +2,7 @@
 use Prim.Native.Nat.{ℕ, _+_, _-_, _%_, _^_}
 use mathlib.Core.List.{List}
 use Rattle.little.specs.declared.Size.{Size}
-use Rattle.little.specs.declared.Size.the-variants.{Byte, Word, Long}
+use Rattle.little.specs.declared.Size.the-variants.{Byte, Long}
 use Rattle.little.specs.Width.{bytesOf}
 use Rattle.alu.specs.Flag.{byteOf, flagsOf}
 use Rattle.memory.specs.Access.{loadOf}

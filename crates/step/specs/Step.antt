@@ -4,7 +4,6 @@ use mathlib.Core.List.{List}
 use mathlib.Core.Bool.{Bool, cond, _||_}
 use lib.ListN.{length}
 use lib.Dec.{ltb}
-use Rattle.answer.specs.declared.Why.{Why}
 use Rattle.answer.specs.declared.Why.the-variants.{TooLong, Invalid, NoCode, Unlisted}
 use Rattle.memory.specs.Access.{codeAt}
 use Rattle.code.specs.Listed.{decodeOf}

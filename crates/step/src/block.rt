@@ -1,7 +1,5 @@
 // Copies and compares: one round a step.
 ghost use mathlib.Core.Path.{_≡_};
-ghost use mathlib.Core.Bool.{cond};
-ghost use Rattle.state.specs.State.{withCounter};
 ghost use Rattle.step.specs.Try.{outcome, leaves, andThen};
 ghost use Rattle.step.specs.Operand.{pointerOf, storing};
 ghost use Rattle.step.specs.Block.{moreIn, counted, moved, copied, accumulator, compared, roundOf, goesOn, endsAt};
@@ -66,7 +64,8 @@ fn compared(f: Form, v: u32, s: State) -> State
     ensures { λ t. ⌜ t ≡ compared f v s ⌝ }
 {
     let size = f.size;
-    let t = counted(moved(f, f.from, s));
+    let on = moved(f, f.from, s);
+    let t = counted(on);
     let d = alu::sub(size, accumulator(s, size), v, false);
     let found = d.flags;
     let flags = alu::compare_flags(alu::unpack(s.flags), found, more(t));

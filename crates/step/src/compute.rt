@@ -1,21 +1,11 @@
-// The operations on two operands, INC, DEC, shifts and extensions.
+// What is done with an operand's value: loads, the operations on two operands, INC, DEC, shifts and extensions.
 ghost use mathlib.Core.Path.{_≡_};
-ghost use mathlib.Core.Bool.{cond};
-ghost use Prim.Native.Nat.{_%_};
-ghost use lib.Dec.{eqb};
-ghost use Rattle.little.specs.Width.{bitsOf};
-ghost use Rattle.alu.specs.Flag.{byteOf};
-ghost use Rattle.alu.specs.Shift.{shiftOf, placesOf};
-ghost use Rattle.alu.specs.Count.{incOf, decOf};
-ghost use Rattle.alu.specs.Extend.{extzOf, extsOf};
-ghost use Rattle.state.specs.Register.{getRegister};
-ghost use Rattle.code.specs.declared.Operand.the-variants.{Register};
 ghost use Rattle.step.specs.Try.{outcome, leaves, withLoaded};
-ghost use Rattle.step.specs.Operand.{valueAt, putAt};
-ghost use Rattle.step.specs.Flag.{flagsIn};
-ghost use Rattle.step.specs.Compute.{computed, resultIn, storesOf, answerIn, stepsOf, keptOf, countIn};
+ghost use Rattle.step.specs.Operand.{valueAt};
+ghost use Rattle.step.specs.Compute.{computed, resultIn, storesOf, answerIn, stepsOf, keptOf, countIn, useIn};
 use crate::Stepped;
 use crate::done;
+use crate::operand::keep;
 use crate::operand::put;
 use crate::operand::value;
 use crate::refuse;
@@ -26,6 +16,18 @@ use code::Operand;
 use little::Size;
 use memory::Loaded;
 use state::State;
+
+pub enum Use {
+    Load(u8), // into the register of a code
+    Register(Arith, u8), // the register of a code with it
+    Into(Arith, u8), // it with the register of a code
+    Number(Arith, u32), // it with a number
+    Inc(u8),
+    Dec(u8),
+    Shift(Shift, u8),
+    Extz,
+    Exts,
+}
 
 fn computed(s: State, op: Arith, size: Size, a: u32, b: u32) -> Computed
     ensures { λ r. ⌜ r ≡ computed s op size a b ⌝ }
@@ -83,45 +85,6 @@ fn answer(
     done(s.with_flags(alu::pack(f)))
 }
 
-// A register with the operand.
-pub fn compute(
-    op: Arith,
-    code: u8,
-    s: State,
-    ram: &mut [u8],
-    rom: &[u8],
-    size: Size,
-    operand: Operand,
-) -> Stepped
-    ensures { λ o. ⌜ outcome o (now (ram .exit)) ≡ leaves s (now (ram .entry)) (withLoaded (valueAt s (now (ram .entry)) (now (rom .entry)) size operand) (λ v. answerIn op s (now (ram .entry)) (now (rom .entry)) size (Register code) (computed s op size (getRegister s size code) v))) ⌝ }
-{
-    match value(s, &*ram, rom, size, operand) {
-        Loaded::Value(v) => {
-            let r = computed(s, op, size, s.register(size, code), v);
-            answer(op, s, ram, rom, size, Operand::Register(code), r)
-        }
-        Loaded::Refused(w) => refuse(s, w),
-    }
-}
-
-// The operand with a number.
-pub fn compute_into(
-    op: Arith,
-    n: u32,
-    s: State,
-    ram: &mut [u8],
-    rom: &[u8],
-    size: Size,
-    operand: Operand,
-) -> Stepped
-    ensures { λ o. ⌜ outcome o (now (ram .exit)) ≡ leaves s (now (ram .entry)) (withLoaded (valueAt s (now (ram .entry)) (now (rom .entry)) size operand) (λ v. answerIn op s (now (ram .entry)) (now (rom .entry)) size operand (computed s op size v n))) ⌝ }
-{
-    match value(s, &*ram, rom, size, operand) {
-        Loaded::Value(v) => answer(op, s, ram, rom, size, operand, computed(s, op, size, v, n)),
-        Loaded::Refused(w) => refuse(s, w),
-    }
-}
-
 // 0 means 8.
 fn steps_of(n: u8) -> u32
     ensures { λ r. ⌜ r ≡ stepsOf n ⌝ }
@@ -159,61 +122,56 @@ fn count(s: State, ram: &mut [u8], rom: &[u8], size: Size, operand: Operand, r: 
     )
 }
 
-pub fn inc(n: u8, s: State, ram: &mut [u8], rom: &[u8], size: Size, operand: Operand) -> Stepped
-    ensures { λ o. ⌜ outcome o (now (ram .exit)) ≡ leaves s (now (ram .entry)) (withLoaded (valueAt s (now (ram .entry)) (now (rom .entry)) size operand) (λ v. countIn s (now (ram .entry)) (now (rom .entry)) size operand (incOf (flagsIn s) (bitsOf size) v (stepsOf n)))) ⌝ }
-{
-    match value(s, &*ram, rom, size, operand) {
-        Loaded::Value(v) => {
-            let r = alu::inc(alu::unpack(s.flags), size, v, steps_of(n));
-            count(s, ram, rom, size, operand, r)
-        }
-        Loaded::Refused(w) => refuse(s, w),
-    }
-}
-
-pub fn dec(n: u8, s: State, ram: &mut [u8], rom: &[u8], size: Size, operand: Operand) -> Stepped
-    ensures { λ o. ⌜ outcome o (now (ram .exit)) ≡ leaves s (now (ram .entry)) (withLoaded (valueAt s (now (ram .entry)) (now (rom .entry)) size operand) (λ v. countIn s (now (ram .entry)) (now (rom .entry)) size operand (decOf (flagsIn s) (bitsOf size) v (stepsOf n)))) ⌝ }
-{
-    match value(s, &*ram, rom, size, operand) {
-        Loaded::Value(v) => {
-            let r = alu::dec(alu::unpack(s.flags), size, v, steps_of(n));
-            count(s, ram, rom, size, operand, r)
-        }
-        Loaded::Refused(w) => refuse(s, w),
-    }
-}
-
-pub fn shift(
-    kind: Shift,
-    n: u8,
+// What becomes of the operand's value v.
+fn used(
+    how: Use,
+    v: u32,
     s: State,
     ram: &mut [u8],
     rom: &[u8],
     size: Size,
     operand: Operand,
 ) -> Stepped
-    ensures { λ o. ⌜ outcome o (now (ram .exit)) ≡ leaves s (now (ram .entry)) (withLoaded (valueAt s (now (ram .entry)) (now (rom .entry)) size operand) (λ v. resultIn s (now (ram .entry)) (now (rom .entry)) size operand (shiftOf kind (bitsOf size) v (placesOf n)))) ⌝ }
+    ensures { λ o. ⌜ outcome o (now (ram .exit)) ≡ leaves s (now (ram .entry)) (useIn how s (now (ram .entry)) (now (rom .entry)) size operand v) ⌝ }
 {
-    match value(s, &*ram, rom, size, operand) {
-        Loaded::Value(v) => result(s, ram, rom, size, operand, alu::shift_by(kind, size, v, n)),
-        Loaded::Refused(w) => refuse(s, w),
+    match how {
+        Use::Load(r) => done(s.with_register(size, r, v)),
+        Use::Register(op, r) => {
+            let c = computed(s, op, size, s.register(size, r), v);
+            answer(op, s, ram, rom, size, Operand::Register(r), c)
+        }
+        Use::Into(op, r) => {
+            let c = computed(s, op, size, v, s.register(size, r));
+            answer(op, s, ram, rom, size, operand, c)
+        }
+        Use::Number(op, n) => answer(op, s, ram, rom, size, operand, computed(s, op, size, v, n)),
+        Use::Inc(n) => {
+            let c = alu::inc(alu::unpack(s.flags), size, v, steps_of(n));
+            count(s, ram, rom, size, operand, c)
+        }
+        Use::Dec(n) => {
+            let c = alu::dec(alu::unpack(s.flags), size, v, steps_of(n));
+            count(s, ram, rom, size, operand, c)
+        }
+        Use::Shift(kind, n) => result(s, ram, rom, size, operand, alu::shift_by(kind, size, v, n)),
+        Use::Extz => keep(s, ram, rom, size, operand, alu::extz(size, v)),
+        Use::Exts => keep(s, ram, rom, size, operand, alu::exts(size, v)),
     }
 }
 
-pub fn extz(s: State, ram: &mut [u8], rom: &[u8], size: Size, operand: Operand) -> Stepped
-    ensures { λ o. ⌜ outcome o (now (ram .exit)) ≡ leaves s (now (ram .entry)) (withLoaded (valueAt s (now (ram .entry)) (now (rom .entry)) size operand) (λ v. putAt s (now (ram .entry)) (now (rom .entry)) size operand (extzOf (bitsOf size) v))) ⌝ }
+// The operand's value is loaded, and used.
+pub fn with_value(
+    how: Use,
+    s: State,
+    ram: &mut [u8],
+    rom: &[u8],
+    size: Size,
+    operand: Operand,
+) -> Stepped
+    ensures { λ o. ⌜ outcome o (now (ram .exit)) ≡ leaves s (now (ram .entry)) (withLoaded (valueAt s (now (ram .entry)) (now (rom .entry)) size operand) (useIn how s (now (ram .entry)) (now (rom .entry)) size operand)) ⌝ }
 {
     match value(s, &*ram, rom, size, operand) {
-        Loaded::Value(v) => put(s, s.flags, ram, rom, size, operand, alu::extz(size, v)),
-        Loaded::Refused(w) => refuse(s, w),
-    }
-}
-
-pub fn exts(s: State, ram: &mut [u8], rom: &[u8], size: Size, operand: Operand) -> Stepped
-    ensures { λ o. ⌜ outcome o (now (ram .exit)) ≡ leaves s (now (ram .entry)) (withLoaded (valueAt s (now (ram .entry)) (now (rom .entry)) size operand) (λ v. putAt s (now (ram .entry)) (now (rom .entry)) size operand (extsOf (bitsOf size) v))) ⌝ }
-{
-    match value(s, &*ram, rom, size, operand) {
-        Loaded::Value(v) => put(s, s.flags, ram, rom, size, operand, alu::exts(size, v)),
+        Loaded::Value(v) => used(how, v, s, ram, rom, size, operand),
         Loaded::Refused(w) => refuse(s, w),
     }
 }

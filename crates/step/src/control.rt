@@ -4,8 +4,12 @@ ghost use Prim.Native.Nat.{_+_};
 ghost use Rattle.state.specs.State.{withBank};
 ghost use Rattle.alu.specs.Flag.{rcfOf, scfOf, ccfOf, zcfOf};
 ghost use Rattle.step.specs.Flag.{flagsIn, flagged, exchanged};
+ghost use Rattle.little.specs.Width.{bitsOf};
+ghost use Rattle.step.specs.Operand.{displaced};
 ghost use Rattle.step.specs.Jump.{jumpOf};
+use crate::operand::displace;
 use alu::Flags;
+use little::Size;
 use state::Bank;
 use state::State;
 
@@ -59,11 +63,12 @@ pub fn exchange(s: State) -> State
     s.with_both_flags(s.spare, s.flags)
 }
 
-pub fn jump(s: State, cc: u8, to: u32) -> State
-    ensures { λ r. ⌜ r ≡ jumpOf s cc to ⌝ }
+// A jump of a displacement of a size, where its condition holds.
+pub fn jump(s: State, cc: u8, size: Size, d: u32) -> State
+    ensures { λ r. ⌜ r ≡ jumpOf s cc (displaced (bitsOf size) (s .counter) d) ⌝ }
 {
     if alu::holds(alu::unpack(s.flags), cc) {
-        s.with_counter(to)
+        s.with_counter(displace(size, s.counter, d))
     } else {
         s
     }

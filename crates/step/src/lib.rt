@@ -36,11 +36,11 @@ fn done(s: State) -> Stepped
     }
 }
 
-fn refuse(s: State, w: Why) -> Stepped
-    ensures { λ r. ⌜ r ≡ refusedWith s w ⌝ }
+fn refuse(given: State, w: Why) -> Stepped
+    ensures { λ r. ⌜ r ≡ refusedWith given w ⌝ }
 {
     Stepped {
-        state: s,
+        state: given,
         answer: Answer::Refused(w),
     }
 }

@@ -1,5 +1,7 @@
 // The operand of an instruction: its address, its value, and a value put there.
 ghost use mathlib.Core.Path.{_≡_};
+ghost use Prim.Native.Nat.{_-_, _^_};
+ghost use Rattle.little.specs.Width.{bitsOf};
 ghost use Rattle.state.specs.State.{withFlags};
 ghost use Rattle.step.specs.Try.{outcome, leaves};
 ghost use Rattle.step.specs.Operand.{displaced, pointerOf, addressOf, valueAt, putAt, numberIn, registerIn};
@@ -14,24 +16,25 @@ use little::Size;
 use memory::Loaded;
 use state::State;
 
-// x plus a byte with a sign, as an address: FFFFFF00H stands for less 100H.
-pub fn displace8(x: u32, d: u32) -> u32
-    ensures { λ r. ⌜ r ≡ displaced 8 x d ⌝ }
+// The weight of the sign of a number of a size.
+fn sign(size: Size) -> u32
+    ensures { λ r. ⌜ r ≡ 2 ^ (bitsOf size - 1) ⌝ }
 {
-    if 0x80 <= d {
-        let less = std::num::wrapping_add_u32(d, 0xFFFFFF00);
-        return std::num::wrapping_add_u32(x, less) % 16777216;
+    match size {
+        Size::Byte => 0x80,
+        Size::Word => 0x8000,
+        Size::Long => 0x80000000,
     }
-    std::num::wrapping_add_u32(x, d) % 16777216
 }
 
-// x plus a word with a sign, as an address: FFFF0000H stands for less 10000H.
-pub fn displace16(x: u32, d: u32) -> u32
-    ensures { λ r. ⌜ r ≡ displaced 16 x d ⌝ }
+// x plus a number of a size with a sign, as an address: with its sign, it stands for itself less twice the sign.
+pub fn displace(size: Size, x: u32, d: u32) -> u32
+    ensures { λ r. ⌜ r ≡ displaced (bitsOf size) x d ⌝ }
 {
-    if 0x8000 <= d {
-        let less = std::num::wrapping_add_u32(d, 0xFFFF0000);
-        return std::num::wrapping_add_u32(x, less) % 16777216;
+    let half = sign(size);
+    if half <= d {
+        let below = std::num::wrapping_sub_u32(d - half, half);
+        return std::num::wrapping_add_u32(x, below) % 16777216;
     }
     std::num::wrapping_add_u32(x, d) % 16777216
 }
@@ -49,7 +52,7 @@ pub fn address(s: State, m: MemoryForm) -> u32
     let n = m.number;
     match base {
         Base::Indirect(r) => pointer(s, r),
-        Base::Displaced(r) => displace8(s.register(Size::Long, r), n),
+        Base::Displaced(r) => displace(Size::Byte, s.register(Size::Long, r), n),
         Base::Absolute8 => n % 16777216,
         Base::Absolute16 => n % 16777216,
         Base::Absolute24 => n % 16777216,
@@ -86,6 +89,13 @@ pub fn put(
             Answer::Refused(w) => refuse(s, w),
         },
     }
+}
+
+// A value put where the operand is; the flags are kept.
+pub fn keep(s: State, ram: &mut [u8], rom: &[u8], size: Size, operand: Operand, v: u32) -> Stepped
+    ensures { λ r. ⌜ outcome r (now (ram .exit)) ≡ leaves s (now (ram .entry)) (putAt s (now (ram .entry)) (now (rom .entry)) size operand v) ⌝ }
+{
+    put(s, s.flags, ram, rom, size, operand, v)
 }
 
 // The number that an operand is; 0 where it is none.

@@ -1,10 +1,10 @@
 // Pushes, pops, calls and returns.
 ghost use mathlib.Core.Path.{_≡_};
 ghost use Rattle.little.specs.Width.{bytesOf};
-ghost use Rattle.little.specs.declared.Size.the-variants.{Byte, Word, Long};
+ghost use Rattle.little.specs.declared.Size.the-variants.{Long};
 ghost use Rattle.state.specs.Register.{getRegister, setRegister};
 ghost use Rattle.step.specs.Try.{outcome, leaves};
-ghost use Rattle.step.specs.Stack.{less, plus, withStack, pushOf, popOf, callOf, retOf, pushFOf, popFOf};
+ghost use Rattle.step.specs.Stack.{plus, withStack, pushOf, popOf, callOf, retOf, pushFOf, popFOf};
 use crate::Stepped;
 use crate::done;
 use crate::operand::pointer;
@@ -14,14 +14,15 @@ use little::Size;
 use memory::Loaded;
 use state::State;
 
-// Stores below the stack's end, and moves the end there where the store is done.
+// Stores below the stack's end; the state with its end moved there is given only where the store is done.
 pub fn push(s: State, ram: &mut [u8], rom: &[u8], size: Size, v: u32) -> Stepped
     ensures { λ r. ⌜ outcome r (now (ram .exit)) ≡ leaves s (now (ram .entry)) (pushOf s (now (ram .entry)) (now (rom .entry)) size v) ⌝ }
 {
     let n = little::bytes(size) as u32;
     let end = std::num::wrapping_sub_u32(s.register(Size::Long, 7), n);
+    let moved = s.with_register(Size::Long, 7, end);
     match memory::store(ram, rom, end % 16777216, size, v) {
-        Answer::Done => done(s.with_register(Size::Long, 7, end)),
+        Answer::Done => done(moved),
         Answer::Refused(w) => refuse(s, w),
     }
 }

@@ -10,15 +10,17 @@ unpack-requires c κs = search needs
 holds-requires : tie.Need-holds-requires
 holds-requires c κs = search needs
 
+displace-requires : tie.Need-displace-requires
+displace-requires c κs = search needs
+
 with-counter-requires : tie.Need-with-counter-requires
 with-counter-requires c κs = search needs
 
 returns : tie.Need-returns
 unfolding jumpOf
 returns c =
-    let a = c .before .before .before .before .args in
-    let h = sym (rw (c .before .before .before .unpack .ensures) at (c .before .before .holds .ensures)) ∙ c .before .if1 .taken in
-    c .with-counter .ensures ∙ rw h refl
+    let h = sym (rw (c .before .before .before .before .unpack .ensures) at (c .before .before .before .holds .ensures)) ∙ c .before .before .if1 .taken in
+    c .with-counter .ensures ∙ rw (h, c .before .displace .ensures) refl
 
 returns-2 : tie.Need-returns-2
 unfolding jumpOf
@@ -28,4 +30,4 @@ returns-2 c =
 
 pub jump-spec : {M : Type 1} → statement M
 jump-spec =
-    tie.close (tie.spec unpack-requires holds-requires with-counter-requires returns returns-2)
+    tie.close (tie.spec unpack-requires holds-requires displace-requires with-counter-requires returns returns-2)

@@ -16,8 +16,8 @@ enum-known-base-2 c = search needs
 register-requires : tie.Need-register-requires
 register-requires c κs = search needs
 
-displace8-requires : tie.Need-displace8-requires
-displace8-requires c κs = search needs
+displace-requires : tie.Need-displace-requires
+displace-requires c κs = search needs
 
 enum-told : tie.Need-enum-told
 enum-told c = search needs
@@ -34,7 +34,7 @@ returns c = c .pointer .ensures ∙ rw (c .before .before .base .given .1) refl
 
 returns-2 : tie.Need-returns-2
 unfolding addressOf
-returns-2 c = c .displace8 .ensures ∙ rw (c .before .register .ensures, c .before .before .before .base2 .given .1) refl
+returns-2 c = c .displace .ensures ∙ rw (c .before .register .ensures, c .before .before .before .base2 .given .1) refl
 
 returns-3 : tie.Need-returns-3
 unfolding addressOf
@@ -56,7 +56,7 @@ address-spec =
     pointer-requires
     enum-known-base-2
     register-requires
-    displace8-requires
+    displace-requires
     enum-told
     enum-told-2
     enum-told-3

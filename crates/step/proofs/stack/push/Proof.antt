@@ -61,10 +61,10 @@ returns c =
     let a = c .before .before .before .before .before .before .before .before .before .before .before .before .before .args in
     let x = less 32 (getRegister (a .s) Long 7) (bytesOf (a .size)) in
     let e = end-is (c .before .before .before .before .before .before .before .before) in
-    rw (c .done .ensures, c .before .with-register .ensures, e)
-    (stored (a .s) (withStack (a .s) x) (a .ram .now) (a .rom .now) (x % 2 ^ 24) (a .size) (a .v) (c .before .before .before .before .before .before .store .last .0)
-    (rw e at (c .before .before .before .before .before .before .store .ensures .1))
-    (sym (rw e at (c .before .before .before .before .before .before .store .ensures .0)) ∙ c .before .before .enum-told .given .1))
+    rw (c .done .ensures, c .before .before .before .before .before .before .before .with-register .ensures, e)
+    (stored (a .s) (withStack (a .s) x) (a .ram .now) (a .rom .now) (x % 2 ^ 24) (a .size) (a .v) (c .before .before .before .before .before .store .last .0)
+    (rw e at (c .before .before .before .before .before .store .ensures .1))
+    (sym (rw e at (c .before .before .before .before .before .store .ensures .0)) ∙ c .before .enum-told .given .1))
 
 same-length-2 : tie.Need-same-length-2
 same-length-2 c = search needs
@@ -72,9 +72,9 @@ same-length-2 c = search needs
 returns-2 : tie.Need-returns-2
 unfolding pushOf
 returns-2 c =
-    let a = c .before .before .before .before .before .before .before .before .before .before .before .before .before .args in
+    let a = c .before .before .before .before .before .before .before .before .before .before .before .before .before .before .args in
     let x = less 32 (getRegister (a .s) Long 7) (bytesOf (a .size)) in
-    let e = end-is (c .before .before .before .before .before .before .before .before) in
+    let e = end-is (c .before .before .before .before .before .before .before .before .before) in
     rw (c .refuse .ensures)
     (not-stored (a .s) (withStack (a .s) x) (a .ram .now) (a .rom .now) (x % 2 ^ 24) (a .size) (a .v) (c .before .before .before .before .before .before .store .last .0)
     (rw e at (c .before .before .before .before .before .before .store .ensures .1))
@@ -89,9 +89,9 @@ push-spec =
     cast-n
     register-requires
     wrapping-sub-u32-requires
+    with-register-requires
     store-requires
     enum-told
-    with-register-requires
     done-requires
     enum-known-w
     refuse-requires

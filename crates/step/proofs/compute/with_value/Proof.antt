@@ -1,7 +1,7 @@
 use mathlib.Core.Path.{refl, sym, _∙_}
 use borrow.Author.Needs.{needs}
-use Rattle.step.proofs.compute.compute_into.Statement.{statement}
-use Rattle.step.proofs.compute.compute_into.Tie as tie
+use Rattle.step.proofs.compute.with_value.Statement.{statement}
+use Rattle.step.proofs.compute.with_value.Tie as tie
 
 value-requires : tie.Need-value-requires
 value-requires c κs = search needs
@@ -9,11 +9,8 @@ value-requires c κs = search needs
 enum-known-v : tie.Need-enum-known-v
 enum-known-v c = search needs
 
-computed-requires : tie.Need-computed-requires
-computed-requires c κs = search needs
-
-answer-requires : tie.Need-answer-requires
-answer-requires c κs = search needs
+used-requires : tie.Need-used-requires
+used-requires c κs = search needs
 
 enum-known-w : tie.Need-enum-known-w
 enum-known-w c = search needs
@@ -25,9 +22,7 @@ same-length : tie.Need-same-length
 same-length c = search needs
 
 returns : tie.Need-returns
-returns c =
-    rw (sym (c .before .before .before .before .before .before .before .before .value .ensures) ∙ c .before .before .before .before .before .before .v .given .1)
-    (c .before .before .answer .ensures ∙ rw (c .before .before .before .computed .ensures) refl)
+returns c = rw (sym (c .before .before .before .before .before .before .before .value .ensures) ∙ c .before .before .before .before .before .v .given .1) (c .before .before .used .ensures)
 
 same-length-2 : tie.Need-same-length-2
 same-length-2 c = search needs
@@ -35,14 +30,13 @@ same-length-2 c = search needs
 returns-2 : tie.Need-returns-2
 returns-2 c = rw (sym (c .before .before .before .before .value .ensures) ∙ c .before .before .w .given .1, c .refuse .ensures) refl
 
-pub compute-into-spec : {M : Type 1} → statement M
-compute-into-spec =
+pub with-value-spec : {M : Type 1} → statement M
+with-value-spec =
     tie.close
     (tie.spec
     value-requires
     enum-known-v
-    computed-requires
-    answer-requires
+    used-requires
     enum-known-w
     refuse-requires
     same-length

@@ -1,8 +1,8 @@
 use mathlib.Core.Path.{refl, _∙_}
 use Rattle.step.proofs.Laws.{same-flags}
 use borrow.Author.Needs.{needs}
-use Rattle.step.proofs.effect.keep.Statement.{statement}
-use Rattle.step.proofs.effect.keep.Tie as tie
+use Rattle.step.proofs.operand.keep.Statement.{statement}
+use Rattle.step.proofs.operand.keep.Tie as tie
 
 put-requires : tie.Need-put-requires
 put-requires c κs = search needs

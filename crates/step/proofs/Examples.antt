@@ -1,0 +1,33 @@
+-- Each example of the table ends as it stands there.
+use lib.Dec.{T}
+use Rattle.little.specs.Bytes.{valueOf, bytesFrom, replaced}
+use Rattle.memory.specs.Place.{placeOf}
+use Rattle.memory.specs.Access.{loadOf, storeOf, ramAfter, codeAt}
+use Rattle.state.specs.State.{zeroState, validOf, longOf, withLong, withCounter, withBank, withBothFlags, withFlags}
+use Rattle.state.specs.Register.{getBits, setBits, getSlot, setSlot, slotOf, getRegister, setRegister}
+use Rattle.alu.specs.Flag.{byteOf, flagsOf}
+use Rattle.alu.specs.Condition.{basic, holdsOf}
+use Rattle.alu.specs.Parity.{onesOf, evenOnes, parityOf}
+use Rattle.alu.specs.Sums.{computedOf, sumOf, differenceOf}
+use Rattle.alu.specs.Logic.{plain, andOf, orOf, xorOf}
+use Rattle.alu.specs.Operation.{operated}
+use Rattle.alu.specs.Shift.{placesOf, shiftBy, shiftOf}
+use Rattle.alu.specs.Count.{incOf, decOf}
+use Rattle.alu.specs.Extend.{extzOf, extsOf}
+use Rattle.code.specs.Said.{numberAt, judge}
+use Rattle.code.specs.Rows.{lookup}
+use Rattle.code.specs.Registers.{placesRows, registerRows}
+use Rattle.code.specs.Memory.{memoryRows, storeRows, copies, compares, blocks, indirectRows}
+use Rattle.code.specs.Listed.{bankNumberRows, bankRows, flagRows, constantRows, stackRows, jumpRows, relativeRows, registerFormRows, absoluteRows, memoryFormRows, memoryAtRows, storeFormRows, firstRows, decodeOf}
+use Rattle.step.specs.Operand.{addressOf, valueAt, storing}
+use Rattle.step.specs.Stack.{pushOf, popOf}
+use Rattle.step.specs.Flag.{flagged}
+use Rattle.step.specs.Jump.{jumpOf}
+use Rattle.step.specs.Block.{counted, moved, copied, compared, roundOf, goesOn, endsAt}
+use Rattle.step.specs.Exec.{pastOf, effectOf, executedOf}
+use Rattle.step.specs.Step.{guarded, onceOf, tryOf, stepOf}
+use Rattle.step.specs.Examples.{given, sameBytes, reaches, right, every, examples}
+
+pub examples-hold : T (every examples)
+unfolding valueOf bytesFrom replaced placeOf loadOf storeOf ramAfter codeAt zeroState validOf longOf withLong withCounter withBank withBothFlags withFlags getBits setBits getSlot setSlot slotOf getRegister setRegister byteOf flagsOf basic holdsOf onesOf evenOnes parityOf computedOf sumOf differenceOf plain andOf orOf xorOf operated placesOf shiftBy shiftOf incOf decOf extzOf extsOf numberAt judge lookup placesRows registerRows memoryRows storeRows copies compares blocks indirectRows bankNumberRows bankRows flagRows constantRows stackRows jumpRows relativeRows registerFormRows absoluteRows memoryFormRows memoryAtRows storeFormRows firstRows decodeOf addressOf valueAt storing pushOf popOf flagged jumpOf counted moved copied compared roundOf goesOn endsAt pastOf effectOf executedOf guarded onceOf tryOf stepOf given sameBytes reaches right every examples
+examples-hold = tt

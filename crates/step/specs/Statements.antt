@@ -1,0 +1,97 @@
+-- What a user may hold each call to. Each statement is proved in proofs/Statements.antt.
+use Prim.Native.Nat.{ℕ, _<_, _≤_, _^_}
+use mathlib.Core.Path.{_≡_}
+use mathlib.Core.List.{List}
+use mathlib.Core.Bool.{true, false}
+use mathlib.Core.Logic.{_⊎_}
+use lib.ListN.{length}
+use Rattle.answer.specs.declared.Why.{Why}
+use Rattle.answer.specs.declared.Why.the-variants.{TooLong, Invalid, NoCode, Unlisted, Missing}
+use Rattle.answer.specs.declared.Answer.{Answer}
+use Rattle.answer.specs.declared.Answer.the-variants.{Done, Refused}
+use Rattle.answer.specs.Number.{whyNumber}
+use Rattle.little.specs.declared.Size.{Size}
+use Rattle.memory.specs.Access.{codeAt}
+use Rattle.state.specs.State.{validOf}
+use Rattle.state.specs.Sound.{Sound}
+use Rattle.state.specs.declared.State.{State}
+use Rattle.code.specs.declared.Form.{Form}
+use Rattle.code.specs.declared.Op.the-variants.{Block}
+use Rattle.code.specs.declared.Operand.{Operand}
+use Rattle.code.specs.declared.Instruction.{Instruction}
+use Rattle.code.specs.declared.Decoded.the-variants as decoded
+use Rattle.code.specs.Listed.{decodeOf}
+use Rattle.step.specs.declared.Stepped.{Stepped}
+use Rattle.step.specs.Try.{outcome, andThen}
+use Rattle.step.specs.Block.{roundOf, endsAt}
+use Rattle.step.specs.Exec.{pastOf, effectOf}
+use Rattle.step.specs.Step.{stepOf}
+use Rattle.step.specs.Show.{shownOf, showAnswerOf}
+use Rattle.step.specs.Reset.{resetOf, notReset}
+use Rattle.step.specs.Touched.{readOf, targetOf, answerBy, Spares}
+
+infix 5 _⇔_
+abbrev pub _⇔_ : Type 0 → Type 0 → Type 0
+a ⇔ b = (a → b) × (b → a)
+
+-- a refused step returns the state that it was given, RAM is unchanged, and its number is one of 1 to 6
+abbrev pub RefusedChangesNothing : Type 0
+RefusedChangesNothing =
+    (s : State) (ram rom : List ℕ) (w : Why) → stepOf s ram rom .answer ≡ Refused w →
+    (stepOf s ram rom .state ≡ s) × (stepOf s ram rom .ram ≡ ram) × (1 ≤ whyNumber w) × (whyNumber w ≤ 6)
+
+-- both memories are within their limits
+abbrev pub Within : List ℕ → List ℕ → Type 0
+Within ram rom = (length ram ≤ 2 ^ 16) × (length rom ≤ 2 ^ 16)
+
+-- the checks 1 and 2 are passed
+abbrev pub Passed : State → List ℕ → List ℕ → Type 0
+Passed s ram rom = Within ram rom × (validOf s ≡ true)
+
+-- each number is given in its stated case and in no other; 5 and 6 by where the operands of a whole instruction lie
+pub record RefusedWhen (s : State) (ram rom : List ℕ) : Type 0 where
+  pub one : (stepOf s ram rom .answer ≡ Refused TooLong) ⇔ ((2 ^ 16 < length ram) ⊎ (2 ^ 16 < length rom))
+  pub two : (stepOf s ram rom .answer ≡ Refused Invalid) ⇔ (Within ram rom × (validOf s ≡ false))
+  pub three : (stepOf s ram rom .answer ≡ Refused NoCode) ⇔ (Passed s ram rom × (decodeOf (codeAt ram rom (s .counter)) ≡ decoded.Short))
+  pub four : (stepOf s ram rom .answer ≡ Refused Unlisted) ⇔ (Passed s ram rom × (decodeOf (codeAt ram rom (s .counter)) ≡ decoded.Unlisted))
+  pub operands :
+      (i : Instruction) → Passed s ram rom → decodeOf (codeAt ram rom (s .counter)) ≡ decoded.Whole i →
+      stepOf s ram rom .answer
+      ≡ answerBy ram rom (readOf (i .op) (i .size) (i .operand) (pastOf (i .length) s)) (targetOf (i .op) (i .size) (i .operand) (pastOf (i .length) s))
+
+-- an accepted step gives a valid state and keeps RAM's length; a state whose numbers fit stays so
+abbrev pub KeepsValid : Type 0
+KeepsValid =
+    (s : State) (ram rom : List ℕ) → stepOf s ram rom .answer ≡ Done →
+    (validOf (stepOf s ram rom .state) ≡ true) × (length (stepOf s ram rom .ram) ≡ length ram) × (Sound s → Sound (stepOf s ram rom .state))
+
+-- an accepted step changes no byte of RAM outside the part that its instruction stores to
+abbrev pub StoresOnlyThere : Type 0
+StoresOnlyThere =
+    (s : State) (ram rom : List ℕ) (i : Instruction) → stepOf s ram rom .answer ≡ Done →
+    decodeOf (codeAt ram rom (s .counter)) ≡ decoded.Whole i →
+    Spares (targetOf (i .op) (i .size) (i .operand) (pastOf (i .length) s)) ram (stepOf s ram rom .ram)
+
+-- any two results that meet a call's statement are the same, and so is RAM after them
+pub record Settled (s : State) (ram rom : List ℕ) (at : ℕ) : Type 0 where
+  pub step : (r q : Stepped) (m n : List ℕ) → outcome r m ≡ stepOf s ram rom → outcome q n ≡ stepOf s ram rom → (r ≡ q) × (m ≡ n)
+  pub show : (a b : List ℕ) → a ≡ shownOf ram rom at → b ≡ shownOf ram rom at → a ≡ b
+  pub showAnswer : (a b : Answer) → a ≡ showAnswerOf ram rom at → b ≡ showAnswerOf ram rom at → a ≡ b
+  pub reset : (r q : Stepped) → r ≡ resetOf ram rom → q ≡ resetOf ram rom → r ≡ q
+
+-- within the limits, reset is refused with 5 and the all-zero state exactly where ROM is shorter than 256 bytes; else it is done
+abbrev pub ResetMissing : Type 0
+ResetMissing =
+    (ram rom : List ℕ) → Within ram rom →
+    (length rom < 256 → resetOf ram rom ≡ notReset Missing) × (256 ≤ length rom → resetOf ram rom .answer ≡ Done)
+
+-- the single form of a repeating one: LDI of LDIR, LDD of LDDR, CPI of CPIR, CPD of CPDR
+unfoldable pub single : Form → Form
+single f = record { copies = f .copies; size = f .size; up = f .up; again = false; to = f .to; from = f .from }
+
+-- the single form does one round; a repeating one does what its single form does, but for the counter
+abbrev pub RoundIsSingle : Type 0
+RoundIsSingle =
+    (f : Form) (z : Size) (o : Operand) (at : ℕ) (s : State) (ram rom : List ℕ) →
+    (effectOf (Block (single f)) z o at s ram rom ≡ roundOf f s ram rom)
+    × (effectOf (Block f) z o at s ram rom ≡ andThen (effectOf (Block (single f)) z o at s ram rom) (endsAt f at))
