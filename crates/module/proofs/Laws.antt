@@ -1,0 +1,218 @@
+-- What each call comes to, case by case.
+use Prim.Native.Nat.{ℕ, zero, suc, _+_, _^_, _<_, _≤_}
+use mathlib.Core.Path.{_≡_, refl, ap, sym, _∙_, subst}
+use mathlib.Core.List.{List, []}
+use mathlib.Core.Bool.{Bool, true, false, cond}
+use native.Mathlib.Omega.{arith}
+use lib.ListN.{length, take, length-take}
+use lib.Dec.{ltb, eqb}
+use borrow.Author.Tests.{lt-ltb, le-ltb, eq-eqb, eqb-true}
+use Rattle.answer.specs.declared.Answer.{Answer}
+use Rattle.answer.specs.declared.Answer.the-variants.{Done, Refused}
+use Rattle.answer.specs.declared.Why.{Why}
+use Rattle.answer.specs.declared.Why.the-variants.{TooMany, TooLong, Invalid}
+use Rattle.answer.specs.Number.{whyNumber, numberOf}
+use Rattle.little.specs.declared.Size.the-variants.{Long}
+use Rattle.memory.specs.Access as access
+use Rattle.memory.specs.Access.{codeAt}
+use Rattle.code.specs.Listed.{decodeOf}
+use Rattle.code.specs.declared.Decoded.{Decoded}
+use Rattle.code.specs.declared.Decoded.the-variants as decoded
+use Rattle.code.proofs.Ranges.{length-fits}
+use Rattle.memory.specs.declared.Loaded.{Loaded}
+use Rattle.memory.specs.declared.Loaded.the-variants as loaded
+use Rattle.state.specs.State.{validOf, zeroState}
+use Rattle.state.specs.declared.State.{State}
+use Rattle.state.proofs.Valid.{Valid, valid-says, valid-from, valid-reset, and-true}
+use Rattle.saved.specs.declared.Restored.{Restored}
+use Rattle.saved.specs.Record.{recordOf, saveAnswer, saveBytes, stateAt, fixedAt, isRecord, loadOf, refused}
+use Rattle.step.specs.declared.Stepped.{Stepped}
+use Rattle.step.specs.Try.{Try, did, no, Outcome, outcome, leaves}
+use Rattle.step.specs.Step.{tooLong, guarded, onceOf, tryOf, stepOf}
+use Rattle.step.specs.Show.{lengthIn, shownOf}
+use Rattle.step.specs.Reset.{notReset, resetFrom, resetOf}
+use Rattle.step.proofs.Kept.{Keeps, keeps-once}
+use Rattle.run.specs.declared.Ran.{Ran}
+use Rattle.run.specs.Run.{Result, result, ends, afterChecks, goOf, runOf}
+use Rattle.run.proofs.Laws.{go-did, go-no}
+use Rattle.module.specs.Calls.{left, roomAnswer, whereDone, resetAnswer, resetBytes, refusedRecord, openedOf, stepLeft, runLeft, runDone}
+
+-- ---- the states that are written are valid
+zero-valid : Valid zeroState
+unfolding zeroState
+zero-valid = record { counter = omega arith; bank = omega arith; level = omega arith; flags = refl; spare = refl }
+
+reset-valid : (ram rom : List ℕ) → Valid (resetOf ram rom .state)
+unfolding resetOf
+reset-valid ram rom = go (tooLong (length ram) (length rom)) (access.loadOf ram rom 0xFFFF00 Long)
+  where
+    go : (b : Bool) (l : Loaded) → Valid (cond b (notReset TooLong) (resetFrom l) .state)
+    go true l = zero-valid
+    go false (loaded.Value v) = valid-reset v
+    go false (loaded.Refused w) = zero-valid
+
+module _ (s : State) (ram rom : List ℕ) (ok : Valid s) where
+  keeps-try : Keeps ram (tryOf s ram rom)
+  unfolding Keeps tryOf guarded
+  keeps-try = go (tooLong (length ram) (length rom)) (validOf s)
+    where
+      go : (b v : Bool) → Keeps ram (cond b (no TooLong) (cond v (onceOf s ram rom) (no Invalid)))
+      go true v = tt
+      go false true = keeps-once ram rom s ok
+      go false false = tt
+
+  step-valid : Valid (stepOf s ram rom .state)
+  unfolding stepOf Keeps
+  step-valid = go (tryOf s ram rom) keeps-try
+    where
+      go : (t : Try) → Keeps ram t → Valid (leaves s ram t .state)
+      go (did u m) k = k .0
+      go (no w) k = ok
+
+go-valid : (n d : ℕ) (s : State) (ram rom : List ℕ) → Valid s → Valid (goOf n d s ram rom .state)
+unfolding goOf Keeps
+go-valid zero d s ram rom ok = ok
+go-valid (suc n) d s ram rom ok = go (tryOf s ram rom) refl (keeps-try s ram rom ok) (λ u m v. go-valid n (d + 1) u m rom v)
+  where
+    go : (t : Try) → tryOf s ram rom ≡ t → Keeps ram t →
+        ((u : State) (m : List ℕ) → Valid u → Valid (goOf n (d + 1) u m rom .state)) → Valid (goOf (suc n) d s ram rom .state)
+    go (did u m) e k later = subst (λ (r : Result). Valid (r .state)) (sym (go-did n d s ram rom u m e)) (later u m (k .0))
+    go (no w) e k later = subst (λ (r : Result). Valid (r .state)) (sym (go-no n d s ram rom w e)) ok
+
+run-valid : (n : ℕ) (s : State) (ram rom : List ℕ) → Valid s → Valid (runOf n s ram rom .state)
+unfolding runOf
+run-valid n s ram rom ok = go (ltb 1000000 n) (guarded s ram rom (did s ram))
+  where
+    go : (b : Bool) (t : Try) → Valid (cond b (ends 0 s ram (Refused TooMany)) (afterChecks t s ram (goOf n 0 s ram rom)) .state)
+    go true t = ok
+    go false (did u m) = go-valid n 0 s ram rom ok
+    go false (no w) = ok
+
+-- ---- a record that is opened
+load-done : (b : List ℕ) → loadOf b .answer ≡ Done → Valid (loadOf b .state) × (length b ≡ 88)
+unfolding loadOf
+load-done b h = go (isRecord b) refl h
+  where
+    go : (x : Bool) → isRecord b ≡ x → cond x (record { answer = Done; state = stateAt b }) refused .answer ≡ Done →
+        Valid (cond x (record { answer = Done; state = stateAt b }) refused .state) × (length b ≡ 88)
+    go true e f =
+        let a = and-true (eqb (length b) 88) _ e in
+        (valid-says (stateAt b) (and-true (validOf (stateAt b)) (fixedAt b) (a .1) .0), eqb-true _ _ (a .0))
+    go false e f = let z : _≡_ {A = ℕ} 0 1 = cc in absurd (omega arith)
+
+opened-done : (b : List ℕ) (m n : ℕ) → openedOf b m n .answer ≡ Done → Valid (openedOf b m n .state) × (length b ≡ 88)
+unfolding openedOf
+opened-done b m n h = go (tooLong m n) h
+  where
+    go : (x : Bool) → cond x (record { answer = Refused TooLong; state = zeroState }) (loadOf b) .answer ≡ Done →
+        Valid (cond x (record { answer = Refused TooLong; state = zeroState }) (loadOf b) .state) × (length b ≡ 88)
+    go true f = let z : _≡_ {A = ℕ} 0 1 = cc in absurd (omega arith)
+    go false f = load-done b f
+
+-- ---- a valid state is saved wherever there is room
+saves : (s : State) (b : List ℕ) → Valid s → (saveAnswer s (length b) ≡ roomAnswer (length b)) × (saveBytes s b ≡ cond (eqb (length b) 88) (recordOf s) b)
+unfolding saveAnswer saveBytes
+saves s b ok = (rw (valid-from s ok) refl, rw (valid-from s ok) refl)
+
+saved-whole : (s : State) (b : List ℕ) → Valid s → length b ≡ 88 → (saveAnswer s (length b) ≡ Done) × (saveBytes s b ≡ recordOf s)
+saved-whole s b ok e =
+    let k = saves s b ok in
+    let t = eq-eqb (length b) 88 e in
+    (k .0 ∙ rw t refl, k .1 ∙ rw t refl)
+
+length-few : (l : List ℕ) → lengthIn (decodeOf l) ≤ 6
+length-few l = go (decodeOf l) refl
+  where
+    go : (d : Decoded) → decodeOf l ≡ d → lengthIn d ≤ 6
+    go decoded.Short e = omega arith
+    go decoded.Unlisted e = omega arith
+    go (decoded.Whole i) e = length-fits l i e .1 .0
+
+pub opened-long : (b : List ℕ) (m n : ℕ) → tooLong m n ≡ true → openedOf b m n ≡ refusedRecord TooLong
+unfolding openedOf
+opened-long b m n h = rw h refl
+
+pub opened-loads : (b : List ℕ) (m n : ℕ) → tooLong m n ≡ false → openedOf b m n ≡ loadOf b
+unfolding openedOf
+opened-loads b m n h = rw h refl
+
+-- ---- reset
+module _ (b ram rom : List ℕ) (r : Stepped) (is : r ≡ resetOf ram rom) where
+  pub reset-stops : {n : ℕ} (w : Why) → r .answer ≡ Refused w → n ≡ whyNumber w →
+      (n ≡ numberOf (resetAnswer (length b) ram rom)) × (b ≡ resetBytes b ram rom)
+  unfolding resetAnswer resetBytes
+  reset-stops w a e =
+      let f : resetOf ram rom .answer ≡ Refused w = ap (λ (x : Stepped). x .answer) (sym is) ∙ a in
+      (rw (f, e) refl, rw f refl)
+
+  pub reset-saves : {n : ℕ} {x : Answer} {b' : List ℕ} → r .answer ≡ Done → x ≡ saveAnswer (r .state) (length b) → b' ≡ saveBytes (r .state) b →
+      n ≡ numberOf x → (n ≡ numberOf (resetAnswer (length b) ram rom)) × (b' ≡ resetBytes b ram rom)
+  unfolding resetAnswer resetBytes
+  reset-saves a e g h =
+      let f : resetOf ram rom .answer ≡ Done = ap (λ (y : Stepped). y .answer) (sym is) ∙ a in
+      let k = saves (resetOf ram rom .state) b (reset-valid ram rom) in
+      (rw (f, h, e, is, k .0) refl, rw (f, g, is, k .1) (room _ _ (eqb (length b) 88)))
+    where
+      room : (x y : List ℕ) (t : Bool) → cond t x y ≡ whereDone (cond t Done (Refused Invalid)) x y
+      room x y true = refl
+      room x y false = refl
+
+-- ---- one step
+module _ (b ram rom : List ℕ) (o : Restored) (is : o ≡ openedOf b (length ram) (length rom)) where
+  opened-answer : {a : Answer} → o .answer ≡ a → openedOf b (length ram) (length rom) .answer ≡ a
+  opened-answer e = ap (λ (x : Restored). x .answer) (sym is) ∙ e
+
+  pub step-stops : {n : ℕ} (w : Why) → o .answer ≡ Refused w → n ≡ whyNumber w → left n b ram ≡ stepLeft b ram rom
+  unfolding stepLeft
+  step-stops w a e = rw (opened-answer a, e) refl
+
+  module _ (r : Stepped) (m : List ℕ) (good : o .answer ≡ Done) (e : outcome r m ≡ stepOf (o .state) ram rom) where
+    here : outcome r m ≡ stepOf (openedOf b (length ram) (length rom) .state) ram rom
+    here = e ∙ ap (λ (x : Restored). stepOf (x .state) ram rom) is
+
+    pub step-no : {n : ℕ} (w : Why) → r .answer ≡ Refused w → n ≡ whyNumber w → left n b m ≡ stepLeft b ram rom
+    unfolding stepLeft
+    step-no w a f = rw (opened-answer good, sym here, a, f) refl
+
+    pub step-did : {n : ℕ} {x : Answer} {b' : List ℕ} → r .answer ≡ Done → x ≡ saveAnswer (r .state) (length b) → b' ≡ saveBytes (r .state) b →
+        n ≡ numberOf x → left n b' m ≡ stepLeft b ram rom
+    unfolding stepLeft
+    step-did a f g h =
+        let v = opened-done b (length ram) (length rom) (opened-answer good) in
+        let w : Valid (r .state) = subst (λ (x : Outcome). Valid (x .state)) (sym here) (step-valid _ ram rom (v .0)) in
+        let k = saved-whole (r .state) b w (v .1) in
+        rw (opened-answer good, sym here, a, h, f, g, k .0, k .1) refl
+
+-- ---- many steps
+module _ (n : ℕ) (b ram rom : List ℕ) where
+  pub run-many : {k : ℕ} → 1000000 < n → k ≡ whyNumber TooMany → (left k b ram ≡ runLeft n b ram rom) × (0 ≡ runDone n b ram rom)
+  unfolding runLeft runDone
+  run-many h e = (rw (lt-ltb 1000000 n h, e) refl, rw (lt-ltb 1000000 n h) refl)
+
+  module _ (few : n ≤ 1000000) (o : Restored) (is : o ≡ openedOf b (length ram) (length rom)) where
+    pub run-stops : {k : ℕ} (w : Why) → o .answer ≡ Refused w → k ≡ whyNumber w → (left k b ram ≡ runLeft n b ram rom) × (0 ≡ runDone n b ram rom)
+    unfolding runLeft runDone
+    run-stops w a e =
+        let f = opened-answer b ram rom o is a in
+        (rw (le-ltb 1000000 n few, f, e) refl, rw (le-ltb 1000000 n few, f) refl)
+
+    pub run-ran : {k : ℕ} {b' : List ℕ} (r : Ran) (m : List ℕ) → o .answer ≡ Done → result r m ≡ runOf n (o .state) ram rom → b' ≡ saveBytes (r .state) b →
+        k ≡ numberOf (r .answer) → (left k b' m ≡ runLeft n b ram rom) × (r .done ≡ runDone n b ram rom)
+    unfolding runLeft runDone
+    run-ran r m a e g h =
+        let f = opened-answer b ram rom o is a in
+        let here : result r m ≡ runOf n (openedOf b (length ram) (length rom) .state) ram rom = e ∙ ap (λ (x : Restored). runOf n (x .state) ram rom) is in
+        let v = opened-done b (length ram) (length rom) f in
+        let w : Valid (r .state) = subst (λ (x : Result). Valid (x .state)) (sym here) (run-valid n _ ram rom (v .0)) in
+        let s = saved-whole (r .state) b w (v .1) in
+        (rw (le-ltb 1000000 n few, f, sym here, h, g, s .1) refl, rw (le-ltb 1000000 n few, f, sym here) refl)
+
+-- ---- show: an instruction has at most six bytes
+pub shown-few : (ram rom : List ℕ) (at : ℕ) → length (shownOf ram rom at) ≤ 6
+unfolding shownOf
+shown-few ram rom at = go (tooLong (length ram) (length rom)) (ltb at (2 ^ 24))
+  where
+    go : (x y : Bool) → length (cond x [] (cond y (take (lengthIn (decodeOf (codeAt ram rom at))) (codeAt ram rom at)) [])) ≤ 6
+    go true y = omega arith
+    go false false = omega arith
+    go false true = omega (arith, length-take (lengthIn (decodeOf (codeAt ram rom at))) (codeAt ram rom at), length-few (codeAt ram rom at))

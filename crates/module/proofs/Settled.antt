@@ -1,0 +1,100 @@
+-- The calls' statements settle their results, and what is not done leaves the record and RAM as they were.
+use Prim.Native.Nat.{ℕ, zero, suc, _+_, _≤_}
+use mathlib.Core.Path.{_≡_, refl, ap, sym, _∙_, subst}
+use mathlib.Core.List.{List}
+use mathlib.Core.Bool.{Bool, true, false, cond}
+use native.Mathlib.Omega.{arith}
+use lib.ListN.{length}
+use lib.Dec.{ltb}
+use Rattle.answer.specs.declared.Answer.{Answer}
+use Rattle.answer.specs.declared.Answer.the-variants.{Done, Refused}
+use Rattle.answer.specs.declared.Why.the-variants.{TooMany, TooLong}
+use Rattle.state.specs.declared.State.{State}
+use Rattle.saved.specs.Record.{recordOf, stateAt, isRecord, loadOf, refused}
+use Rattle.saved.specs.Statements.{Bytes}
+use Rattle.saved.proofs.RoundTrip.{read-saves-back}
+use Rattle.step.specs.Try.{Try, did, no, leaves}
+use Rattle.step.specs.Step.{tooLong, guarded, tryOf, stepOf}
+use Rattle.run.specs.Run.{Result, ends, afterChecks, goOf, runOf}
+use Rattle.run.proofs.Laws.{go-none, go-did, go-no}
+use Rattle.module.specs.Calls.{Left, refusedRecord, openedOf, unless, doneWhere, ranLeft, stepped, stepLeft, runOpened, runLeft, runDone}
+use Rattle.module.specs.Statements.{Settled, StepRefusedKeeps, RunNothingKeeps}
+
+pub settled : Settled
+settled = (
+  λ bytes ram rom n n' b b' e f. (e .0 ∙ sym (f .0), e .1 ∙ sym (f .1)),
+  λ bytes ram rom n n' b b' m m' e f.
+      let g = e ∙ sym f in
+      (ap (λ (l : Left). l .number) g, ap (λ (l : Left). l .bytes) g, ap (λ (l : Left). l .ram) g),
+  λ steps bytes ram rom n n' b b' m m' d d' e f.
+      let g = e .0 ∙ sym (f .0) in
+      (ap (λ (l : Left). l .number) g, ap (λ (l : Left). l .bytes) g, ap (λ (l : Left). l .ram) g, e .1 ∙ sym (f .1)),
+  λ ram rom at n n' l l' e f. (e .0 ∙ sym (f .0), e .1 ∙ sym (f .1)),
+)
+
+pub step-refused-keeps : StepRefusedKeeps
+unfolding stepLeft stepOf
+step-refused-keeps bytes ram rom h =
+    let s = openedOf bytes (length ram) (length rom) in
+    go (s .state) (s .answer) (tryOf (s .state) ram rom) h
+  where
+    go : (s : State) (a : Answer) (t : Try) → (unless a bytes ram (stepped (leaves s ram t) bytes) .number ≡ 0 → ⊥) →
+        (unless a bytes ram (stepped (leaves s ram t) bytes) .bytes ≡ bytes) × (unless a bytes ram (stepped (leaves s ram t) bytes) .ram ≡ ram)
+    go s (Refused w) t f = (refl, refl)
+    go s Done (did u m) f = absurd (f refl)
+    go s Done (no w) f = (refl, refl)
+
+-- ---- the count of steps never falls
+go-counts : (n d : ℕ) (s : State) (ram rom : List ℕ) → d ≤ goOf n d s ram rom .done
+go-counts zero d s ram rom = omega (arith, ap (λ (r : Result). r .done) (go-none d s ram rom))
+go-counts (suc n) d s ram rom = go (tryOf s ram rom) refl (λ u m. go-counts n (d + 1) u m rom)
+  where
+    go : (t : Try) → tryOf s ram rom ≡ t → ((u : State) (m : List ℕ) → d + 1 ≤ goOf n (d + 1) u m rom .done) → d ≤ goOf (suc n) d s ram rom .done
+    go (did u m) e later = omega (arith, ap (λ (r : Result). r .done) (go-did n d s ram rom u m e), later u m)
+    go (no w) e later = omega (arith, ap (λ (r : Result). r .done) (go-no n d s ram rom w e))
+
+abbrev Same : State → List ℕ → Result → Type 0
+Same s ram r = (r .state ≡ s) × (r .ram ≡ ram)
+
+go-nothing : (n : ℕ) (s : State) (ram rom : List ℕ) → goOf n 0 s ram rom .done ≡ 0 → Same s ram (goOf n 0 s ram rom)
+go-nothing zero s ram rom h = rw (go-none 0 s ram rom) (refl, refl)
+go-nothing (suc n) s ram rom h = go (tryOf s ram rom) refl
+  where
+    go : (t : Try) → tryOf s ram rom ≡ t → Same s ram (goOf (suc n) 0 s ram rom)
+    go (did u m) e = absurd (omega (arith, h, ap (λ (r : Result). r .done) (go-did n 0 s ram rom u m e), go-counts n (0 + 1) u m rom))
+    go (no w) e = rw (go-no n 0 s ram rom w e) (refl, refl)
+
+run-nothing : (n : ℕ) (s : State) (ram rom : List ℕ) → runOf n s ram rom .done ≡ 0 → Same s ram (runOf n s ram rom)
+unfolding runOf
+run-nothing n s ram rom h = go (ltb 1000000 n) (guarded s ram rom (did s ram)) h
+  where
+    go : (b : Bool) (t : Try) → cond b (ends 0 s ram (Refused TooMany)) (afterChecks t s ram (goOf n 0 s ram rom)) .done ≡ 0 →
+        Same s ram (cond b (ends 0 s ram (Refused TooMany)) (afterChecks t s ram (goOf n 0 s ram rom)))
+    go true t f = (refl, refl)
+    go false (did u m) f = go-nothing n s ram rom f
+    go false (no w) f = (refl, refl)
+
+-- ---- a record that is opened is written again as itself
+opened-back : (n : ℕ) (b ram rom : List ℕ) → Bytes b → runOpened n b ram rom .answer ≡ Done → recordOf (runOpened n b ram rom .state) ≡ b
+unfolding openedOf loadOf
+opened-back n b ram rom bytes h = go (ltb 1000000 n) (tooLong (length ram) (length rom)) (isRecord b) refl h
+  where
+    go : (x y z : Bool) → isRecord b ≡ z →
+        cond x (refusedRecord TooMany) (cond y (refusedRecord TooLong) (cond z (record { answer = Done; state = stateAt b }) refused)) .answer ≡ Done →
+        recordOf (cond x (refusedRecord TooMany) (cond y (refusedRecord TooLong) (cond z (record { answer = Done; state = stateAt b }) refused)) .state) ≡ b
+    go false false true e f = read-saves-back b bytes e
+    go false false false e f = let k : _≡_ {A = ℕ} 0 1 = cc in absurd (omega arith)
+    go false true z e f = let k : _≡_ {A = ℕ} 0 1 = cc in absurd (omega arith)
+    go true y z e f = let k : _≡_ {A = ℕ} 0 1 = cc in absurd (omega arith)
+
+pub run-nothing-keeps : RunNothingKeeps
+unfolding runLeft runDone
+run-nothing-keeps n bytes ram rom ok h =
+    let o = runOpened n bytes ram rom in
+    go (o .answer) (runOf n (o .state) ram rom) (λ e. opened-back n bytes ram rom ok e) (λ f. run-nothing n (o .state) ram rom f) h refl
+  where
+    go : (a : Answer) (r : Result) → (runOpened n bytes ram rom .answer ≡ Done → recordOf (runOpened n bytes ram rom .state) ≡ bytes) →
+        (r .done ≡ 0 → Same (runOpened n bytes ram rom .state) ram r) → doneWhere a (r .done) ≡ 0 → runOpened n bytes ram rom .answer ≡ a →
+        (unless a bytes ram (ranLeft r) .bytes ≡ bytes) × (unless a bytes ram (ranLeft r) .ram ≡ ram)
+    go (Refused w) r back same f e = (refl, refl)
+    go Done r back same f e = (ap recordOf (same f .0) ∙ back e, same f .1)

@@ -1,0 +1,71 @@
+use Rattle.module.proofs.Laws.{run-many, run-stops, run-ran}
+use borrow.Author.Needs.{needs}
+use Rattle.module.proofs.tlcs900h_run.Statement.{statement}
+use Rattle.module.proofs.tlcs900h_run.Tie as tie
+
+why-number-requires : tie.Need-why-number-requires
+why-number-requires c κs = search needs
+
+returns : tie.Need-returns
+returns c =
+    let a = c .before .before .before .before .before .args in
+    run-many (a .steps) (a .bytes .now) (a .ram .now) (a .rom .now) (c .before .if1 .taken) (c .why-number .ensures)
+
+opened-requires : tie.Need-opened-requires
+opened-requires c κs = search needs
+
+enum-known-a : tie.Need-enum-known-a
+enum-known-a c = search needs
+
+why-number-requires-2 : tie.Need-why-number-requires-2
+why-number-requires-2 c κs = search needs
+
+same-length : tie.Need-same-length
+same-length c = search needs
+
+returns-2 : tie.Need-returns-2
+returns-2 c =
+    let a = c .before .before .before .before .before .before .before .before .before .before .args in
+    run-stops (a .steps) (a .bytes .now) (a .ram .now) (a .rom .now) (c .before .before .before .before .before .before .if1 .left) (c .before .before .before .before .opened .result) (c .before .before .before .before .opened .ensures) (c .before .before .a .given .0 .0) (c .before .before .a .given .1) (c .why-number2 .ensures)
+
+enum-told : tie.Need-enum-told
+enum-told c = search needs
+
+run-requires : tie.Need-run-requires
+run-requires c κs = search needs
+
+save-requires : tie.Need-save-requires
+save-requires c κs = search needs
+
+number-requires : tie.Need-number-requires
+number-requires c κs = search needs
+
+same-length-2 : tie.Need-same-length-2
+same-length-2 c = search needs
+
+same-length-3 : tie.Need-same-length-3
+same-length-3 c = search needs
+
+returns-3 : tie.Need-returns-3
+returns-3 c =
+    let a = c .before .before .before .before .before .before .before .before .before .before .before .before .before .before .before .before .before .args in
+    run-ran (a .steps) (a .bytes .now) (a .ram .now) (a .rom .now) (c .before .before .before .before .before .before .before .before .before .before .before .before .before .if1 .left) (c .before .before .before .before .before .before .before .before .before .before .before .opened .result) (c .before .before .before .before .before .before .before .before .before .before .before .opened .ensures) (c .before .before .before .before .before .before .before .run .result) (c .before .before .before .before .before .before .before .run .last .1 .0) (c .before .before .before .before .before .before .before .before .before .enum-told .given .1) (c .before .before .before .before .before .before .before .run .ensures) (c .before .before .before .save .ensures .1) (c .number .ensures)
+
+pub tlcs900h-run-spec : {M : Type 1} → statement M
+tlcs900h-run-spec =
+    tie.close
+    (tie.spec
+    why-number-requires
+    returns
+    opened-requires
+    enum-known-a
+    why-number-requires-2
+    same-length
+    returns-2
+    enum-told
+    run-requires
+    save-requires
+    number-requires
+    same-length-2
+    same-length-3
+    returns-3)

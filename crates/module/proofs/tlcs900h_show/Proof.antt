@@ -1,0 +1,29 @@
+use mathlib.Core.Path.{ap, _∙_}
+use native.Mathlib.Omega.{arith}
+use lib.ListN.{length}
+use Rattle.answer.specs.Number.{numberOf}
+use Rattle.module.proofs.Laws.{shown-few}
+use borrow.Author.Needs.{needs}
+use Rattle.module.proofs.tlcs900h_show.Statement.{statement}
+use Rattle.module.proofs.tlcs900h_show.Tie as tie
+
+show-requires : tie.Need-show-requires
+show-requires c κs = search needs
+
+cast-size : tie.Need-cast-size
+cast-size c =
+    let a = c .before .before .before .args in
+    omega (arith, ap length (c .show .ensures), shown-few (a .ram .now) (a .rom .now) (a .at))
+
+show-answer-requires : tie.Need-show-answer-requires
+show-answer-requires c κs = search needs
+
+number-requires : tie.Need-number-requires
+number-requires c κs = search needs
+
+returns : tie.Need-returns
+returns c = (c .number .ensures ∙ ap numberOf (c .before .show-answer .ensures), ap length (c .before .before .show .ensures))
+
+pub tlcs900h-show-spec : {M : Type 1} → statement M
+tlcs900h-show-spec =
+    tie.close (tie.spec show-requires cast-size show-answer-requires number-requires returns)

@@ -1,0 +1,94 @@
+// What C and Rust call. A state crosses as its saved record of 88 bytes, an answer as its number, and nothing is kept between calls.
+ghost use mathlib.Core.Path.{_≡_};
+ghost use lib.ListN.{length};
+ghost use Rattle.answer.specs.Number.{numberOf};
+ghost use Rattle.step.specs.Show.{showAnswerOf, shownOf};
+ghost use Rattle.module.specs.Calls.{left, openedOf, resetAnswer, resetBytes, stepLeft, runLeft, runDone};
+use answer::Answer;
+use answer::Why;
+use saved::Restored;
+use state::State;
+
+// The state that a record holds; 1 is looked for before 2.
+fn opened(bytes: &[u8], ram_len: usize, rom_len: usize) -> Restored
+    ensures { λ r. ⌜ r ≡ openedOf (now (bytes .entry)) «ram_len» «rom_len» ⌝ }
+{
+    if step::too_long(ram_len, rom_len) {
+        return Restored {
+            answer: Answer::Refused(Why::TooLong),
+            state: State::zero(),
+        };
+    }
+    saved::load(bytes)
+}
+
+// Writes the record of the reset state.
+#[no_mangle]
+pub extern "C" fn tlcs900h_reset(bytes: &mut [u8], ram: &[u8], rom: &[u8]) -> u8
+    ensures { λ r. ⌜ r ≡ numberOf (resetAnswer (length (now (bytes .entry))) (now (ram .entry)) (now (rom .entry))) ⌝ }
+    ensures { λ _. ⌜ now (bytes .exit) ≡ resetBytes (now (bytes .entry)) (now (ram .entry)) (now (rom .entry)) ⌝ }
+{
+    let s = step::reset(ram, rom);
+    let a = s.answer;
+    if let Answer::Refused(w) = a {
+        return answer::why_number(w);
+    }
+    answer::number(saved::save(s.state, bytes))
+}
+
+// One step of the state that the record holds. A refusal leaves the record and RAM as they were.
+#[no_mangle]
+pub extern "C" fn tlcs900h_step(bytes: &mut [u8], ram: &mut [u8], rom: &[u8]) -> u8
+    ensures { λ r. ⌜ left r (now (bytes .exit)) (now (ram .exit)) ≡ stepLeft (now (bytes .entry)) (now (ram .entry)) (now (rom .entry)) ⌝ }
+{
+    let o = opened(&*bytes, ram.len(), rom.len());
+    let a = o.answer;
+    if let Answer::Refused(w) = a {
+        return answer::why_number(w);
+    }
+    let r = step::step(o.state, ram, rom);
+    let b = r.answer;
+    if let Answer::Refused(w) = b {
+        return answer::why_number(w);
+    }
+    answer::number(saved::save(r.state, bytes))
+}
+
+// Up to a million steps. Where a step is refused, the record, RAM and `done` say what was done before it.
+#[no_mangle]
+pub extern "C" fn tlcs900h_run(
+    bytes: &mut [u8],
+    ram: &mut [u8],
+    rom: &[u8],
+    steps: u32,
+    done: &mut u32,
+) -> u8
+    ensures { λ r. ⌜ left r (now (bytes .exit)) (now (ram .exit)) ≡ runLeft steps (now (bytes .entry)) (now (ram .entry)) (now (rom .entry)) ⌝ }
+    ensures { λ _. ⌜ now (done .exit) ≡ runDone steps (now (bytes .entry)) (now (ram .entry)) (now (rom .entry)) ⌝ }
+{
+    *done = 0;
+    if 1000000 < steps {
+        return answer::why_number(Why::TooMany);
+    }
+    let o = opened(&*bytes, ram.len(), rom.len());
+    let a = o.answer;
+    if let Answer::Refused(w) = a {
+        return answer::why_number(w);
+    }
+    let r = run::run(o.state, ram, rom, steps);
+    *done = r.done;
+    let b = r.answer;
+    saved::save(r.state, bytes);
+    answer::number(b)
+}
+
+// How many bytes the instruction at an address has; 0 where it is refused.
+#[no_mangle]
+pub extern "C" fn tlcs900h_show<'a>(ram: &'a [u8], rom: &'a [u8], at: u32, size: &mut u32) -> u8
+    ensures { λ r. ⌜ r ≡ numberOf (showAnswerOf (now (ram .entry)) (now (rom .entry)) at) ⌝ }
+    ensures { λ _. ⌜ now (size .exit) ≡ length (shownOf (now (ram .entry)) (now (rom .entry)) at) ⌝ }
+{
+    let code = step::show(ram, rom, at);
+    *size = code.len() as u32;
+    answer::number(step::show_answer(ram, rom, at))
+}
