@@ -1,0 +1,160 @@
+//! States, values and addresses where mistakes are likely to be.
+
+use crate::chance::Chance;
+use crate::image::Image;
+
+/// The values at which arithmetic of some width turns.
+pub const TURNS: [u32; 11] = [
+    0,
+    1,
+    0x7F,
+    0x80,
+    0xFF,
+    0x7FFF,
+    0x8000,
+    0xFFFF,
+    0x7FFF_FFFF,
+    0x8000_0000,
+    0xFFFF_FFFF,
+];
+
+/// The lengths at which something about a memory changes.
+pub const LENGTHS: [usize; 7] = [0, 1, 255, 256, 65_535, 65_536, 65_537];
+
+/// The flag bits that a flag register can hold.
+pub const FLAGS: u8 = 0xD7;
+
+pub const RECORD_LENGTH: usize = 88;
+pub const COUNTER: usize = 80;
+pub const STATUS: usize = 84;
+pub const SPARE_FLAGS: usize = 86;
+/// Where the four shared registers begin; XSP is the last of them.
+pub const SHARED: usize = 64;
+pub const XSP: usize = 76;
+
+/// How long the two memories are.
+#[derive(Clone, Copy, Debug)]
+pub struct Layout {
+    pub ram: usize,
+    pub rom: usize,
+}
+
+impl Layout {
+    /// Short memories, so that most of an address's neighbours are ends.
+    pub fn short(chance: &mut Chance) -> Layout {
+        let mut length = || match chance.below(8) {
+            0 => chance.below(8) as usize,
+            1 => 255 + chance.below(3) as usize,
+            _ => 16 + chance.below(240) as usize,
+        };
+        Layout {
+            ram: length(),
+            rom: length(),
+        }
+    }
+
+    pub fn rom_start(self) -> u32 {
+        (1 << 24) - self.rom as u32
+    }
+}
+
+/// A value of any width: at a turn, near one, of turning bytes, or anything.
+pub fn value(chance: &mut Chance) -> u32 {
+    match chance.below(8) {
+        0..=2 => chance.pick(&TURNS),
+        3 => chance
+            .pick(&TURNS)
+            .wrapping_add(chance.below(17))
+            .wrapping_sub(8),
+        4..=5 => u32::from_le_bytes([(); 4].map(|()| turning_byte(chance))),
+        _ => chance.long(),
+    }
+}
+
+fn turning_byte(chance: &mut Chance) -> u8 {
+    chance.pick(&[0x00, 0x01, 0x0F, 0x10, 0x7F, 0x80, 0xFE, 0xFF])
+}
+
+/// A displacement: short more often than not, of either sign.
+pub fn displacement(chance: &mut Chance) -> u16 {
+    match chance.below(4) {
+        0 => value(chance) as u16,
+        1 => chance.long() as u16,
+        _ => (chance.below(17) as u16).wrapping_sub(8),
+    }
+}
+
+/// An address: inside a memory, round one of its ends, or anywhere. Its
+/// highest byte, which no address has, is sometimes not zero.
+pub fn address(chance: &mut Chance, layout: Layout) -> u32 {
+    let round =
+        |chance: &mut Chance, place: u32| place.wrapping_add(chance.below(11)).wrapping_sub(6);
+    let ram = layout.ram as u32;
+    let at = match chance.below(16) {
+        0..=6 => chance.below(ram + 1),
+        7..=8 => round(chance, ram),
+        9 => round(chance, 0),
+        10..=12 => layout.rom_start() + chance.below(layout.rom as u32 + 1),
+        13 => round(chance, layout.rom_start()),
+        14 => chance.below(0x1_0000),
+        _ => chance.long(),
+    };
+    if chance.once_in(4) {
+        at & 0xFF_FFFF | chance.long() << 24
+    } else {
+        at & 0xFF_FFFF
+    }
+}
+
+/// What a long register holds: an address or a value.
+pub fn long(chance: &mut Chance, layout: Layout) -> u32 {
+    if chance.below(8) < 5 {
+        address(chance, layout)
+    } else {
+        value(chance)
+    }
+}
+
+/// The record of a valid state. BC of each bank is often about to end.
+pub fn record(chance: &mut Chance, layout: Layout) -> Vec<u8> {
+    let mut record = vec![0; RECORD_LENGTH];
+    for place in (0..COUNTER).step_by(4) {
+        put_long(&mut record, place, long(chance, layout));
+    }
+    if chance.once_in(3) {
+        let count = chance.pick(&[0u16, 1, 2, 3, 0xFFFF]).to_le_bytes();
+        for bank in 0..4 {
+            record[16 * bank + 4..16 * bank + 6].copy_from_slice(&count);
+        }
+    }
+    let counter = address(chance, layout) & 0xFF_FFFF;
+    put_long(&mut record, COUNTER, counter);
+    record[STATUS] = chance.byte() & FLAGS;
+    record[STATUS + 1] = 0x88 | chance.below(4) as u8 | (chance.below(8) as u8) << 4;
+    record[SPARE_FLAGS] = chance.byte() & FLAGS;
+    record
+}
+
+pub fn put_long(record: &mut [u8], place: usize, value: u32) {
+    record[place..place + 4].copy_from_slice(&value.to_le_bytes());
+}
+
+pub fn get_long(record: &[u8], place: usize) -> u32 {
+    u32::from_le_bytes(record[place..place + 4].try_into().expect("four bytes"))
+}
+
+/// Where in a record the long register of this code lies, in the current
+/// bank.
+pub fn place_of_long(record: &[u8], code: usize) -> usize {
+    let bank = usize::from(record[STATUS + 1] & 3);
+    if code < 4 {
+        16 * bank + 4 * code
+    } else {
+        SHARED + 4 * (code - 4)
+    }
+}
+
+/// Noise that a case can name.
+pub fn noise(chance: &mut Chance, length: usize) -> Image {
+    Image::noise(length, chance.wide() >> 32 | 1)
+}

@@ -1,0 +1,57 @@
+//! What is compared, group by group. Each group counts as one test.
+
+mod arithmetic;
+mod blocks;
+mod codes;
+mod ends;
+mod examples;
+mod flow;
+mod memories;
+mod misuse;
+mod records;
+mod runs;
+
+use crate::chance::Chance;
+use crate::judge::Judge;
+
+/// What a group works with. Everything in it hangs on the seed alone.
+pub struct Bench<'a> {
+    pub judge: &'a mut Judge,
+    pub chance: Chance,
+    /// How many times the drawn cases are drawn anew.
+    pub rounds: u32,
+}
+
+/// A name and what is compared under it.
+pub struct Group(pub &'static str, pub fn(&mut Bench));
+
+pub const GROUPS: &[Group] = &[
+    Group("examples", examples::all),
+    Group("first-two-bytes-in-ram", codes::first_two_bytes_in_ram),
+    Group("first-two-bytes-in-rom", codes::first_two_bytes_in_rom),
+    Group("last-code-byte", codes::last_code_byte),
+    Group("listed-forms", codes::listed_forms),
+    Group("all-byte-pairs", arithmetic::all_byte_pairs),
+    Group("turning-values", arithmetic::turning_values),
+    Group("counts-shifts-extensions", arithmetic::one_operand),
+    Group("conditions", flow::conditions),
+    Group("flag-codes", flow::flag_codes),
+    Group("far-jumps", flow::far_jumps),
+    Group("operands-at-the-ends", ends::operands),
+    Group("stack-at-the-ends", ends::stack),
+    Group("code-at-the-ends", ends::code),
+    Group("block-rounds", blocks::rounds),
+    Group("overlapping-copies", blocks::overlapping_copies),
+    Group("repeats-by-hand", blocks::repeats_by_hand),
+    Group("large-repeats", blocks::large_repeats),
+    Group("record-bits", records::bits),
+    Group("record-lengths", records::lengths),
+    Group("memory-lengths", memories::lengths),
+    Group("reset", memories::reset),
+    Group("show", memories::show),
+    Group("noise-runs", runs::noise),
+    Group("strung-instructions", runs::strung),
+    Group("run-lengths", runs::lengths),
+    Group("runs-as-steps", runs::as_steps),
+    Group("misuse", misuse::all),
+];

@@ -1,0 +1,169 @@
+//! Every code byte after every other, and every listed form.
+
+use super::Bench;
+use crate::aim::{self, Layout, COUNTER};
+use crate::case::{Call, Case};
+use crate::chance::Chance;
+use crate::listed::forms;
+
+/// What follows the first two bytes.
+const TAILS: [[u8; 4]; 4] = [
+    [0x00, 0x00, 0x00, 0x00],
+    [0xFF, 0xFF, 0xFF, 0xFF],
+    [0x0F, 0x20, 0x00, 0x88],
+    [0x9B, 0x00, 0xF1, 0x45],
+];
+
+const MIDDLING: Layout = Layout { ram: 320, rom: 320 };
+const CODE_PLACE: usize = 0x40;
+
+#[derive(Clone, Copy)]
+enum Memory {
+    Ram,
+    Rom,
+}
+
+pub fn first_two_bytes_in_ram(bench: &mut Bench) {
+    first_two_bytes(bench, Memory::Ram);
+}
+
+pub fn first_two_bytes_in_rom(bench: &mut Bench) {
+    first_two_bytes(bench, Memory::Rom);
+}
+
+/// All 65,536, each with every tail, from a state whose pointers are all in
+/// RAM and from one whose pointers are anywhere.
+fn first_two_bytes(bench: &mut Bench, memory: Memory) {
+    for _ in 0..bench.rounds {
+        for tail in TAILS {
+            for at_ease in [true, false] {
+                for first in 0..=255 {
+                    let mut case = blank(&mut bench.chance, memory, at_ease);
+                    for second in 0..=255 {
+                        let code = [first, second, tail[0], tail[1], tail[2], tail[3]];
+                        put_code(&mut case, memory, &code);
+                        bench.judge.hold(&case);
+                    }
+                    if bench.judge.weary() {
+                        return;
+                    }
+                }
+            }
+        }
+    }
+}
+
+/// A step with its counter where the code will be.
+fn blank(chance: &mut Chance, memory: Memory, at_ease: bool) -> Case {
+    let mut record = aim::record(chance, MIDDLING);
+    if at_ease {
+        for place in (0..COUNTER).step_by(4) {
+            aim::put_long(&mut record, place, 0x80 + chance.below(0x80));
+        }
+    }
+    let counter = CODE_PLACE as u32
+        + match memory {
+            Memory::Ram => 0,
+            Memory::Rom => MIDDLING.rom_start(),
+        };
+    aim::put_long(&mut record, COUNTER, counter);
+    Case {
+        call: Call::Step,
+        record,
+        ram: aim::noise(chance, MIDDLING.ram),
+        rom: aim::noise(chance, MIDDLING.rom),
+    }
+}
+
+fn put_code(case: &mut Case, memory: Memory, code: &[u8]) {
+    match memory {
+        Memory::Ram => case.ram.put(CODE_PLACE, code),
+        Memory::Rom => case.rom.put(CODE_PLACE, code),
+    }
+}
+
+/// Forms whose last byte comes after an address, a displacement or a
+/// register and a shift: with every last byte.
+pub fn last_code_byte(bench: &mut Bench) {
+    let beginnings = (0x88..=0xBF)
+        .filter(|first| first & 8 != 0)
+        .map(|first| (first, 1))
+        .chain([0xC0, 0xD0, 0xE0, 0xF0].map(|first| (first, 1)))
+        .chain([0xC1, 0xD1, 0xE1, 0xF1].map(|first| (first, 2)))
+        .chain([0xC2, 0xD2, 0xE2, 0xF2].map(|first| (first, 3)))
+        .chain([0xC9, 0xDA, 0xEC].map(|first| (first, 1)));
+    for (first, between) in beginnings {
+        for _ in 0..16 * bench.rounds {
+            let memory = bench.chance.pick(&[Memory::Ram, Memory::Rom]);
+            let mut case = blank(&mut bench.chance, memory, true);
+            let mut code = vec![first];
+            let middle = match first {
+                0xC0..=0xF2 if first & 8 == 0 => aim::address(&mut bench.chance, MIDDLING),
+                0xC8..=0xEF => bench.chance.pick(&[0xEC, 0xED, 0xEE, 0xEF]),
+                _ => bench.chance.long(),
+            };
+            code.extend_from_slice(&middle.to_le_bytes()[..between]);
+            for last in 0..=255 {
+                code.push(last);
+                put_code(&mut case, memory, &code);
+                bench.judge.hold(&case);
+                code.pop();
+            }
+        }
+        if bench.judge.weary() {
+            return;
+        }
+    }
+}
+
+/// Every listed form, drawn over and over, from aimed states over short
+/// memories. Each form must have been done many times, or nothing was shown.
+pub fn listed_forms(bench: &mut Bench) {
+    const TIMES: u32 = 20_000;
+    for (place, form) in forms().iter().enumerate() {
+        let mut done = 0;
+        for _ in 0..TIMES * bench.rounds {
+            let case = aimed_case(&mut bench.chance, |chance, layout| {
+                form.draw(chance, layout)
+            });
+            let answer = bench.judge.hold(&case);
+            done += u32::from(answer.number == 0);
+            if bench.judge.weary() {
+                return;
+            }
+        }
+        bench.judge.expect(done > TIMES / 20, || {
+            format!("form {place} was done only {done} times")
+        });
+    }
+}
+
+/// A step over short memories whose counter is mostly at the drawn code:
+/// mostly somewhere inside a memory, now and then right at its end.
+pub fn aimed_case(chance: &mut Chance, draw: impl FnOnce(&mut Chance, Layout) -> Vec<u8>) -> Case {
+    let layout = Layout::short(chance);
+    let code = draw(chance, layout);
+    let mut case = Case {
+        call: Call::Step,
+        record: aim::record(chance, layout),
+        ram: aim::noise(chance, layout.ram),
+        rom: aim::noise(chance, layout.rom),
+    };
+    let in_ram = chance.once_in(2);
+    let length = if in_ram { layout.ram } else { layout.rom };
+    let room = length.saturating_sub(code.len());
+    let place = match chance.below(8) {
+        0 => room,
+        1 => length.saturating_sub(chance.below(7) as usize),
+        _ => chance.below(room as u32 + 1) as usize,
+    };
+    let (image, start) = if in_ram {
+        (&mut case.ram, 0)
+    } else {
+        (&mut case.rom, layout.rom_start())
+    };
+    image.put(place, &code);
+    let counter = (start + place as u32) & 0xFF_FFFF;
+    aim::put_long(&mut case.record, COUNTER, counter);
+    case
+}

@@ -1,0 +1,45 @@
+//! The worked examples, run on the library: the books', document 01's cases
+//! and those worked by hand.
+
+use super::Bench;
+use crate::case::{Call, Case};
+use crate::image::Image;
+use second::examples::{Example, BOOK, CASES, HAND};
+
+pub fn all(bench: &mut Bench) {
+    for example in BOOK.iter().chain(CASES).chain(HAND) {
+        example_holds(bench, example);
+    }
+}
+
+/// In one run, then step by step: each time all that the example says, and
+/// nothing else, must be there.
+fn example_holds(bench: &mut Bench, example: &Example) {
+    let (start, end) = (example.start(), example.end());
+    let mut case = Case {
+        call: Call::Run(example.steps),
+        record: start.record.to_vec(),
+        ram: Image::of(&start.ram),
+        rom: Image::of(&start.rom),
+    };
+    let answer = bench.judge.hold(&case);
+    let done = (answer.count, answer.number) == (example.steps, 0);
+    let (record, ram) = bench.judge.left();
+    let right = done && record == end.record && ram == end.ram;
+    bench.judge.expect(right, || told(example, &case));
+
+    case.call = Call::Step;
+    let whole = case.clone();
+    let done = (0..example.steps).all(|_| bench.judge.hold_and_carry(&mut case).number == 0);
+    let right = done && case.record == end.record && case.ram.bytes == end.ram;
+    bench.judge.expect(right, || told(example, &whole));
+}
+
+fn told(example: &Example, case: &Case) -> String {
+    format!(
+        "example {} ({}): --case '{}'",
+        example.name,
+        example.source,
+        case.text()
+    )
+}

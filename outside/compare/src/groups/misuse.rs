@@ -1,0 +1,75 @@
+//! Bad use of the C surface: a number comes back, and nothing breaks.
+
+use super::Bench;
+use crate::aim::{self, Layout};
+use crate::case::{Call, Case};
+use crate::image::Image;
+use library::Empty;
+
+const CALLS: [Call; 8] = [
+    Call::Reset,
+    Call::Step,
+    Call::Run(0),
+    Call::Run(100),
+    Call::Run(1_000_001),
+    Call::Show(0),
+    Call::Show(0xFF_FFFF),
+    Call::Show(0xFFFF_FFFF),
+];
+
+pub fn all(bench: &mut Bench) {
+    for empty in [Empty::Null, Empty::Dangling] {
+        bench.judge.hand_empty_as(empty);
+        nothing_lent(bench);
+        noise_lent(bench);
+    }
+    bench.judge.hand_empty_as(Empty::Dangling);
+}
+
+/// Each slice empty, alone and with the others.
+fn nothing_lent(bench: &mut Bench) {
+    let layout = Layout { ram: 300, rom: 300 };
+    for which in 0..8 {
+        let length = |bit: u32, full: usize| if which & bit == 0 { full } else { 0 };
+        let (ram, rom) = (length(2, layout.ram), length(4, layout.rom));
+        let mut record = aim::record(&mut bench.chance, layout);
+        record.truncate(length(1, record.len()));
+        let mut case = Case {
+            call: Call::Reset,
+            record,
+            ram: aim::noise(&mut bench.chance, ram),
+            rom: aim::noise(&mut bench.chance, rom),
+        };
+        for call in CALLS {
+            case.call = call;
+            bench.judge.hold(&case);
+        }
+    }
+}
+
+/// Records of noise of any length over memories of noise of any length.
+fn noise_lent(bench: &mut Bench) {
+    for _ in 0..5_000 * bench.rounds {
+        let lengths = [0, 1, 87, 88, 89, 200, 88, 88];
+        let mut record = vec![0; bench.chance.pick(&lengths)];
+        bench.chance.fill(&mut record);
+        let mut length = || match bench.chance.below(40) {
+            0 => 65_537,
+            1 => 70_000,
+            _ => bench.chance.below(300) as usize,
+        };
+        let (ram, rom) = (length(), length());
+        let mut case = Case {
+            call: bench.chance.pick(&CALLS),
+            record,
+            ram: Image::zeros(ram),
+            rom: Image::zeros(rom),
+        };
+        bench.chance.fill(&mut case.ram.bytes);
+        bench.chance.fill(&mut case.rom.bytes);
+        bench.judge.hold(&case);
+        if bench.judge.weary() {
+            return;
+        }
+    }
+}

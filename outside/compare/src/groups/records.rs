@@ -1,0 +1,76 @@
+//! Records that are no state's.
+
+use super::Bench;
+use crate::aim::{self, Layout, RECORD_LENGTH};
+use crate::case::{Call, Case};
+use crate::image::Image;
+
+const LAYOUT: Layout = Layout { ram: 32, rom: 32 };
+const CALLS: [Call; 4] = [Call::Step, Call::Run(0), Call::Run(2), Call::Run(1_000_001)];
+
+fn with_record(record: Vec<u8>) -> Case {
+    Case {
+        call: Call::Step,
+        record,
+        ram: Image::zeros(LAYOUT.ram),
+        rom: Image::zeros(LAYOUT.rom),
+    }
+}
+
+fn hold_all(bench: &mut Bench, case: &mut Case) {
+    for call in CALLS {
+        case.call = call;
+        bench.judge.hold(case);
+    }
+}
+
+/// Each bit of several good records turned over, alone and with others; and
+/// every value of the bytes that have rules.
+pub fn bits(bench: &mut Bench) {
+    for _ in 0..6 * bench.rounds {
+        let mut case = with_record(aim::record(&mut bench.chance, LAYOUT));
+        for bit in 0..8 * RECORD_LENGTH {
+            case.record[bit / 8] ^= 1 << (bit % 8);
+            hold_all(bench, &mut case);
+            let other = bench.chance.below(8 * RECORD_LENGTH as u32) as usize;
+            case.record[other / 8] ^= 1 << (other % 8);
+            hold_all(bench, &mut case);
+            case.record[other / 8] ^= 1 << (other % 8);
+            case.record[bit / 8] ^= 1 << (bit % 8);
+        }
+        for place in aim::COUNTER..RECORD_LENGTH {
+            let kept = case.record[place];
+            for value in 0..=255 {
+                case.record[place] = value;
+                hold_all(bench, &mut case);
+            }
+            case.record[place] = kept;
+        }
+        if bench.judge.weary() {
+            return;
+        }
+    }
+}
+
+/// Records of every length to 200: cut short, made longer, and of noise.
+pub fn lengths(bench: &mut Bench) {
+    for length in 0..=200 {
+        for _ in 0..2 * bench.rounds {
+            let mut good = aim::record(&mut bench.chance, LAYOUT);
+            good.resize(length, 0);
+            let mut noise = vec![0; length];
+            bench.chance.fill(&mut noise);
+            for record in [good, noise, vec![0; length]] {
+                let mut case = with_record(record);
+                hold_all(bench, &mut case);
+                case.call = Call::Reset;
+                bench.judge.hold(&case);
+                case.rom = aim::noise(&mut bench.chance, 256);
+                bench.judge.hold(&case);
+            }
+        }
+        if bench.judge.weary() {
+            return;
+        }
+    }
+}

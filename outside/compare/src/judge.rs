@@ -1,0 +1,284 @@
+//! Both machines do the same call; whatever differs is printed whole.
+
+use crate::case::{Call, Case};
+use crate::image::hex;
+use crate::reference;
+use library::{Empty, Library};
+
+/// Bytes on each side of what is lent to the library, which it must not
+/// touch.
+const GUARD: usize = 16;
+const GUARD_BYTE: u8 = 0xA5;
+
+/// How many disagreements a group prints before it gives up.
+const MOST_PRINTED: u32 = 5;
+/// How many differing bytes of RAM are printed.
+const MOST_BYTES_PRINTED: usize = 16;
+
+/// A copy of some bytes between two guards.
+#[derive(Default)]
+struct Guarded(Vec<u8>);
+
+impl Guarded {
+    fn load(&mut self, bytes: &[u8]) {
+        self.0.clear();
+        self.0.resize(GUARD, GUARD_BYTE);
+        self.0.extend_from_slice(bytes);
+        self.0.resize(bytes.len() + 2 * GUARD, GUARD_BYTE);
+    }
+
+    fn lent(&mut self) -> &mut [u8] {
+        let end = self.0.len() - GUARD;
+        &mut self.0[GUARD..end]
+    }
+
+    fn bytes(&self) -> &[u8] {
+        &self.0[GUARD..self.0.len() - GUARD]
+    }
+
+    fn intact(&self) -> bool {
+        let (front, rest) = self.0.split_at(GUARD);
+        let back = &rest[rest.len() - GUARD..];
+        front == [GUARD_BYTE; GUARD] && back == [GUARD_BYTE; GUARD]
+    }
+}
+
+/// What a call answered.
+#[derive(Clone, Copy, Debug, PartialEq, Eq)]
+pub struct Answer {
+    pub count: u32,
+    pub number: u8,
+}
+
+/// What has been compared.
+#[derive(Clone, Copy, Debug, Default)]
+pub struct Tally {
+    /// Calls of `step`, each compared by itself.
+    pub single: u64,
+    /// Calls of `run`.
+    pub runs: u64,
+    /// Other calls.
+    pub others: u64,
+    /// Steps that the library did, by either call.
+    pub done: u64,
+    /// How often each number was answered.
+    pub met: [u64; 8],
+}
+
+impl Tally {
+    fn add(&mut self, call: Call, answer: Answer) {
+        match call {
+            Call::Step => {
+                self.single += 1;
+                self.done += u64::from(answer.number == 0);
+            }
+            Call::Run(_) => {
+                self.runs += 1;
+                self.done += u64::from(answer.count);
+            }
+            Call::Reset | Call::Show(_) => self.others += 1,
+        }
+        if let Some(met) = self.met.get_mut(usize::from(answer.number)) {
+            *met += 1;
+        }
+    }
+}
+
+pub struct Judge {
+    library: Library,
+    /// What the library works on.
+    record: Guarded,
+    ram: Guarded,
+    rom: Guarded,
+    /// What the second interpreter works on.
+    other_record: Vec<u8>,
+    other_ram: Vec<u8>,
+    pub tally: Tally,
+    /// How much went wrong in this group.
+    pub failures: u32,
+}
+
+impl Judge {
+    pub fn new() -> Judge {
+        Judge {
+            library: Library {
+                empty: Empty::Dangling,
+            },
+            record: Guarded::default(),
+            ram: Guarded::default(),
+            rom: Guarded::default(),
+            other_record: Vec::new(),
+            other_ram: Vec::new(),
+            tally: Tally::default(),
+            failures: 0,
+        }
+    }
+
+    /// From now on an empty slice is handed to the library as this.
+    pub fn hand_empty_as(&mut self, empty: Empty) {
+        self.library.empty = empty;
+    }
+
+    /// Whether the group should stop: it has printed enough.
+    pub fn weary(&self) -> bool {
+        self.failures >= MOST_PRINTED
+    }
+
+    /// Both machines do the case. What the library answered is given back;
+    /// a disagreement is printed and counted.
+    pub fn hold(&mut self, case: &Case) -> Answer {
+        let (answer, other) = self.both(case);
+        self.tally.add(case.call, answer);
+        if !self.agree(case, answer, other) {
+            self.failures += 1;
+            self.narrow(case);
+        }
+        answer
+    }
+
+    /// As [`Judge::hold`]; the case then takes what the call left.
+    pub fn hold_and_carry(&mut self, case: &mut Case) -> Answer {
+        let answer = self.hold(case);
+        self.carry(case);
+        answer
+    }
+
+    fn carry(&self, case: &mut Case) {
+        case.record.copy_from_slice(self.record.bytes());
+        case.ram.bytes.copy_from_slice(self.ram.bytes());
+    }
+
+    /// What the last call left: the record and RAM.
+    pub fn left(&self) -> (&[u8], &[u8]) {
+        (self.record.bytes(), self.ram.bytes())
+    }
+
+    /// Counts and prints a failure that is not one of the two machines
+    /// differing.
+    pub fn expect(&mut self, right: bool, what: impl FnOnce() -> String) {
+        if !right {
+            self.failures += 1;
+            println!("WRONG: {}", what());
+        }
+    }
+
+    fn both(&mut self, case: &Case) -> (Answer, Answer) {
+        self.record.load(&case.record);
+        self.ram.load(&case.ram.bytes);
+        self.rom.load(&case.rom.bytes);
+        let (record, ram, rom) = (self.record.lent(), self.ram.lent(), self.rom.bytes());
+        let (count, number) = match case.call {
+            Call::Reset => (0, self.library.reset(record, ram, rom)),
+            Call::Step => (0, self.library.step(record, ram, rom)),
+            Call::Run(steps) => self.library.run(record, ram, rom, steps),
+            Call::Show(at) => self.library.show(ram, rom, at),
+        };
+        let answer = Answer { count, number };
+
+        self.other_record.clone_from(&case.record);
+        self.other_ram.clone_from(&case.ram.bytes);
+        let (count, number) = reference::call(
+            case.call,
+            &mut self.other_record,
+            &mut self.other_ram,
+            &case.rom.bytes,
+        );
+        (answer, Answer { count, number })
+    }
+
+    fn agree(&self, case: &Case, answer: Answer, other: Answer) -> bool {
+        answer == other
+            && self.record.bytes() == self.other_record
+            && self.ram.bytes() == self.other_ram
+            && self.rom.bytes() == case.rom.bytes
+            && self.record.intact()
+            && self.ram.intact()
+            && self.rom.intact()
+    }
+
+    /// Prints a disagreement. In a run, the first step that differs is
+    /// looked for; it says more than the whole run.
+    fn narrow(&mut self, case: &Case) {
+        let steps = match case.call {
+            Call::Run(steps) if steps <= second::MOST_STEPS => steps,
+            _ => return self.print(case),
+        };
+        let (mut same, mut differs) = (0, steps);
+        while same + 1 < differs {
+            let middle = same + (differs - same) / 2;
+            if self.runs_agree(case, middle) {
+                same = middle;
+            } else {
+                differs = middle;
+            }
+        }
+        let mut one = case.clone();
+        if self.runs_agree(case, same) {
+            self.carry(&mut one);
+        }
+        one.call = Call::Step;
+        let (answer, other) = self.both(&one);
+        if self.agree(&one, answer, other) {
+            one = case.clone();
+            one.call = Call::Run(differs);
+        } else {
+            println!("DISAGREE in step {differs} of a run of {steps}:");
+        }
+        self.print(&one);
+    }
+
+    fn runs_agree(&mut self, case: &Case, steps: u32) -> bool {
+        let mut shorter = case.clone();
+        shorter.call = Call::Run(steps);
+        let (answer, other) = self.both(&shorter);
+        self.agree(&shorter, answer, other)
+    }
+
+    /// Does a case once more and prints all there is to know about it.
+    pub fn print(&mut self, case: &Case) {
+        let (answer, other) = self.both(case);
+        println!("DISAGREE");
+        println!("  --case '{}'", case.text());
+        println!("  code:    {}", spaced(case.code()));
+        println!("  library: {}", told(answer, self.record.bytes()));
+        println!("  second:  {}", told(other, &self.other_record));
+        for (place, (&ours, &others)) in self
+            .ram
+            .bytes()
+            .iter()
+            .zip(&self.other_ram)
+            .enumerate()
+            .filter(|(_, (ours, others))| ours != others)
+            .take(MOST_BYTES_PRINTED)
+        {
+            println!("  RAM {place:04X}: library {ours:02X}, second {others:02X}");
+        }
+        if self.rom.bytes() != case.rom.bytes {
+            println!("  the library changed ROM");
+        }
+        if !(self.record.intact() && self.ram.intact() && self.rom.intact()) {
+            println!("  the library wrote beside what it was lent");
+        }
+    }
+
+    /// Does a case, prints both answers, and says whether they agree.
+    pub fn replay(&mut self, case: &Case) -> bool {
+        let (answer, other) = self.both(case);
+        if self.agree(case, answer, other) {
+            println!("both:      {}", told(answer, self.record.bytes()));
+            return true;
+        }
+        self.narrow(case);
+        false
+    }
+}
+
+fn told(answer: Answer, record: &[u8]) -> String {
+    let Answer { count, number } = answer;
+    format!("number {number}, count {count}, record {}", hex(record))
+}
+
+fn spaced(bytes: &[u8]) -> String {
+    let words: Vec<String> = bytes.iter().map(|byte| format!("{byte:02X}")).collect();
+    words.join(" ")
+}

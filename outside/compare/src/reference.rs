@@ -1,0 +1,64 @@
+//! The second interpreter behind the same four calls as the library.
+//!
+//! A state crosses as its record. 7 is looked for first, then 1, then 2 for
+//! a record that is no state's; a refusal leaves the record and RAM alone.
+
+use crate::case::Call;
+use second::{number, Machine, MOST_BYTES, MOST_STEPS, RECORD_LENGTH};
+
+/// Does a call on a record and memories: a count and the number. The count
+/// is the steps of a run, the length of what is shown, and 0 for the others.
+pub fn call(call: Call, record: &mut [u8], ram: &mut [u8], rom: &[u8]) -> (u32, u8) {
+    match call {
+        Call::Reset => (0, reset(record, ram, rom)),
+        Call::Step => on_state(record, ram, rom, |machine, ram| {
+            (0, second::step(machine, ram, rom))
+        }),
+        Call::Run(steps) if steps > MOST_STEPS => (0, number::TOO_MANY),
+        Call::Run(steps) => on_state(record, ram, rom, |machine, ram| {
+            second::run(machine, ram, rom, steps)
+        }),
+        Call::Show(at) => {
+            let (bytes, number) = second::show(ram, rom, at);
+            (bytes.len() as u32, number)
+        }
+    }
+}
+
+fn on_state(
+    record: &mut [u8],
+    ram: &mut [u8],
+    rom: &[u8],
+    work: impl FnOnce(&mut Machine, &mut [u8]) -> (u32, u8),
+) -> (u32, u8) {
+    if ram.len() > MOST_BYTES || rom.len() > MOST_BYTES {
+        return (0, number::TOO_LONG);
+    }
+    match Machine::from_record(record) {
+        Ok(mut machine) => {
+            let ended = work(&mut machine, ram);
+            save(&machine, record);
+            ended
+        }
+        Err(number) => (0, number),
+    }
+}
+
+/// Reset's own refusals come first, then that of saving: 2 where the buffer
+/// is no record's length.
+fn reset(record: &mut [u8], ram: &[u8], rom: &[u8]) -> u8 {
+    let (machine, number) = second::reset(ram, rom);
+    if number != number::DONE {
+        return number;
+    }
+    if record.len() != RECORD_LENGTH {
+        return number::NOT_VALID;
+    }
+    save(&machine, record);
+    number::DONE
+}
+
+fn save(machine: &Machine, record: &mut [u8]) {
+    let saved = machine.to_record().expect("a step keeps a state valid");
+    record.copy_from_slice(&saved);
+}

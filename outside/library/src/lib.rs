@@ -1,0 +1,151 @@
+//! The proved library, called through its C surface.
+//!
+//! This is the only unsafe code among the programs that look on from outside.
+//! It says nothing about what a call does; it only hands slices over as C
+//! does, a pointer and then a length, and brings the answers back.
+
+/// What a count holds before a call that must write it: no call answers this.
+const UNWRITTEN: u32 = 0xDEAD_BEEF;
+
+mod surface {
+    #[link(name = "module", kind = "static")]
+    extern "C" {
+        pub fn tlcs900h_reset(
+            record: *mut u8,
+            record_length: usize,
+            ram: *const u8,
+            ram_length: usize,
+            rom: *const u8,
+            rom_length: usize,
+        ) -> u8;
+
+        pub fn tlcs900h_step(
+            record: *mut u8,
+            record_length: usize,
+            ram: *mut u8,
+            ram_length: usize,
+            rom: *const u8,
+            rom_length: usize,
+        ) -> u8;
+
+        pub fn tlcs900h_run(
+            record: *mut u8,
+            record_length: usize,
+            ram: *mut u8,
+            ram_length: usize,
+            rom: *const u8,
+            rom_length: usize,
+            steps: u32,
+            done: *mut u32,
+        ) -> u8;
+
+        pub fn tlcs900h_show(
+            ram: *const u8,
+            ram_length: usize,
+            rom: *const u8,
+            rom_length: usize,
+            at: u32,
+            length: *mut u32,
+        ) -> u8;
+    }
+}
+
+/// How a slice of no bytes is handed over.
+#[derive(Clone, Copy, Debug, PartialEq, Eq)]
+pub enum Empty {
+    /// As Rust has it: a pointer that is not null and points at nothing.
+    Dangling,
+    /// As a C program is likely to: null.
+    Null,
+}
+
+/// The library's four calls. Each takes slices of any length.
+#[derive(Clone, Copy, Debug)]
+pub struct Library {
+    pub empty: Empty,
+}
+
+impl Library {
+    fn read(self, bytes: &[u8]) -> *const u8 {
+        match self.empty {
+            Empty::Null if bytes.is_empty() => std::ptr::null(),
+            _ => bytes.as_ptr(),
+        }
+    }
+
+    fn write(self, bytes: &mut [u8]) -> *mut u8 {
+        match self.empty {
+            Empty::Null if bytes.is_empty() => std::ptr::null_mut(),
+            _ => bytes.as_mut_ptr(),
+        }
+    }
+
+    /// Resets into the record, and gives the number.
+    pub fn reset(self, record: &mut [u8], ram: &[u8], rom: &[u8]) -> u8 {
+        // SAFETY: each pointer and length is one whole slice, lent for the
+        // call; the record is lent alone.
+        unsafe {
+            surface::tlcs900h_reset(
+                self.write(record),
+                record.len(),
+                self.read(ram),
+                ram.len(),
+                self.read(rom),
+                rom.len(),
+            )
+        }
+    }
+
+    /// Does one step, and gives the number.
+    pub fn step(self, record: &mut [u8], ram: &mut [u8], rom: &[u8]) -> u8 {
+        // SAFETY: each pointer and length is one whole slice, lent for the
+        // call; the record and RAM are lent alone.
+        unsafe {
+            surface::tlcs900h_step(
+                self.write(record),
+                record.len(),
+                self.write(ram),
+                ram.len(),
+                self.read(rom),
+                rom.len(),
+            )
+        }
+    }
+
+    /// Does many steps, and gives how many were done and the number.
+    pub fn run(self, record: &mut [u8], ram: &mut [u8], rom: &[u8], steps: u32) -> (u32, u8) {
+        let mut done = UNWRITTEN;
+        // SAFETY: as for a step; and `done` is a whole word of its own.
+        let number = unsafe {
+            surface::tlcs900h_run(
+                self.write(record),
+                record.len(),
+                self.write(ram),
+                ram.len(),
+                self.read(rom),
+                rom.len(),
+                steps,
+                &mut done,
+            )
+        };
+        (done, number)
+    }
+
+    /// Gives the length of the instruction at an address, and the number.
+    pub fn show(self, ram: &[u8], rom: &[u8], at: u32) -> (u32, u8) {
+        let mut length = UNWRITTEN;
+        // SAFETY: each pointer and length is one whole slice, lent for the
+        // call; `length` is a whole word of its own.
+        let number = unsafe {
+            surface::tlcs900h_show(
+                self.read(ram),
+                ram.len(),
+                self.read(rom),
+                rom.len(),
+                at,
+                &mut length,
+            )
+        };
+        (length, number)
+    }
+}

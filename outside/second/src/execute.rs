@@ -1,0 +1,323 @@
+//! One step, and many.
+
+use crate::arithmetic::{add, combine, extend, shift, subtract, Operation};
+use crate::decode::{decode, Carry, Instruction, Operand, Place, Round, Target};
+use crate::flags::{condition, Flags};
+use crate::machine::{address, Machine, BC, XSP};
+use crate::memory::{check_lengths, code_from, Memories};
+use crate::number;
+use crate::width::Width;
+
+/// How many steps a run may be asked for.
+pub const MOST_STEPS: u32 = 1_000_000;
+
+type Outcome = Result<(), u8>;
+
+/// Does one step and gives its number. Anything but 0 is a refusal, which
+/// changes neither the state nor RAM.
+pub fn step(machine: &mut Machine, ram: &mut [u8], rom: &[u8]) -> u8 {
+    match check(machine, ram, rom).and_then(|()| checked_step(machine, ram, rom)) {
+        Ok(()) => number::DONE,
+        Err(number) => number,
+    }
+}
+
+/// Does up to `steps` steps: the count of those done, and 0 or the number of
+/// the one refused. 7, 1 and 2 are looked for before any step, even if none
+/// is asked for.
+pub fn run(machine: &mut Machine, ram: &mut [u8], rom: &[u8], steps: u32) -> (u32, u8) {
+    if steps > MOST_STEPS {
+        return (0, number::TOO_MANY);
+    }
+    if let Err(number) = check(machine, ram, rom) {
+        return (0, number);
+    }
+    for done in 0..steps {
+        let number = step(machine, ram, rom);
+        if number != number::DONE {
+            return (done, number);
+        }
+    }
+    (steps, number::DONE)
+}
+
+fn check(machine: &Machine, ram: &[u8], rom: &[u8]) -> Outcome {
+    check_lengths(ram, rom)?;
+    if machine.valid() {
+        Ok(())
+    } else {
+        Err(number::NOT_VALID)
+    }
+}
+
+/// The step works on a copy, which takes the state's place only if nothing
+/// refused. No instruction stores twice or reads after storing, so RAM is
+/// changed only when nothing can refuse any more.
+fn checked_step(machine: &mut Machine, ram: &mut [u8], rom: &[u8]) -> Outcome {
+    let (instruction, length) = decode(code_from(ram, rom, machine.counter))?;
+    let here = machine.counter;
+    let mut next = machine.clone();
+    next.counter = address(i64::from(here) + length as i64);
+    let work = Work {
+        here,
+        machine: &mut next,
+        memories: Memories { ram, rom },
+    };
+    work.execute(instruction)?;
+    *machine = next;
+    Ok(())
+}
+
+/// What an instruction works on: the copied state, whose counter is already
+/// past the instruction, and the memories.
+struct Work<'a> {
+    here: u32,
+    machine: &'a mut Machine,
+    memories: Memories<'a>,
+}
+
+impl Work<'_> {
+    fn execute(mut self, instruction: Instruction) -> Outcome {
+        match instruction {
+            Instruction::Nothing => {}
+            Instruction::MoveBank(by) => self.machine.bank = (self.machine.bank + by) % 4,
+            Instruction::SetBank(bank) => self.machine.bank = bank,
+            Instruction::Carry(carry) => self.set_carry(carry),
+            Instruction::ExchangeFlags => {
+                std::mem::swap(&mut self.machine.f, &mut self.machine.f_prime)
+            }
+            Instruction::PushFlags => self.push(Width::Byte, u32::from(self.machine.f))?,
+            Instruction::PopFlags => {
+                let byte = self.pop(Width::Byte)? as u8;
+                self.machine.set_flags(Flags::from_byte(byte));
+            }
+            Instruction::Load { width, to, from } => {
+                let value = self.value(width, from)?;
+                self.write(width, to, value)?;
+            }
+            Instruction::Push(width, register) => {
+                self.push(width, self.machine.get(width, register))?
+            }
+            Instruction::Pop(width, register) => {
+                let value = self.pop(width)?;
+                self.machine.set(width, register, value);
+            }
+            Instruction::Jump(cc, target) => {
+                if condition(cc, self.machine.flags()) {
+                    self.go(target);
+                }
+            }
+            Instruction::Call(target) => {
+                self.push(Width::Long, self.machine.counter)?;
+                self.go(target);
+            }
+            Instruction::Return => {
+                let whole = self.pop(Width::Long)?;
+                self.go(Target::At(whole));
+            }
+            Instruction::Combine {
+                operation,
+                width,
+                left,
+                right,
+            } => self.combine(operation, width, left, right)?,
+            Instruction::Count {
+                width,
+                register,
+                by,
+            } => self.count(width, register, by),
+            Instruction::Shift {
+                kind,
+                width,
+                register,
+                places,
+            } => {
+                let value = self.machine.get(width, register);
+                let (result, flags) = shift(kind, width, value, places);
+                self.machine.set(width, register, result);
+                self.machine.set_flags(flags);
+            }
+            Instruction::Extend {
+                width,
+                register,
+                keep_sign,
+            } => {
+                let value = self.machine.get(width, register);
+                let result = extend(width, value, keep_sign);
+                self.machine.set(width, register, result);
+            }
+            Instruction::CopyRound { to, from, round } => self.copy_round(to, from, round)?,
+            Instruction::CompareRound { pointer, round } => self.compare_round(pointer, round)?,
+        }
+        Ok(())
+    }
+
+    /// The address a place stands for.
+    fn locate(&self, place: Place) -> u32 {
+        match place {
+            Place::Near(register, displacement) => {
+                let base = self.machine.get(Width::Long, register);
+                address(i64::from(base) + displacement)
+            }
+            Place::Fixed(at) => at,
+        }
+    }
+
+    /// The address in a long register.
+    fn pointed(&self, register: u8) -> u32 {
+        self.locate(Place::Near(register, 0))
+    }
+
+    fn value(&self, width: Width, operand: Operand) -> Result<u32, u8> {
+        match operand {
+            Operand::Register(register) => Ok(self.machine.get(width, register)),
+            Operand::Constant(value) => Ok(value),
+            Operand::Memory(place) => self.memories.read(self.locate(place), width),
+        }
+    }
+
+    fn write(&mut self, width: Width, operand: Operand, value: u32) -> Outcome {
+        match operand {
+            Operand::Register(register) => self.machine.set(width, register, value),
+            Operand::Memory(place) => self.memories.store(self.locate(place), width, value)?,
+            Operand::Constant(_) => unreachable!("no code writes to a constant"),
+        }
+        Ok(())
+    }
+
+    fn push(&mut self, width: Width, value: u32) -> Outcome {
+        self.machine
+            .shove(Width::Long, XSP, -(width.bytes() as i64));
+        self.memories.store(self.pointed(XSP), width, value)
+    }
+
+    fn pop(&mut self, width: Width) -> Result<u32, u8> {
+        let value = self.memories.read(self.pointed(XSP), width)?;
+        self.machine.shove(Width::Long, XSP, width.bytes() as i64);
+        Ok(value)
+    }
+
+    fn go(&mut self, target: Target) {
+        self.machine.counter = match target {
+            Target::At(place) => address(i64::from(place)),
+            Target::Away(distance) => address(i64::from(self.machine.counter) + distance),
+        };
+    }
+
+    /// S, Z and V stay; H and N become 0.
+    fn set_carry(&mut self, carry: Carry) {
+        let flags = self.machine.flags();
+        let c = match carry {
+            Carry::Zero => false,
+            Carry::One => true,
+            Carry::Opposite => !flags.c,
+            Carry::NotZ => !flags.z,
+        };
+        self.machine.set_flags(Flags {
+            h: false,
+            n: false,
+            c,
+            ..flags
+        });
+    }
+
+    fn combine(
+        &mut self,
+        operation: Operation,
+        width: Width,
+        left: Operand,
+        right: Operand,
+    ) -> Outcome {
+        let carry = self.machine.flags().c;
+        let first = self.value(width, left)?;
+        let second = self.value(width, right)?;
+        let (result, flags) = combine(operation, width, first, second, carry);
+        if operation != Operation::Compare {
+            self.write(width, left, result)?;
+        }
+        self.machine.set_flags(flags);
+        Ok(())
+    }
+
+    /// INC and DEC. Only bytes set flags, and they leave C as it was.
+    fn count(&mut self, width: Width, register: u8, by: i64) {
+        let value = self.machine.get(width, register);
+        let amount = by.unsigned_abs() as u32;
+        let (result, flags) = if by < 0 {
+            subtract(width, value, amount, false)
+        } else {
+            add(width, value, amount, false)
+        };
+        self.machine.set(width, register, result);
+        if width == Width::Byte {
+            let c = self.machine.flags().c;
+            self.machine.set_flags(Flags { c, ..flags });
+        }
+    }
+
+    /// One element from `from` to `to`; then both pointers move and BC goes
+    /// down by one.
+    fn copy_round(&mut self, to: u8, from: u8, round: Round) -> Outcome {
+        let element = self.memories.read(self.pointed(from), round.width)?;
+        self.memories
+            .store(self.pointed(to), round.width, element)?;
+        self.move_pointer(to, round);
+        self.move_pointer(from, round);
+        let more = self.count_down();
+        let flags = self.machine.flags();
+        self.machine.set_flags(Flags {
+            h: false,
+            v: more,
+            n: false,
+            ..flags
+        });
+        self.stay_if(round.repeat && more);
+        Ok(())
+    }
+
+    /// A or WA against one element; then the pointer moves, past a match
+    /// too, and BC goes down by one.
+    fn compare_round(&mut self, pointer: u8, round: Round) -> Outcome {
+        let element = self.memories.read(self.pointed(pointer), round.width)?;
+        let sought = self.machine.get(round.width, accumulator(round.width));
+        let (_, compared) = subtract(round.width, sought, element, false);
+        self.move_pointer(pointer, round);
+        let more = self.count_down();
+        let c = self.machine.flags().c;
+        self.machine.set_flags(Flags {
+            v: more,
+            c,
+            ..compared
+        });
+        self.stay_if(round.repeat && more && sought != element);
+        Ok(())
+    }
+
+    fn move_pointer(&mut self, pointer: u8, round: Round) {
+        let size = round.width.bytes() as i64;
+        let by = if round.downward { -size } else { size };
+        self.machine.shove(Width::Long, pointer, by);
+    }
+
+    /// Takes one from BC and says whether anything is left. From 0 it goes
+    /// round to FFFFH, so that 0 counts 65,536 rounds.
+    fn count_down(&mut self) -> bool {
+        self.machine.shove(Width::Word, BC, -1);
+        self.machine.get(Width::Word, BC) != 0
+    }
+
+    /// A repeating form leaves the counter at itself for the next round.
+    fn stay_if(&mut self, again: bool) {
+        if again {
+            self.machine.counter = self.here;
+        }
+    }
+}
+
+/// The code of A among bytes, of WA among words.
+fn accumulator(width: Width) -> u8 {
+    match width {
+        Width::Byte => 1,
+        Width::Word | Width::Long => 0,
+    }
+}

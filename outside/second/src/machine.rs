@@ -1,0 +1,173 @@
+//! The state: 80 bytes of registers and the few values beside them.
+
+use crate::flags::Flags;
+use crate::number;
+use crate::width::{gather, scatter, Width};
+use std::ops::Range;
+
+/// The length of a saved state.
+pub const RECORD_LENGTH: usize = 88;
+
+/// How many addresses there are: every address is taken modulo this.
+pub(crate) const ADDRESSES: i64 = 1 << 24;
+
+/// The code of XSP among the long registers.
+pub(crate) const XSP: u8 = 7;
+/// The code of BC among the word registers.
+pub(crate) const BC: u8 = 1;
+
+const FILE: usize = 80;
+const BANK: usize = 16;
+const SHARED: usize = 64;
+
+const COUNTER: Range<usize> = 80..84;
+const STATUS: Range<usize> = 84..86;
+const SPARE_FLAGS: usize = 86;
+const ZERO: usize = 87;
+
+/// The bits of a flag register that are always 0.
+const NO_FLAG: u8 = 0b0010_1000;
+/// The bits of SR above the flags that are always 1, and the one always 0.
+const STATUS_ONES: u32 = 0x8800;
+const STATUS_ZERO: u32 = 0x0400;
+
+/// The state of the processor.
+///
+/// The registers lie in one file of 80 bytes: 16 for each of the four banks
+/// (XWA, XBC, XDE, XHL, low byte first), then 16 that all banks share (XIX,
+/// XIY, XIZ, XSP). A register is a window of one, two or four of these bytes,
+/// so a write can change nothing but the part it names.
+///
+/// The other fields are open and can be given values that no valid state
+/// has; such a state is refused with number 2 wherever it is used.
+#[derive(Clone, Debug, PartialEq, Eq)]
+pub struct Machine {
+    file: [u8; FILE],
+    /// The program counter, below 2^24.
+    pub counter: u32,
+    /// The number of the current bank, 0 to 3.
+    pub bank: u8,
+    /// The interrupt level, 0 to 7.
+    pub level: u8,
+    /// The flags F: S 7, Z 6, H 4, V 2, N 1, C 0.
+    pub f: u8,
+    /// The spare flags F'.
+    pub f_prime: u8,
+}
+
+impl Machine {
+    /// The state with every register, the counter, the bank, the level and
+    /// both flag registers zero.
+    pub fn zero() -> Machine {
+        Machine {
+            file: [0; FILE],
+            counter: 0,
+            bank: 0,
+            level: 0,
+            f: 0,
+            f_prime: 0,
+        }
+    }
+
+    /// Whether this is a state the processor can be in.
+    pub fn valid(&self) -> bool {
+        i64::from(self.counter) < ADDRESSES
+            && self.bank <= 3
+            && self.level <= 7
+            && self.f & NO_FLAG == 0
+            && self.f_prime & NO_FLAG == 0
+    }
+
+    /// The state saved in a record: banks 0 to 3, the shared registers, the
+    /// counter in four bytes, SR in two, F' in one and a zero byte. Any other
+    /// length, or any bit that no valid state has, is refused with 2.
+    pub fn from_record(record: &[u8]) -> Result<Machine, u8> {
+        if record.len() != RECORD_LENGTH || record[ZERO] != 0 {
+            return Err(number::NOT_VALID);
+        }
+        let status = gather(&record[STATUS]);
+        if status & STATUS_ONES != STATUS_ONES || status & STATUS_ZERO != 0 {
+            return Err(number::NOT_VALID);
+        }
+        let mut machine = Machine::zero();
+        machine.file.copy_from_slice(&record[..FILE]);
+        machine.counter = gather(&record[COUNTER]);
+        machine.f = (status % 256) as u8;
+        machine.bank = (status / 256 % 4) as u8;
+        machine.level = (status / 4096 % 8) as u8;
+        machine.f_prime = record[SPARE_FLAGS];
+        if machine.valid() {
+            Ok(machine)
+        } else {
+            Err(number::NOT_VALID)
+        }
+    }
+
+    /// The record of this state; 2 if the state is not valid.
+    pub fn to_record(&self) -> Result<[u8; RECORD_LENGTH], u8> {
+        if !self.valid() {
+            return Err(number::NOT_VALID);
+        }
+        let mut record = [0; RECORD_LENGTH];
+        record[..FILE].copy_from_slice(&self.file);
+        scatter(self.counter, &mut record[COUNTER]);
+        scatter(self.status(), &mut record[STATUS]);
+        record[SPARE_FLAGS] = self.f_prime;
+        Ok(record)
+    }
+
+    /// SR: the flags below, the bank from bit 8, bit 11 one, the level from
+    /// bit 12, bit 15 one.
+    pub fn status(&self) -> u32 {
+        STATUS_ONES
+            + u32::from(self.f)
+            + u32::from(self.bank % 4) * 256
+            + u32::from(self.level % 8) * 4096
+    }
+
+    /// What the register of this width and code (0 to 7) holds, in the
+    /// current bank where it is one of the bank's.
+    pub fn get(&self, width: Width, code: u8) -> u32 {
+        gather(&self.file[self.window(width, code)])
+    }
+
+    /// Writes the register of this width and code, and nothing beside it. A
+    /// value too great for the register loses its high bytes.
+    pub fn set(&mut self, width: Width, code: u8, value: u32) {
+        let window = self.window(width, code);
+        scatter(value, &mut self.file[window]);
+    }
+
+    /// Moves a register by a signed amount; it goes round at its own width.
+    pub(crate) fn shove(&mut self, width: Width, code: u8, by: i64) {
+        let moved = i64::from(self.get(width, code)) + by;
+        self.set(width, code, width.round(moved));
+    }
+
+    pub(crate) fn flags(&self) -> Flags {
+        Flags::from_byte(self.f)
+    }
+
+    pub(crate) fn set_flags(&mut self, flags: Flags) {
+        self.f = flags.to_byte();
+    }
+
+    /// Where in the file a register lies. Byte registers come in pairs: the
+    /// even codes W, B, D, H are the second byte of a long, the odd ones A,
+    /// C, E, L the first.
+    fn window(&self, width: Width, code: u8) -> Range<usize> {
+        let code = usize::from(code % 8);
+        let bank = BANK * usize::from(self.bank % 4);
+        let first = match width {
+            Width::Byte => bank + code / 2 * 4 + (code + 1) % 2,
+            Width::Word | Width::Long if code < 4 => bank + code * 4,
+            Width::Word | Width::Long => SHARED + (code - 4) * 4,
+        };
+        first..first + width.bytes()
+    }
+}
+
+/// Any number, brought round into the addresses.
+pub(crate) fn address(number: i64) -> u32 {
+    number.rem_euclid(ADDRESSES) as u32
+}

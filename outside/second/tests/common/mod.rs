@@ -1,0 +1,76 @@
+//! What the tests share.
+#![allow(dead_code)] // not every test file uses everything
+
+use second::{step, Machine, Width};
+
+/// Codes of registers.
+pub const A: u8 = 1;
+pub const WA: u8 = 0;
+pub const BC: u8 = 1;
+pub const XWA: u8 = 0;
+pub const XBC: u8 = 1;
+pub const XDE: u8 = 2;
+pub const XHL: u8 = 3;
+pub const XIX: u8 = 4;
+pub const XIY: u8 = 5;
+pub const XSP: u8 = 7;
+
+/// The lengths at which something about a memory changes.
+pub const LENGTHS: [usize; 7] = [0, 1, 255, 256, 65_535, 65_536, 65_537];
+
+/// A state with its counter at an address and some long registers set.
+pub fn at(counter: u32, longs: &[(u8, u32)]) -> Machine {
+    let mut machine = Machine::zero();
+    machine.counter = counter;
+    for &(code, value) in longs {
+        machine.set(Width::Long, code, value);
+    }
+    machine
+}
+
+/// The first address of a ROM.
+pub fn rom_start(rom: &[u8]) -> u32 {
+    (0x100_0000 - rom.len()) as u32
+}
+
+/// A memory of this length that begins with these bytes.
+pub fn memory(length: usize, beginning: &[u8]) -> Vec<u8> {
+    let mut bytes = vec![0; length];
+    bytes[..beginning.len()].copy_from_slice(beginning);
+    bytes
+}
+
+/// Steps once, and checks that a refusal changes nothing at all.
+pub fn step_once(machine: &mut Machine, ram: &mut [u8], rom: &[u8]) -> u8 {
+    let state_before = machine.clone();
+    let ram_before = ram.to_vec();
+    let number = step(machine, ram, rom);
+    if number == 0 {
+        assert!(machine.valid());
+    } else {
+        assert_eq!(*machine, state_before, "a refusal changed the state");
+        assert!(ram == ram_before, "a refusal changed RAM");
+    }
+    number
+}
+
+/// Numbers that are always the same ones, spread over all 32 bits.
+pub struct Chance(pub u64);
+
+impl Chance {
+    pub fn next(&mut self) -> u32 {
+        self.0 = self
+            .0
+            .wrapping_mul(6_364_136_223_846_793_005)
+            .wrapping_add(1_442_695_040_888_963_407);
+        (self.0 >> 32) as u32
+    }
+
+    pub fn byte(&mut self) -> u8 {
+        (self.next() >> 13) as u8
+    }
+
+    pub fn below(&mut self, bound: u32) -> u32 {
+        ((u64::from(self.next()) * u64::from(bound)) >> 32) as u32
+    }
+}

@@ -1,0 +1,180 @@
+//! Saved states, bit by bit.
+
+mod common;
+
+use common::Chance;
+use second::{Machine, Width, RECORD_LENGTH};
+
+/// Whether a bit of a record may be either, and if not which it must be.
+fn fixed_bit(byte: usize, bit: usize) -> Option<bool> {
+    match (byte, bit) {
+        (83, _) => Some(false),     // the counter has 24 bits
+        (84, 3 | 5) => Some(false), // F
+        (85, 2) => Some(false),     // SR bit 10
+        (85, 3) => Some(true),      // SR bit 11
+        (85, 7) => Some(true),      // SR bit 15
+        (86, 3 | 5) => Some(false), // F'
+        (87, _) => Some(false),
+        _ => None,
+    }
+}
+
+fn is_record(bytes: &[u8]) -> bool {
+    bytes.len() == 88
+        && (0..88).all(|byte| {
+            (0..8).all(|bit| {
+                let set = bytes[byte] >> bit & 1 == 1;
+                fixed_bit(byte, bit).is_none_or(|wanted| wanted == set)
+            })
+        })
+}
+
+/// The record with the free bits as given.
+fn record_of(free: impl Fn(usize, usize) -> bool) -> [u8; 88] {
+    let mut record = [0; 88];
+    for (byte, value) in record.iter_mut().enumerate() {
+        for bit in 0..8 {
+            if fixed_bit(byte, bit).unwrap_or_else(|| free(byte, bit)) {
+                *value |= 1 << bit;
+            }
+        }
+    }
+    record
+}
+
+#[test]
+fn every_single_bit() {
+    let empty = record_of(|_, _| false);
+    let full = record_of(|_, _| true);
+    let striped = record_of(|byte, bit| (byte + bit) % 3 == 0);
+    for record in [empty, full, striped] {
+        assert_eq!(
+            Machine::from_record(&record).unwrap().to_record(),
+            Ok(record)
+        );
+        for byte in 0..88 {
+            for bit in 0..8 {
+                let mut flipped = record;
+                flipped[byte] ^= 1 << bit;
+                let read = Machine::from_record(&flipped);
+                if fixed_bit(byte, bit).is_some() {
+                    assert_eq!(read, Err(2), "byte {byte} bit {bit}");
+                } else {
+                    let machine = read.unwrap();
+                    assert!(machine.valid());
+                    assert_eq!(machine.to_record(), Ok(flipped));
+                    assert_ne!(Ok(machine), Machine::from_record(&record));
+                }
+            }
+        }
+    }
+}
+
+#[test]
+fn any_bytes_read_back_or_are_refused() {
+    let mut chance = Chance(7);
+    let mut taken = 0;
+    for round in 0..20_000 {
+        let mut record = record_of(|_, _| false);
+        for byte in record.iter_mut().take(87) {
+            *byte |= chance.byte();
+        }
+        // Most such records are wrong somewhere: bring half of them right.
+        if round % 2 == 0 {
+            let wild = record;
+            record = record_of(|byte, bit| wild[byte] >> bit & 1 == 1);
+        }
+        match Machine::from_record(&record) {
+            Ok(machine) => {
+                assert!(is_record(&record));
+                assert_eq!(machine.to_record(), Ok(record));
+                taken += 1;
+            }
+            Err(number) => {
+                assert_eq!(number, 2);
+                assert!(!is_record(&record));
+            }
+        }
+    }
+    assert!(taken >= 10_000);
+}
+
+#[test]
+fn only_88_bytes_are_a_record() {
+    assert_eq!(RECORD_LENGTH, 88);
+    let good = record_of(|_, _| false);
+    for length in [0, 1, 79, 80, 87, 89, 176, 1000] {
+        let mut bytes = good.to_vec();
+        bytes.resize(length, 0);
+        assert_eq!(Machine::from_record(&bytes), Err(2), "{length} bytes");
+    }
+}
+
+#[test]
+fn where_everything_lies() {
+    let mut machine = Machine::zero();
+    let record = machine.to_record().unwrap();
+    assert_eq!(record, record_of(|_, _| false));
+
+    machine.counter = 0x12_3456;
+    machine.bank = 2;
+    machine.level = 5;
+    machine.f = 0xD3;
+    machine.f_prime = 0x44;
+    machine.set(Width::Long, 0, 0x0403_0201);
+    machine.set(Width::Long, 7, 0x0807_0605);
+    let record = machine.to_record().unwrap();
+    assert_eq!(record[32..36], [1, 2, 3, 4], "XWA of bank 2");
+    assert_eq!(record[76..80], [5, 6, 7, 8], "XSP");
+    assert_eq!(
+        record[80..],
+        [0x56, 0x34, 0x12, 0x00, 0xD3, 0xDA, 0x44, 0x00]
+    );
+    let others = record[..80].iter().filter(|&&byte| byte != 0).count();
+    assert_eq!(others, 8);
+    assert_eq!(machine.status(), 0xDAD3);
+}
+
+#[test]
+fn an_invalid_state_is_not_saved() {
+    let changes: [fn(&mut Machine); 10] = [
+        |m| m.counter = 0x100_0000,
+        |m| m.counter = 0xFFFF_FFFF,
+        |m| m.bank = 4,
+        |m| m.bank = 0xFF,
+        |m| m.level = 8,
+        |m| m.level = 0xFF,
+        |m| m.f = 0x08,
+        |m| m.f = 0x20,
+        |m| m.f_prime = 0x08,
+        |m| m.f_prime = 0x20,
+    ];
+    for change in changes {
+        let mut machine = Machine::zero();
+        change(&mut machine);
+        assert!(!machine.valid());
+        assert_eq!(machine.to_record(), Err(2));
+    }
+}
+
+/// Every bank, level and flag byte, valid or not.
+#[test]
+fn validity_is_exactly_the_stated_rules() {
+    for value in 0..=255u8 {
+        let mut machine = Machine::zero();
+        machine.bank = value;
+        assert_eq!(machine.valid(), value < 4);
+        let mut machine = Machine::zero();
+        machine.level = value;
+        assert_eq!(machine.valid(), value < 8);
+        let mut machine = Machine::zero();
+        machine.f = value;
+        assert_eq!(machine.valid(), value & 0x28 == 0);
+        let mut machine = Machine::zero();
+        machine.f_prime = value;
+        assert_eq!(machine.valid(), value & 0x28 == 0);
+    }
+    let mut machine = Machine::zero();
+    machine.counter = 0xFF_FFFF;
+    assert!(machine.valid());
+}
