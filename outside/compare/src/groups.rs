@@ -31,6 +31,7 @@ pub const GROUPS: &[Group] = &[
     Group("first-two-bytes-in-rom", codes::first_two_bytes_in_rom),
     Group("last-code-byte", codes::last_code_byte),
     Group("listed-forms", codes::listed_forms),
+    Group("full-memories", codes::full_memories),
     Group("all-byte-pairs", arithmetic::all_byte_pairs),
     Group("turning-values", arithmetic::turning_values),
     Group("counts-shifts-extensions", arithmetic::one_operand),

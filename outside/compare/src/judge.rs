@@ -131,7 +131,11 @@ impl Judge {
         self.tally.add(case.call, answer);
         if !self.agree(case, answer, other) {
             self.failures += 1;
-            self.narrow(case);
+            if self.failures <= MOST_PRINTED {
+                self.narrow(case);
+                // What the call left is wanted, not what the search left.
+                self.both(case);
+            }
         }
         answer
     }
@@ -158,7 +162,9 @@ impl Judge {
     pub fn expect(&mut self, right: bool, what: impl FnOnce() -> String) {
         if !right {
             self.failures += 1;
-            println!("WRONG: {}", what());
+            if self.failures <= MOST_PRINTED {
+                println!("WRONG: {}", what());
+            }
         }
     }
 
@@ -222,7 +228,7 @@ impl Judge {
             one = case.clone();
             one.call = Call::Run(differs);
         } else {
-            println!("DISAGREE in step {differs} of a run of {steps}:");
+            println!("In step {differs} of a run of {steps} they");
         }
         self.print(&one);
     }
@@ -242,15 +248,11 @@ impl Judge {
         println!("  code:    {}", spaced(case.code()));
         println!("  library: {}", told(answer, self.record.bytes()));
         println!("  second:  {}", told(other, &self.other_record));
-        for (place, (&ours, &others)) in self
-            .ram
-            .bytes()
-            .iter()
-            .zip(&self.other_ram)
-            .enumerate()
-            .filter(|(_, (ours, others))| ours != others)
-            .take(MOST_BYTES_PRINTED)
-        {
+        for (place, ours, others) in differing(self.record.bytes(), &self.other_record) {
+            let name = field(place);
+            println!("  {name}: library {ours:02X}, second {others:02X}");
+        }
+        for (place, ours, others) in differing(self.ram.bytes(), &self.other_ram) {
             println!("  RAM {place:04X}: library {ours:02X}, second {others:02X}");
         }
         if self.rom.bytes() != case.rom.bytes {
@@ -270,6 +272,31 @@ impl Judge {
         }
         self.narrow(case);
         false
+    }
+}
+
+/// The first bytes that differ: where, and both.
+fn differing<'a>(ours: &'a [u8], others: &'a [u8]) -> impl Iterator<Item = (usize, u8, u8)> + 'a {
+    let pairs = ours.iter().zip(others).enumerate();
+    pairs
+        .filter(|(_, (ours, others))| ours != others)
+        .map(|(place, (&ours, &others))| (place, ours, others))
+        .take(MOST_BYTES_PRINTED)
+}
+
+/// What a byte of a record belongs to.
+fn field(place: usize) -> String {
+    const BANKED: [&str; 4] = ["XWA", "XBC", "XDE", "XHL"];
+    const SHARED: [&str; 4] = ["XIX", "XIY", "XIZ", "XSP"];
+    let (register, byte) = (place / 4 % 4, place % 4);
+    match place {
+        0..=63 => format!("byte {byte} of {} of bank {}", BANKED[register], place / 16),
+        64..=79 => format!("byte {byte} of {}", SHARED[register]),
+        80..=83 => format!("byte {byte} of the counter"),
+        84 => "F".to_string(),
+        85 => "bank and level".to_string(),
+        86 => "F'".to_string(),
+        _ => format!("byte {place} of the record"),
     }
 }
 

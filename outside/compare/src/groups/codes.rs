@@ -138,6 +138,33 @@ pub fn listed_forms(bench: &mut Bench) {
     }
 }
 
+/// Listed forms over memories as long as they may be, or one byte shorter.
+pub fn full_memories(bench: &mut Bench) {
+    let forms = forms();
+    for _ in 0..100 * bench.rounds {
+        let mut length = || 65_536 - bench.chance.below(2) as usize;
+        let layout = Layout {
+            ram: length(),
+            rom: length(),
+        };
+        let mut case = Case {
+            call: Call::Step,
+            record: Vec::new(),
+            ram: aim::noise(&mut bench.chance, layout.ram),
+            rom: aim::noise(&mut bench.chance, layout.rom),
+        };
+        for form in &forms {
+            case.record = aim::record(&mut bench.chance, layout);
+            let code = form.draw(&mut bench.chance, layout);
+            place_code(&mut bench.chance, layout, &mut case, &code);
+            bench.judge.hold(&case);
+        }
+        if bench.judge.weary() {
+            return;
+        }
+    }
+}
+
 /// A step over short memories whose counter is mostly at the drawn code:
 /// mostly somewhere inside a memory, now and then right at its end.
 pub fn aimed_case(chance: &mut Chance, draw: impl FnOnce(&mut Chance, Layout) -> Vec<u8>) -> Case {
@@ -149,6 +176,11 @@ pub fn aimed_case(chance: &mut Chance, draw: impl FnOnce(&mut Chance, Layout) ->
         ram: aim::noise(chance, layout.ram),
         rom: aim::noise(chance, layout.rom),
     };
+    place_code(chance, layout, &mut case, &code);
+    case
+}
+
+fn place_code(chance: &mut Chance, layout: Layout, case: &mut Case, code: &[u8]) {
     let in_ram = chance.once_in(2);
     let length = if in_ram { layout.ram } else { layout.rom };
     let room = length.saturating_sub(code.len());
@@ -162,8 +194,7 @@ pub fn aimed_case(chance: &mut Chance, draw: impl FnOnce(&mut Chance, Layout) ->
     } else {
         (&mut case.rom, layout.rom_start())
     };
-    image.put(place, &code);
+    image.put(place, code);
     let counter = (start + place as u32) & 0xFF_FFFF;
     aim::put_long(&mut case.record, COUNTER, counter);
-    case
 }
