@@ -1,0 +1,267 @@
+-- How the parts of a line come together.
+use Prim.Native.Nat.{ℕ, zero, suc, _+_, _-_, _*_, _/_, _%_, _<_, _≤_}
+use mathlib.Core.Path.{_≡_, refl, ap, sym, _∙_, subst}
+use mathlib.Core.List.{List, [], _∷_, _++_, append-assoc, append-nil}
+use mathlib.Core.Bool.{Bool, true, false, cond}
+use native.Mathlib.Omega.{arith}
+use native.Mathlib.Nat.{div-div-eq-div-mul}
+use native.Mathlib.Numerals.{add-one}
+use lib.ListN.{length, take, set, length-append, length-set, length-replicate}
+use lib.Seq.{take-suc-set}
+use lib.Dec.{ltb}
+use borrow.Author.Tests.{lt-ltb, le-ltb}
+use Rattle.line.specs.declared.Line.{Line}
+use Rattle.answer.specs.declared.Answer.{Answer}
+use Rattle.answer.specs.declared.Answer.the-variants.{Done, Refused}
+use Rattle.answer.specs.declared.Why.{Why}
+use Rattle.answer.specs.declared.Why.the-variants.{TooLong}
+use Rattle.answer.specs.Number.{whyNumber, numberOf}
+use Rattle.little.specs.declared.Size.the-variants.{Long}
+use Rattle.state.specs.declared.State.{State}
+use Rattle.state.specs.Register.{getRegister}
+use Rattle.saved.specs.Sr.{srOf}
+use Rattle.step.specs.declared.Stepped.{Stepped}
+use Rattle.step.specs.Reset.{resetOf}
+use Rattle.run.specs.declared.Ran.{Ran}
+use Rattle.run.specs.Run.{Result, result, runOf}
+use Rattle.line.specs.Text.{digitOf, hexOf, decimalIn, decimalOf, after, lineOf}
+use Rattle.line.specs.Lines.{written, Within, emptyLine, plus, grown, counts, whereOf, registerOf, lowRegisters, highRegisters, refusedLine, ranLine, zeros, resultLine, unlessRefused, lineFor}
+
+-- ---- two additions are one
+grown-joins : (l : Line) (a b : List ℕ) → grown (grown l a) b ≡ grown l (a ++ b)
+unfolding grown
+grown-joins l [] b = refl
+grown-joins l (x ∷ a) b = grown-joins (plus l x) a b
+
+pub two : (l : Line) (a b : List ℕ) {t : List ℕ} {v u : Line} → a ++ b ≡ t → v ≡ grown l a → u ≡ grown v b → u ≡ grown l t
+two l a b g e f = f ∙ ap (λ (x : Line). grown x b) e ∙ grown-joins l a b ∙ ap (grown l) g
+
+-- a space and a field
+pub field : (l : Line) (f : List ℕ) {v u : Line} → v ≡ grown l (32 ∷ []) → u ≡ grown v f → u ≡ grown l (after (f ∷ []))
+field l f e h = two l (32 ∷ []) f (sym (append-nil (32 ∷ f))) e h
+
+after-joins : (fs gs : List (List ℕ)) → after fs ++ after gs ≡ after (fs ++ gs)
+after-joins [] gs = refl
+after-joins (f ∷ fs) gs = append-assoc (32 ∷ f) (after fs) (after gs) ∙ ap (λ (l : List ℕ). (32 ∷ f) ++ l) (after-joins fs gs)
+
+-- some fields, and some more; `first` is what stands before them
+pub more :
+    (l : Line) (first : List ℕ) (fs gs : List (List ℕ)) {v u : Line} → v ≡ grown l (first ++ after fs) → u ≡ grown v (after gs) →
+    u ≡ grown l (first ++ after (fs ++ gs))
+more l first fs gs e h =
+    two l (first ++ after fs) (after gs) (append-assoc first (after fs) (after gs) ∙ ap (λ (x : List ℕ). first ++ x) (after-joins fs gs)) e h
+
+pub four :
+    (l : Line) (f g h i : List ℕ) {v1 v2 v3 v4 : Line} → v1 ≡ grown l (after (f ∷ [])) → v2 ≡ grown v1 (after (g ∷ [])) →
+    v3 ≡ grown v2 (after (h ∷ [])) → v4 ≡ grown v3 (after (i ∷ [])) → v4 ≡ grown l (after (f ∷ g ∷ h ∷ i ∷ []))
+four l f g h i a b c d =
+    more l [] (f ∷ g ∷ h ∷ []) (i ∷ []) (more l [] (f ∷ g ∷ []) (h ∷ []) (more l [] (f ∷ []) (g ∷ []) a b) c) d
+
+-- a whole line
+pub line-made :
+    (l : Line) (first : List ℕ) (others : List (List ℕ)) {v u : Line} → v ≡ grown l (first ++ after others) → u ≡ grown v (10 ∷ []) →
+    u ≡ grown l (lineOf first others)
+line-made l first others e h = two l (first ++ after others) (10 ∷ []) (append-assoc first (after others) (10 ∷ [])) e h
+
+-- ---- one byte more
+pub added : (l : Line) (b : ℕ) → l .length < 128 → record { text = set (l .text) (l .length) b; length = l .length + 1 } ≡ grown l (b ∷ [])
+unfolding grown
+added l b h = rw (lt-ltb (l .length) 128 h) refl
+
+pub full : (l : Line) (b : ℕ) → 128 ≤ l .length → l ≡ grown l (b ∷ [])
+unfolding grown
+full l b h = rw (le-ltb (l .length) 128 h) refl
+
+-- ---- what was added to an empty line is what is written
+pub record Grown (l : Line) (a : List ℕ) (r : Line) : Type 0 where
+  pub now-written : written r ≡ written l ++ a
+  pub now-long : r .length ≡ l .length + length a
+  pub room : length (r .text) ≡ 128
+
+grown-written : (l : Line) (a : List ℕ) → length (l .text) ≡ 128 → l .length + length a ≤ 128 → Grown l a (grown l a)
+unfolding grown
+grown-written l [] e h = record { now-written = sym (append-nil (written l)); now-long = omega arith; room = e }
+grown-written l (b ∷ a) e h =
+    let t : Line = record { text = set (l .text) (l .length) b; length = l .length + 1 } in
+    let f : plus l b ≡ t = rw (lt-ltb (l .length) 128 (omega arith)) refl in
+    let k = grown-written t a (length-set (l .text) (l .length) b ∙ e) (omega arith) in
+    let w : written t ≡ written l ++ (b ∷ []) =
+    ap (λ (n : ℕ). take n (set (l .text) (l .length) b)) (add-one (l .length)) ∙ take-suc-set (l .text) (l .length) b (omega arith) in
+    subst (λ (x : Line). Grown l (b ∷ a) (grown x a)) (sym f)
+    (record {
+      now-written = k .now-written ∙ ap (λ (x : List ℕ). x ++ a) w ∙ append-assoc (written l) (b ∷ []) a;
+      now-long = k .now-long ∙ omega arith;
+      room = k .room;
+    })
+
+pub whole : (a : List ℕ) → length a ≤ 127 → (written (grown emptyLine a) ≡ a) × Within (grown emptyLine a)
+whole a h =
+    let k = grown-written emptyLine a (length-replicate {A = ℕ} 128 0) (omega arith) in
+    let long : grown emptyLine a .length ≡ length a = k .now-long ∙ omega arith in
+    (k .now-written, (omega (arith, k .room), long ∙ ap length (sym (k .now-written))))
+
+-- ---- decimals
+pub decimal-last : (k n : ℕ) → n < 10 → decimalIn (suc k) n ≡ digitOf (n % 16) ∷ []
+unfolding decimalIn
+decimal-last k n h =
+    let e : n % 16 ≡ n = omega arith in
+    rw (e, lt-ltb n 10 h) refl
+
+pub decimal-more : (k n : ℕ) → 10 ≤ n → decimalIn (suc k) n ≡ decimalIn k (n / 10) ++ (digitOf (n % 10 % 16) ∷ [])
+unfolding decimalIn
+decimal-more k n h =
+    let e : n % 10 % 16 ≡ n % 10 = omega arith in
+    rw (e, le-ltb n 10 h) refl
+
+-- what decimal_in does: it stops, writes the last digit, or writes it behind the others
+pub decimal-none : (l : Line) (n places : ℕ) → places ≡ 0 → l ≡ grown l (decimalIn places n)
+unfolding decimalIn grown
+decimal-none l n places z = rw z refl
+
+module _ (l : Line) (n places : ℕ) (some : places ≡ 0 → ⊥) where
+  less : suc (places - 1) ≡ places
+  less = omega arith
+
+  pub decimal-one : {d : ℕ} {u : Line} → n < 10 → d ≡ digitOf (n % 16) → u ≡ grown l (d ∷ []) → u ≡ grown l (decimalIn places n)
+  decimal-one h e f =
+      f
+      ∙ ap (λ (x : ℕ). grown l (x ∷ [])) e
+      ∙ ap (grown l) (sym (decimal-last (places - 1) n h) ∙ ap (λ (k : ℕ). decimalIn k n) less)
+
+  pub decimal-rest :
+      {d : ℕ} {v u : Line} → 10 ≤ n → v ≡ grown l (decimalIn (places - 1) (n / 10)) → d ≡ digitOf (n % 10 % 16) → u ≡ grown v (d ∷ []) →
+      u ≡ grown l (decimalIn places n)
+  decimal-rest {d} h e g f =
+      two l (decimalIn (places - 1) (n / 10)) (d ∷ [])
+      (ap (λ (x : ℕ). decimalIn (places - 1) (n / 10) ++ (x ∷ [])) g ∙ sym (decimal-more (places - 1) n h) ∙ ap (λ (k : ℕ). decimalIn k n) less) e f
+
+-- ---- hex digits: those above, and the last two or four
+pub hex-two : (n : ℕ) → hexOf 2 n ≡ digitOf (n / 16 % 16) ∷ digitOf (n % 16) ∷ []
+unfolding hexOf
+hex-two n = refl
+
+pub hex-join2 : (k n : ℕ) → hexOf (suc (suc k)) n ≡ hexOf k (n / 256) ++ hexOf 2 n
+unfolding hexOf
+hex-join2 k n =
+    append-assoc (hexOf k (n / 16 / 16)) _ _
+    ∙ ap (λ (m : ℕ). hexOf k m ++ (digitOf (n / 16 % 16) ∷ digitOf (n % 16) ∷ [])) (div-div-eq-div-mul n 16 16)
+
+pub hex-join4 : (n : ℕ) → hexOf 8 n ≡ hexOf 4 (n / 65536) ++ hexOf 4 n
+hex-join4 n =
+    hex-join2 6 n
+    ∙ ap (λ (l : List ℕ). l ++ hexOf 2 n) (hex-join2 4 (n / 256) ∙ ap (λ (m : ℕ). hexOf 4 m ++ hexOf 2 (n / 256)) (div-div-eq-div-mul n 256 256))
+    ∙ append-assoc (hexOf 4 (n / 65536)) (hexOf 2 (n / 256)) (hexOf 2 n)
+    ∙ ap (λ (l : List ℕ). hexOf 4 (n / 65536) ++ l) (sym (hex-join2 2 n))
+
+-- ---- how long they are
+pub hex-length : (k n : ℕ) → length (hexOf k n) ≡ k
+unfolding hexOf
+hex-length zero n = refl
+hex-length (suc k) n = length-append (hexOf k (n / 16)) _ ∙ omega (arith, hex-length k (n / 16))
+
+pub decimal-length : (k n : ℕ) → length (decimalIn k n) ≤ k
+unfolding decimalIn
+decimal-length zero n = omega arith
+decimal-length (suc k) n = go (ltb n 10) (decimal-length k (n / 10))
+  where
+    go : (b : Bool) → length (decimalIn k (n / 10)) ≤ k →
+        length (cond b (digitOf n ∷ []) (decimalIn k (n / 10) ++ (digitOf (n % 10) ∷ []))) ≤ suc k
+    go true h = omega arith
+    go false h = omega (arith, h, length-append (decimalIn k (n / 10)) (digitOf (n % 10) ∷ []))
+
+-- ---- a line is shorter than 128 bytes
+abbrev Short : List (List ℕ) → Type 0
+Short [] = Unit {0}
+Short (f ∷ fs) = (length f ≤ 8) × Short fs
+
+after-short : (fs : List (List ℕ)) → Short fs → length (after fs) ≤ 9 * length fs
+after-short [] s = omega arith
+after-short (f ∷ fs) s = omega (arith, length-append (32 ∷ f) (after fs), after-short fs (s .1), s .0)
+
+counted-short :
+    (d n : ℕ) (fs : List (List ℕ)) → length fs ≤ 10 → Short fs → length (lineOf (decimalOf d) (decimalOf n ∷ fs)) ≤ 127
+counted-short d n fs h s =
+    omega (
+      arith,
+      h,
+      length-append (decimalOf d) (after (decimalOf n ∷ fs) ++ (10 ∷ [])),
+      length-append (after (decimalOf n ∷ fs)) (10 ∷ []),
+      length-append (32 ∷ decimalOf n) (after fs),
+      decimal-length 10 d,
+      decimal-length 10 n,
+      after-short fs s,
+    )
+
+hex-short : (k n : ℕ) → k ≤ 8 → length (hexOf k n) ≤ 8
+hex-short k n h = omega (arith, h, hex-length k n)
+
+pub refused-short : (w : Why) → length (refusedLine w) ≤ 127
+unfolding refusedLine
+refused-short w = counted-short 0 (whyNumber w) [] (omega arith) tt
+
+pub ran-short : (s : State) (d : ℕ) (a : Answer) → length (ranLine s d a) ≤ 127
+unfolding ranLine
+ran-short s d a =
+    let r : (code : ℕ) → length (registerOf s code) ≤ 8 = λ code. hex-short 8 (getRegister s Long code) (omega arith) in
+    counted-short d (numberOf a) (whereOf s ++ (lowRegisters s ++ highRegisters s)) (omega arith)
+    (hex-short 6 (s .counter) (omega arith), (hex-short 4 (srOf s) (omega arith), (r 0, (r 1, (r 2, (r 3, (r 4, (r 5, (r 6, (r 7, tt))))))))))
+
+-- ---- what each function adds
+pub counts-made :
+    (d n : ℕ) {v0 : Line} (v1 : Line) {v2 v3 : Line} → v0 ≡ emptyLine → v1 ≡ grown v0 (decimalOf d) → v2 ≡ grown v1 (32 ∷ []) →
+    v3 ≡ grown v2 (decimalOf n) → v3 ≡ grown emptyLine (counts d n)
+counts-made d n v1 e0 e1 e2 e3 =
+    two emptyLine (decimalOf d) (after (decimalOf n ∷ [])) refl (e1 ∙ ap (λ (x : Line). grown x (decimalOf d)) e0) (field v1 (decimalOf n) e2 e3)
+
+pub refused-made : (w : Why) {n : ℕ} {v u : Line} → n ≡ whyNumber w → v ≡ grown emptyLine (counts 0 n) → u ≡ grown v (10 ∷ []) → u ≡ grown emptyLine (refusedLine w)
+unfolding refusedLine
+refused-made w g e h =
+    line-made emptyLine (decimalOf 0) (decimalOf (whyNumber w) ∷ []) (e ∙ ap (λ (n : ℕ). grown emptyLine (counts 0 n)) g) h
+
+pub ran-made :
+    (s : State) (d : ℕ) (a : Answer) {n : ℕ} {v1 v2 v3 v4 v5 : Line} → n ≡ numberOf a → v1 ≡ grown emptyLine (counts d n) →
+    v2 ≡ grown v1 (after (whereOf s)) → v3 ≡ grown v2 (after (lowRegisters s)) → v4 ≡ grown v3 (after (highRegisters s)) →
+    v5 ≡ grown v4 (10 ∷ []) → v5 ≡ grown emptyLine (ranLine s d a)
+unfolding ranLine
+ran-made s d a g e1 e2 e3 e4 e5 =
+    let f = decimalOf d in
+    let x = decimalOf (numberOf a) ∷ [] in
+    line-made emptyLine f (x ++ (whereOf s ++ (lowRegisters s ++ highRegisters s)))
+    (more emptyLine f (x ++ (whereOf s ++ lowRegisters s)) (highRegisters s)
+    (more emptyLine f (x ++ whereOf s) (lowRegisters s)
+    (more emptyLine f x (whereOf s) (e1 ∙ ap (λ (n : ℕ). grown emptyLine (counts d n)) g) e2) e3) e4)
+    e5
+
+-- ---- the program
+module _ (image : List ℕ) where
+  pub for-long : 32768 < length image → lineFor image ≡ refusedLine TooLong
+  unfolding lineFor
+  for-long h = rw (lt-ltb 32768 (length image) h) refl
+
+  module _ (few : length image ≤ 32768) (r : Stepped) (is : r ≡ resetOf zeros image) where
+    reset-answer : {a : Answer} → r .answer ≡ a → resetOf zeros image .answer ≡ a
+    reset-answer e = ap (λ (x : Stepped). x .answer) (sym is) ∙ e
+
+    pub for-stops : (w : Why) → r .answer ≡ Refused w → lineFor image ≡ refusedLine w
+    unfolding lineFor
+    for-stops w e = rw (le-ltb 32768 (length image) few, reset-answer e) refl
+
+    pub for-ran : (q : Ran) (m : List ℕ) → r .answer ≡ Done → result q m ≡ runOf 1000 (r .state) zeros image →
+        lineFor image ≡ ranLine (q .state) (q .done) (q .answer)
+    unfolding lineFor
+    for-ran q m e f =
+        rw (le-ltb 32768 (length image) few, reset-answer e)
+        (sym (ap resultLine (f ∙ ap (λ (x : Stepped). runOf 1000 (x .state) zeros image) is)))
+
+-- every line is short enough to be written whole
+pub for-short : (image : List ℕ) → length (lineFor image) ≤ 127
+unfolding lineFor
+for-short image = go (ltb 32768 (length image)) (resetOf zeros image .answer) (runOf 1000 (resetOf zeros image .state) zeros image)
+  where
+    go : (b : Bool) (a : Answer) (r : Result) → length (cond b (refusedLine TooLong) (unlessRefused a (resultLine r))) ≤ 127
+    go true a r = refused-short TooLong
+    go false (Refused w) r = refused-short w
+    go false Done r = ran-short (r .state) (r .done) (r .answer)
+
+pub line-whole : (image : List ℕ) {r : Line} → r ≡ grown emptyLine (lineFor image) → (written r ≡ lineFor image) × Within r
+line-whole image e = subst (λ (r : Line). (written r ≡ lineFor image) × Within r) (sym e) (whole (lineFor image) (for-short image))

@@ -1,0 +1,22 @@
+use Rattle.line.specs.Lines.{registerOf}
+use Rattle.line.proofs.Laws.{field}
+use borrow.Author.Needs.{needs}
+use Rattle.line.proofs.register.Statement.{statement}
+use Rattle.line.proofs.register.Tie as tie
+
+add-requires : tie.Need-add-requires
+add-requires c κs = search needs
+
+register-requires : tie.Need-register-requires
+register-requires c κs = search needs
+
+hex8-requires : tie.Need-hex8-requires
+hex8-requires c κs = search needs
+
+returns : tie.Need-returns
+returns c =
+    let a = c .before .before .before .args in
+    field (a .l) (registerOf (a .s) (a .code)) (c .before .before .add .ensures) (rw (c .before .register .ensures) at (c .hex8 .ensures))
+
+pub register-spec : {M : Type 1} → statement M
+register-spec = tie.close (tie.spec add-requires register-requires hex8-requires returns)

@@ -1,0 +1,83 @@
+-- The line that the program prints.
+use Prim.Native.Nat.{ℕ, _+_, _≤_}
+use mathlib.Core.Path.{_≡_}
+use mathlib.Core.List.{List, [], _∷_, _++_}
+use mathlib.Core.Bool.{cond}
+use lib.ListN.{length, take, set, replicate}
+use lib.Dec.{ltb}
+use Rattle.answer.specs.declared.Answer.{Answer}
+use Rattle.answer.specs.declared.Answer.the-variants.{Done, Refused}
+use Rattle.answer.specs.declared.Why.{Why}
+use Rattle.answer.specs.declared.Why.the-variants.{TooLong}
+use Rattle.answer.specs.Number.{whyNumber, numberOf}
+use Rattle.little.specs.declared.Size.the-variants.{Long}
+use Rattle.state.specs.declared.State.{State}
+use Rattle.state.specs.Register.{getRegister}
+use Rattle.saved.specs.Sr.{srOf}
+use Rattle.step.specs.Reset.{resetOf}
+use Rattle.run.specs.Run.{Result, runOf}
+use Rattle.line.specs.declared.Line.{Line}
+use Rattle.line.specs.Text.{decimalOf, hexOf, after, lineOf}
+
+-- ---- a line that is being made: its bytes so far, and a byte more where there is room
+abbrev pub written : Line → List ℕ
+written l = take (l .length) (l .text)
+
+-- it ends within its bytes, so that they can be lent as a part
+abbrev pub Within : Line → Type 0
+Within l = (l .length ≤ length (l .text)) × (l .length ≡ length (written l))
+
+abbrev pub emptyLine : Line
+emptyLine = record { text = replicate 128 0; length = 0 }
+
+abbrev pub plus : Line → ℕ → Line
+plus l b = cond (ltb (l .length) 128) (record { text = set (l .text) (l .length) b; length = l .length + 1 }) l
+
+unfoldable pub grown : Line → List ℕ → Line
+grown l [] = l
+grown l (b ∷ bs) = grown (plus l b) bs
+
+-- ---- the fields
+-- steps and number
+abbrev pub counts : ℕ → ℕ → List ℕ
+counts done number = decimalOf done ++ after (decimalOf number ∷ [])
+
+-- the counter has six hex digits, SR four and each register eight
+abbrev pub whereOf : State → List (List ℕ)
+whereOf s = hexOf 6 (s .counter) ∷ hexOf 4 (srOf s) ∷ []
+
+abbrev pub registerOf : State → ℕ → List ℕ
+registerOf s code = hexOf 8 (getRegister s Long code)
+
+-- the current XWA XBC XDE XHL
+abbrev pub lowRegisters : State → List (List ℕ)
+lowRegisters s = registerOf s 0 ∷ registerOf s 1 ∷ registerOf s 2 ∷ registerOf s 3 ∷ []
+
+-- XIX XIY XIZ XSP
+abbrev pub highRegisters : State → List (List ℕ)
+highRegisters s = registerOf s 4 ∷ registerOf s 5 ∷ registerOf s 6 ∷ registerOf s 7 ∷ []
+
+-- ---- the lines
+-- a refused reset, or a longer image, prints 0 and the number only
+unfoldable pub refusedLine : Why → List ℕ
+refusedLine w = lineOf (decimalOf 0) (decimalOf (whyNumber w) ∷ [])
+
+-- steps, number, counter, SR, and the eight registers
+unfoldable pub ranLine : State → ℕ → Answer → List ℕ
+ranLine s done a = lineOf (decimalOf done) (decimalOf (numberOf a) ∷ (whereOf s ++ (lowRegisters s ++ highRegisters s)))
+
+-- ---- the program: reset, and 1,000 steps with 4,096 zero bytes of RAM; an image of up to 32,768 bytes
+abbrev pub zeros : List ℕ
+zeros = replicate 4096 0
+
+abbrev pub resultLine : Result → List ℕ
+resultLine r = ranLine (r .state) (r .done) (r .answer)
+
+abbrev pub unlessRefused : Answer → List ℕ → List ℕ
+unlessRefused (Refused w) l = refusedLine w
+unlessRefused Done l = l
+
+unfoldable pub lineFor : List ℕ → List ℕ
+lineFor image =
+    cond (ltb 32768 (length image)) (refusedLine TooLong)
+    (unlessRefused (resetOf zeros image .answer) (resultLine (runOf 1000 (resetOf zeros image .state) zeros image)))
