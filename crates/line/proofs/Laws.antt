@@ -4,7 +4,6 @@ use mathlib.Core.Path.{_≡_, refl, ap, sym, _∙_, subst}
 use mathlib.Core.List.{List, [], _∷_, _++_, append-assoc, append-nil}
 use mathlib.Core.Bool.{Bool, true, false, cond}
 use native.Mathlib.Omega.{arith}
-use native.Mathlib.Nat.{div-div-eq-div-mul}
 use native.Mathlib.Numerals.{add-one}
 use lib.ListN.{length, take, set, length-append, length-set, length-replicate}
 use lib.Seq.{take-suc-set}
@@ -25,7 +24,7 @@ use Rattle.step.specs.Reset.{resetOf}
 use Rattle.run.specs.declared.Ran.{Ran}
 use Rattle.run.specs.Run.{Result, result, runOf}
 use Rattle.line.specs.Text.{digitOf, hexOf, decimalIn, decimalOf, after, lineOf}
-use Rattle.line.specs.Lines.{written, Within, emptyLine, plus, grown, counts, whereOf, registerOf, lowRegisters, highRegisters, refusedLine, ranLine, zeros, resultLine, unlessRefused, lineFor}
+use Rattle.line.specs.Lines.{written, Within, emptyLine, plus, grown, counts, whereOf, registerOf, registersOf, refusedLine, ranLine, zeros, resultLine, unlessRefused, lineFor}
 
 -- ---- two additions are one
 grown-joins : (l : Line) (a b : List ℕ) → grown (grown l a) b ≡ grown l (a ++ b)
@@ -135,23 +134,19 @@ module _ (l : Line) (n places : ℕ) (some : places ≡ 0 → ⊥) where
       two l (decimalIn (places - 1) (n / 10)) (d ∷ [])
       (ap (λ (x : ℕ). decimalIn (places - 1) (n / 10) ++ (x ∷ [])) g ∙ sym (decimal-more (places - 1) n h) ∙ ap (λ (k : ℕ). decimalIn k n) less) e f
 
--- ---- hex digits: those above, and the last two or four
-pub hex-two : (n : ℕ) → hexOf 2 n ≡ digitOf (n / 16 % 16) ∷ digitOf (n % 16) ∷ []
-unfolding hexOf
-hex-two n = refl
+-- ---- hex digits
+pub hex-none : (l : Line) (n places : ℕ) → places ≡ 0 → l ≡ grown l (hexOf places n)
+unfolding hexOf grown
+hex-none l n places z = rw z refl
 
-pub hex-join2 : (k n : ℕ) → hexOf (suc (suc k)) n ≡ hexOf k (n / 256) ++ hexOf 2 n
+pub hex-last :
+    (l : Line) (n places : ℕ) → (places ≡ 0 → ⊥) → {d : ℕ} {v u : Line} → v ≡ grown l (hexOf (places - 1) (n / 16)) → d ≡ digitOf (n % 16) →
+    u ≡ grown v (d ∷ []) → u ≡ grown l (hexOf places n)
 unfolding hexOf
-hex-join2 k n =
-    append-assoc (hexOf k (n / 16 / 16)) _ _
-    ∙ ap (λ (m : ℕ). hexOf k m ++ (digitOf (n / 16 % 16) ∷ digitOf (n % 16) ∷ [])) (div-div-eq-div-mul n 16 16)
-
-pub hex-join4 : (n : ℕ) → hexOf 8 n ≡ hexOf 4 (n / 65536) ++ hexOf 4 n
-hex-join4 n =
-    hex-join2 6 n
-    ∙ ap (λ (l : List ℕ). l ++ hexOf 2 n) (hex-join2 4 (n / 256) ∙ ap (λ (m : ℕ). hexOf 4 m ++ hexOf 2 (n / 256)) (div-div-eq-div-mul n 256 256))
-    ∙ append-assoc (hexOf 4 (n / 65536)) (hexOf 2 (n / 256)) (hexOf 2 n)
-    ∙ ap (λ (l : List ℕ). hexOf 4 (n / 65536) ++ l) (sym (hex-join2 2 n))
+hex-last l n places some {d} e g f =
+    let less : suc (places - 1) ≡ places = omega arith in
+    two l (hexOf (places - 1) (n / 16)) (d ∷ [])
+    (ap (λ (x : ℕ). hexOf (places - 1) (n / 16) ++ (x ∷ [])) g ∙ ap (λ (k : ℕ). hexOf k n) less) e f
 
 -- ---- how long they are
 pub hex-length : (k n : ℕ) → length (hexOf k n) ≡ k
@@ -203,7 +198,7 @@ pub ran-short : (s : State) (d : ℕ) (a : Answer) → length (ranLine s d a) �
 unfolding ranLine
 ran-short s d a =
     let r : (code : ℕ) → length (registerOf s code) ≤ 8 = λ code. hex-short 8 (getRegister s Long code) (omega arith) in
-    counted-short d (numberOf a) (whereOf s ++ (lowRegisters s ++ highRegisters s)) (omega arith)
+    counted-short d (numberOf a) (whereOf s ++ registersOf s) (omega arith)
     (hex-short 6 (s .counter) (omega arith), (hex-short 4 (srOf s) (omega arith), (r 0, (r 1, (r 2, (r 3, (r 4, (r 5, (r 6, (r 7, tt))))))))))
 
 -- ---- what each function adds
@@ -219,18 +214,16 @@ refused-made w g e h =
     line-made emptyLine (decimalOf 0) (decimalOf (whyNumber w) ∷ []) (e ∙ ap (λ (n : ℕ). grown emptyLine (counts 0 n)) g) h
 
 pub ran-made :
-    (s : State) (d : ℕ) (a : Answer) {n : ℕ} {v1 v2 v3 v4 v5 : Line} → n ≡ numberOf a → v1 ≡ grown emptyLine (counts d n) →
-    v2 ≡ grown v1 (after (whereOf s)) → v3 ≡ grown v2 (after (lowRegisters s)) → v4 ≡ grown v3 (after (highRegisters s)) →
-    v5 ≡ grown v4 (10 ∷ []) → v5 ≡ grown emptyLine (ranLine s d a)
+    (s : State) (d : ℕ) (a : Answer) {n : ℕ} {v1 v2 v3 v4 : Line} → n ≡ numberOf a → v1 ≡ grown emptyLine (counts d n) →
+    v2 ≡ grown v1 (after (whereOf s)) → v3 ≡ grown v2 (after (registersOf s)) → v4 ≡ grown v3 (10 ∷ []) → v4 ≡ grown emptyLine (ranLine s d a)
 unfolding ranLine
-ran-made s d a g e1 e2 e3 e4 e5 =
+ran-made s d a g e1 e2 e3 e4 =
     let f = decimalOf d in
     let x = decimalOf (numberOf a) ∷ [] in
-    line-made emptyLine f (x ++ (whereOf s ++ (lowRegisters s ++ highRegisters s)))
-    (more emptyLine f (x ++ (whereOf s ++ lowRegisters s)) (highRegisters s)
-    (more emptyLine f (x ++ whereOf s) (lowRegisters s)
-    (more emptyLine f x (whereOf s) (e1 ∙ ap (λ (n : ℕ). grown emptyLine (counts d n)) g) e2) e3) e4)
-    e5
+    line-made emptyLine f (x ++ (whereOf s ++ registersOf s))
+    (more emptyLine f (x ++ whereOf s) (registersOf s)
+    (more emptyLine f x (whereOf s) (e1 ∙ ap (λ (n : ℕ). grown emptyLine (counts d n)) g) e2) e3)
+    e4
 
 -- ---- the program
 module _ (image : List ℕ) where

@@ -1,9 +1,7 @@
 -- Document 01's example of the program.
 use Prim.Native.Nat.{ℕ}
-use mathlib.Core.Path.{_≡_}
 use mathlib.Core.List.{List, [], _∷_, _++_}
 use lib.ListN.{replicate}
-use Rattle.line.specs.Lines.{lineFor}
 
 -- 256 bytes: 10 FF FF 00 at 0, 21 05 C9 C8 03 01 at 16, the rest zero
 abbrev pub exampleImage : List ℕ
@@ -22,6 +20,3 @@ exampleLine =
     ++ ((32 ∷ 48 ∷ 48 ∷ 48 ∷ 48 ∷ 48 ∷ 48 ∷ 48 ∷ 56 ∷ [])
     ++ (zeroField ++ (zeroField ++ (zeroField ++ (zeroField ++ (zeroField ++ (zeroField
     ++ (32 ∷ 48 ∷ 48 ∷ 48 ∷ 48 ∷ 48 ∷ 49 ∷ 48 ∷ 48 ∷ 10 ∷ []))))))))
-
-abbrev pub ExampleLine : Type 0
-ExampleLine = lineFor exampleImage ≡ exampleLine

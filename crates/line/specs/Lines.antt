@@ -49,13 +49,11 @@ whereOf s = hexOf 6 (s .counter) ∷ hexOf 4 (srOf s) ∷ []
 abbrev pub registerOf : State → ℕ → List ℕ
 registerOf s code = hexOf 8 (getRegister s Long code)
 
--- the current XWA XBC XDE XHL
-abbrev pub lowRegisters : State → List (List ℕ)
-lowRegisters s = registerOf s 0 ∷ registerOf s 1 ∷ registerOf s 2 ∷ registerOf s 3 ∷ []
-
--- XIX XIY XIZ XSP
-abbrev pub highRegisters : State → List (List ℕ)
-highRegisters s = registerOf s 4 ∷ registerOf s 5 ∷ registerOf s 6 ∷ registerOf s 7 ∷ []
+-- the current XWA XBC XDE XHL, then XIX XIY XIZ XSP
+abbrev pub registersOf : State → List (List ℕ)
+registersOf s =
+    registerOf s 0 ∷ registerOf s 1 ∷ registerOf s 2 ∷ registerOf s 3
+    ∷ registerOf s 4 ∷ registerOf s 5 ∷ registerOf s 6 ∷ registerOf s 7 ∷ []
 
 -- ---- the lines
 -- a refused reset, or a longer image, prints 0 and the number only
@@ -64,7 +62,7 @@ refusedLine w = lineOf (decimalOf 0) (decimalOf (whyNumber w) ∷ [])
 
 -- steps, number, counter, SR, and the eight registers
 unfoldable pub ranLine : State → ℕ → Answer → List ℕ
-ranLine s done a = lineOf (decimalOf done) (decimalOf (numberOf a) ∷ (whereOf s ++ (lowRegisters s ++ highRegisters s)))
+ranLine s done a = lineOf (decimalOf done) (decimalOf (numberOf a) ∷ (whereOf s ++ registersOf s))
 
 -- ---- the program: reset, and 1,000 steps with 4,096 zero bytes of RAM; an image of up to 32,768 bytes
 abbrev pub zeros : List ℕ

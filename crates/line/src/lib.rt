@@ -1,10 +1,9 @@
 // The line that the program prints for a ROM image.
 ghost use mathlib.Core.Path.{_≡_};
-ghost use mathlib.Core.List.{[], _∷_, _++_};
+ghost use mathlib.Core.List.{[], _∷_};
 ghost use Prim.Native.Nat.{_%_};
-ghost use Rattle.answer.specs.declared.Answer.the-variants.{Done, Refused};
 ghost use Rattle.line.specs.Text.{digitOf, decimalIn, decimalOf, hexOf, after};
-ghost use Rattle.line.specs.Lines.{written, Within, emptyLine, grown, counts, whereOf, registerOf, lowRegisters, highRegisters, refusedLine, ranLine, lineFor};
+ghost use Rattle.line.specs.Lines.{written, Within, emptyLine, grown, counts, whereOf, registerOf, registersOf, refusedLine, ranLine, lineFor};
 use answer::Answer;
 use answer::Why;
 use little::Size;
@@ -68,28 +67,14 @@ fn decimal(l: Line, n: u32) -> Line
     decimal_in(l, n, 10)
 }
 
-fn hex2(l: Line, n: u32) -> Line
-    ensures { λ r. ⌜ r ≡ grown l (hexOf 2 n) ⌝ }
+// The last digits of a number, as many as there are places.
+fn hex(l: Line, n: u32, places: u8) -> Line
+    ensures { λ r. ⌜ r ≡ grown l (hexOf places n) ⌝ }
 {
-    add(add(l, digit(n / 16)), digit(n))
-}
-
-fn hex4(l: Line, n: u32) -> Line
-    ensures { λ r. ⌜ r ≡ grown l (hexOf 4 n) ⌝ }
-{
-    hex2(hex2(l, n / 256), n)
-}
-
-fn hex6(l: Line, n: u32) -> Line
-    ensures { λ r. ⌜ r ≡ grown l (hexOf 6 n) ⌝ }
-{
-    hex2(hex4(l, n / 256), n)
-}
-
-fn hex8(l: Line, n: u32) -> Line
-    ensures { λ r. ⌜ r ≡ grown l (hexOf 8 n) ⌝ }
-{
-    hex4(hex4(l, n / 65536), n)
+    if places == 0 {
+        return l;
+    }
+    add(hex(l, n / 16, places - 1), digit(n))
 }
 
 // Steps and number.
@@ -103,25 +88,20 @@ fn counted(done: u32, number: u8) -> Line
 fn placed(l: Line, s: State) -> Line
     ensures { λ r. ⌜ r ≡ grown l (after (whereOf s)) ⌝ }
 {
-    hex4(add(hex6(add(l, b' '), s.counter), b' '), saved::sr(s))
+    hex(add(hex(add(l, b' '), s.counter, 6), b' '), saved::sr(s), 4)
 }
 
 fn register(l: Line, s: State, code: u8) -> Line
     ensures { λ r. ⌜ r ≡ grown l (after (registerOf s code ∷ [])) ⌝ }
 {
-    hex8(add(l, b' '), s.register(Size::Long, code))
+    hex(add(l, b' '), s.register(Size::Long, code), 8)
 }
 
-fn low_registers(l: Line, s: State) -> Line
-    ensures { λ r. ⌜ r ≡ grown l (after (lowRegisters s)) ⌝ }
+fn registers(l: Line, s: State) -> Line
+    ensures { λ r. ⌜ r ≡ grown l (after (registersOf s)) ⌝ }
 {
-    register(register(register(register(l, s, 0), s, 1), s, 2), s, 3)
-}
-
-fn high_registers(l: Line, s: State) -> Line
-    ensures { λ r. ⌜ r ≡ grown l (after (highRegisters s)) ⌝ }
-{
-    register(register(register(register(l, s, 4), s, 5), s, 6), s, 7)
+    let low = register(register(register(register(l, s, 0), s, 1), s, 2), s, 3);
+    register(register(register(register(low, s, 4), s, 5), s, 6), s, 7)
 }
 
 // What is printed where there is no run.
@@ -137,7 +117,7 @@ fn ran(r: Ran) -> Line
     let a = r.answer;
     let s = r.state;
     let l = placed(counted(r.done, answer::number(a)), s);
-    add(high_registers(low_registers(l, s), s), b'\n')
+    add(registers(l, s), b'\n')
 }
 
 // Resets on an image, runs 1,000 steps with 4,096 zero bytes of RAM, and gives the line.

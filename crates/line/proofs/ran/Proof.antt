@@ -12,19 +12,16 @@ counted-requires c κs = search needs
 placed-requires : tie.Need-placed-requires
 placed-requires c κs = search needs
 
-low-registers-requires : tie.Need-low-registers-requires
-low-registers-requires c κs = search needs
-
-high-registers-requires : tie.Need-high-registers-requires
-high-registers-requires c κs = search needs
+registers-requires : tie.Need-registers-requires
+registers-requires c κs = search needs
 
 add-requires : tie.Need-add-requires
 add-requires c κs = search needs
 
 returns : tie.Need-returns
 returns c =
-    let r = c .before .before .before .before .before .before .before .args .r in
-    ran-made (r .state) (r .done) (r .answer) (c .before .before .before .before .before .number .ensures) (c .before .before .before .before .counted .ensures) (c .before .before .before .placed .ensures) (c .before .before .low-registers .ensures) (c .before .high-registers .ensures) (c .add .ensures)
+    let r = c .before .before .before .before .before .before .args .r in
+    ran-made (r .state) (r .done) (r .answer) (c .before .before .before .before .number .ensures) (c .before .before .before .counted .ensures) (c .before .before .placed .ensures) (c .before .registers .ensures) (c .add .ensures)
 
 pub ran-spec : {M : Type 1} → statement M
 ran-spec =
@@ -33,7 +30,6 @@ ran-spec =
     number-requires
     counted-requires
     placed-requires
-    low-registers-requires
-    high-registers-requires
+    registers-requires
     add-requires
     returns)

@@ -1,5 +1,5 @@
--- Document 01's example, by computation.
-use mathlib.Core.Path.{refl}
+-- The line is settled; document 01's example, by computation.
+use mathlib.Core.Path.{refl, sym, _∙_}
 use Rattle.little.specs.Bytes.{valueOf}
 use Rattle.memory.specs.Access.{loadOf, codeAt}
 use Rattle.memory.specs.Place.{placeOf}
@@ -20,7 +20,10 @@ use Rattle.step.specs.Step.{guarded, onceOf, tryOf}
 use Rattle.run.specs.Run.{goOf, runOf}
 use Rattle.line.specs.Lines.{ranLine, lineFor}
 use Rattle.line.specs.Text.{hexOf, decimalIn}
-use Rattle.line.specs.Example.{ExampleLine}
+use Rattle.line.specs.Statements.{Settled, ExampleLine}
+
+pub settled : Settled
+settled image r r' e f = e ∙ sym f
 
 pub example-line : ExampleLine
 unfolding valueOf loadOf codeAt placeOf getBits setBits getSlot setSlot slotOf getRegister setRegister zeroState resetState validOf longOf withLong withCounter withBothFlags withFlags byteOf flagsOf operated computedOf sumOf bankNumberRows bankRows flagRows constantRows stackRows jumpRows relativeRows registerFormRows absoluteRows memoryFormRows memoryAtRows storeFormRows firstRows decodeOf placesRows registerRows lookup numberAt judge pastOf effectOf executedOf flagged valueAt storing resetOf guarded onceOf tryOf goOf runOf ranLine lineFor hexOf decimalIn

@@ -1,0 +1,15 @@
+-- What is proved of the line, beside what the call promises.
+use mathlib.Core.Path.{_≡_}
+use mathlib.Core.List.{List}
+use Prim.Native.Nat.{ℕ}
+use Rattle.line.specs.declared.Line.{Line}
+use Rattle.line.specs.Lines.{emptyLine, grown, lineFor}
+use Rattle.line.specs.Example.{exampleImage, exampleLine}
+
+-- two lines that meet the statement are the same, with the bytes behind their end
+abbrev pub Settled : Type 0
+Settled = (image : List ℕ) (r r' : Line) → r ≡ grown emptyLine (lineFor image) → r' ≡ grown emptyLine (lineFor image) → r ≡ r'
+
+-- document 01's example
+abbrev pub ExampleLine : Type 0
+ExampleLine = lineFor exampleImage ≡ exampleLine
