@@ -1,6 +1,6 @@
-use mathlib.Core.Path.{refl, _∙_}
+use mathlib.Core.Path.{refl, _∙_, ap}
 use Rattle.step.specs.Flag.{flagged}
-use Rattle.step.specs.Block.{compared}
+use Rattle.step.specs.Block.{compared, counted}
 use borrow.Author.Needs.{needs}
 use Rattle.step.proofs.block.compared.Statement.{statement}
 use Rattle.step.proofs.block.compared.Tie as tie
@@ -43,8 +43,7 @@ returns c =
       c .before .before .before .before .unpack .ensures,
       c .before .before .before .before .before .before .sub .ensures,
       c .before .before .before .before .before .before .before .accumulator .ensures,
-      c .before .before .before .before .before .before .before .before .counted .ensures,
-      c .before .before .before .before .before .before .before .before .before .moved .ensures,
+      c .before .before .before .before .before .before .before .before .counted .ensures ∙ ap counted (c .before .before .before .before .before .before .before .before .before .moved .ensures),
     )
     refl
 
