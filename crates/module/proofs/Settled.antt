@@ -11,7 +11,7 @@ use Rattle.answer.specs.declared.Answer.the-variants.{Done, Refused}
 use Rattle.answer.specs.declared.Why.the-variants.{TooMany, TooLong}
 use Rattle.state.specs.declared.State.{State}
 use Rattle.saved.specs.Record.{recordOf, stateAt, isRecord, loadOf, refused}
-use Rattle.saved.specs.Statements.{Bytes}
+use Rattle.little.specs.Bytes.{Bytes}
 use Rattle.saved.proofs.RoundTrip.{read-saves-back}
 use Rattle.step.specs.Try.{Try, did, no, leaves}
 use Rattle.step.specs.Step.{tooLong, guarded, tryOf, stepOf}

@@ -4,7 +4,7 @@ use mathlib.Core.Path.{_≡_}
 use mathlib.Core.List.{List}
 use lib.ListN.{length}
 use Rattle.answer.specs.Number.{numberOf}
-use Rattle.saved.specs.Statements.{Bytes}
+use Rattle.little.specs.Bytes.{Bytes}
 use Rattle.step.specs.Show.{showAnswerOf, shownOf}
 use Rattle.module.specs.Calls.{left, resetAnswer, resetBytes, stepLeft, runLeft, runDone}
 

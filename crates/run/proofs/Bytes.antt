@@ -8,7 +8,7 @@ use lib.Seq.{getD-drop}
 use Rattle.little.specs.declared.Size.{Size}
 use Rattle.little.specs.declared.Size.the-variants.{Byte, Word, Long}
 use Rattle.little.specs.Width.{bitsOf, bytesOf}
-use Rattle.little.specs.Bytes.{valueOf, bytesFrom, replaced}
+use Rattle.little.specs.Bytes.{Bytes, valueOf, bytesFrom, replaced}
 use Rattle.little.proofs.Laws.{value-lt}
 use Rattle.memory.specs.Place.{placeOf}
 use Rattle.memory.specs.Access.{loadOf, loadFrom, ramAfter, ramWith, codeAt, codeFrom, operandAt}
@@ -19,7 +19,6 @@ use Rattle.memory.specs.declared.Place.the-variants.{Ram, Rom, Missing}
 use Rattle.memory.proofs.Laws.{ram-fits, rom-fits}
 use lib.Seq.{length-take-le}
 use lib.ListN.{length-drop}
-use Rattle.run.specs.Repeat.{Bytes}
 
 pub bytes-none : Bytes []
 bytes-none i = omega arith

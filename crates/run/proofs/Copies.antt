@@ -12,7 +12,7 @@ use lib.Seq.{take-add, take-take, take-append-le, drop-drop, drop-at, length-tak
 use Rattle.little.specs.declared.Size.{Size}
 use Rattle.little.specs.declared.Size.the-variants.{Byte, Word, Long}
 use Rattle.little.specs.Width.{bytesOf}
-use Rattle.little.specs.Bytes.{valueOf, bytesFrom, replaced}
+use Rattle.little.specs.Bytes.{Bytes, valueOf, bytesFrom, replaced}
 use Rattle.little.proofs.Laws.{length-bytes, bytes-value, replaced-length, replaced-take, replaced-drop, replaced-part}
 use Rattle.memory.specs.Place.{placeOf}
 use Rattle.memory.specs.Access.{loadOf, storeOf, ramAfter, operandAt}
@@ -31,7 +31,7 @@ use Rattle.step.specs.Stack.{less, plus}
 use Rattle.step.specs.Block.{copied, roundOf}
 use Rattle.step.proofs.Rounds.{round-copies}
 use Rattle.run.specs.Run.{Result, ends, runOf}
-use Rattle.run.specs.Repeat.{Bytes, At, roundsOf, countOf, passed, elementOf, targetOf}
+use Rattle.run.specs.Repeat.{At, roundsOf, countOf, passed, elementOf, targetOf}
 use Rattle.run.specs.Search.{Target, bytesMoved, CopyMoves, CopySpreads}
 use Rattle.run.proofs.Bytes.{bytes-append, bytes-take, bytes-drop}
 use Rattle.run.proofs.Registers.{once}

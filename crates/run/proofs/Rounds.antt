@@ -45,7 +45,8 @@ use Rattle.step.specs.Flag.{flagsIn, flagged}
 use Rattle.step.specs.Block.{countIn, moreIn, counted, moved, copied, accumulator, compared, roundOf, equalIn, goesOn}
 use Rattle.step.proofs.Rounds.{round-copies, round-compares, round-refused}
 use Rattle.step.proofs.Kept.{copied-valid, compared-valid}
-use Rattle.run.specs.Repeat.{Bytes, roundsOf, countOf, passed}
+use Rattle.little.specs.Bytes.{Bytes}
+use Rattle.run.specs.Repeat.{roundsOf, countOf, passed}
 use Rattle.run.proofs.Bytes.{bytes-after, loaded-fits}
 use Rattle.run.proofs.Registers.{once, once-lt, moved-sound, moved-self, moved-long, moved-bc, moved-acc, counted-sound, counted-bc, counted-long, counted-acc, flagged-sound, flagged-register, flagged-acc}
 

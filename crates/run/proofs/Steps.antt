@@ -46,7 +46,8 @@ use Rattle.step.specs.Flag.{flagsIn, flagged}
 use Rattle.step.specs.Block.{moreIn, counted, moved, accumulator, copied, compared, roundOf, goesOn, endsAt}
 use Rattle.step.specs.Exec.{pastOf, effectOf, executedOf}
 use Rattle.step.specs.Step.{tooLong, done, onceOf, tryOf}
-use Rattle.run.specs.Repeat.{Bytes, At}
+use Rattle.little.specs.Bytes.{Bytes}
+use Rattle.run.specs.Repeat.{At}
 use Rattle.run.proofs.Bytes.{bytes-code}
 use Rattle.run.proofs.Laws.{try-once}
 use Rattle.step.proofs.Rounds.{round-copies, round-compares, round-refused}

@@ -25,7 +25,8 @@ use Rattle.code.specs.declared.Op.the-variants.{Block}
 use Rattle.code.specs.declared.Instruction.{Instruction}
 use Rattle.code.specs.declared.Decoded.the-variants.{Whole}
 use Rattle.step.specs.Block.{accumulator}
-use Rattle.run.specs.Repeat.{Bytes, At, ElementsThere, TargetsInRam, Spares, EqualAt, NoneEqual, elementOf, targetOf, countOf}
+use Rattle.little.specs.Bytes.{Bytes}
+use Rattle.run.specs.Repeat.{At, ElementsThere, TargetsInRam, Spares, EqualAt, NoneEqual, elementOf, targetOf, countOf}
 use Rattle.run.specs.Evidence.{CopyMet, FindMet, ExhaustMet, BeforeMet}
 
 and-left : (a b : Bool) → T (a && b) → T a

@@ -5,9 +5,10 @@ use mathlib.Core.Logic.{_⊎_, _≢_}
 use mathlib.Core.List.{List}
 use mathlib.Core.Bool.{Bool, true, false, cond}
 use lib.Dec.{eqb}
-use lib.ListN.{length, getD}
+use lib.ListN.{length}
 use Rattle.little.specs.declared.Size.the-variants.{Long}
 use Rattle.little.specs.Width.{bytesOf}
+use Rattle.little.specs.Bytes.{Bytes}
 use Rattle.memory.specs.Place.{placeOf}
 use Rattle.memory.specs.Access.{loadOf, codeAt}
 use Rattle.memory.specs.declared.Place.the-variants.{Missing}
@@ -49,10 +50,6 @@ abbrev pub targetOf : Form → State → ℕ → ℕ
 targetOf f s i = passed f (getRegister s Long (f .to)) i % 2 ^ 24
 
 -- ---- what demand 3 supposes
--- every number of a memory is a byte
-abbrev pub Bytes : List ℕ → Type 0
-Bytes l = (i : ℕ) → getD l i 0 < 2 ^ 8
-
 -- a valid state, with both memories within their limits, at a listed repeating copy or compare whose bytes lie in one memory
 pub record At (f : Form) (s : State) (ram rom : List ℕ) : Type 0 where
   pub sound : Sound s

@@ -7,10 +7,9 @@ use native.Mathlib.Numerals.{add-one}
 use lib.ListN.{length, getD, take, drop, set, length-append, length-take}
 use lib.Seq.{take-suc, take-suc-set, take-all, drop-drop, take-at, drop-at, take-add, length-take-le, getD-drop}
 use lib.ListN.{length-drop}
-use Rattle.little.specs.Bytes.{valueOf, bytesFrom, replaced}
+use Rattle.little.specs.Bytes.{Bytes, valueOf, bytesFrom, replaced}
 use Rattle.little.proofs.Laws.{length-bytes, written, replaced-length, replaced-take, value-bytes, bytes-value}
 use Rattle.saved.specs.Record.{longsBytes, longsAt}
-use Rattle.saved.specs.Statements.{Bytes}
 
 -- ---- writing
 longs-append : (xs ys : List ℕ) → longsBytes (xs ++ ys) ≡ longsBytes xs ++ longsBytes ys

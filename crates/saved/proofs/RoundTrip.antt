@@ -11,7 +11,7 @@ use lib.Dec.{eqb}
 use lib.Seq.{take-at, drop-at, drop-drop, getD-drop, drop-cons}
 use borrow.Author.Tests.{eq-eqb, eqb-true}
 use Rattle.answer.specs.declared.Answer.the-variants.{Done}
-use Rattle.little.specs.Bytes.{valueOf, bytesFrom}
+use Rattle.little.specs.Bytes.{Bytes, valueOf, bytesFrom}
 use Rattle.little.proofs.Laws.{length-bytes, value-bytes}
 use Rattle.state.specs.State.{validOf}
 use Rattle.state.specs.Sound.{Sound}
@@ -19,7 +19,7 @@ use Rattle.state.specs.declared.State.{State}
 use Rattle.state.proofs.Valid.{Valid, valid-says, and-true}
 use Rattle.saved.specs.Sr.{srOf, flagsIn, bankIn, levelIn, onesIn}
 use Rattle.saved.specs.Record.{longsBytes, longsAt, recordOf, srAt, stateAt, fixedAt, isRecord, loadOf}
-use Rattle.saved.specs.Statements.{Bytes, SavedReadsBack, ReadSavesBack, RecordsAreOfStates}
+use Rattle.saved.specs.Statements.{SavedReadsBack, ReadSavesBack, RecordsAreOfStates}
 use Rattle.saved.proofs.Numbers.{longs-length, longs-back, bytes-drop, part-bytes, bytes-longs}
 use Rattle.saved.proofs.Laws.{load-good}
 

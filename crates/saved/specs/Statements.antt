@@ -1,18 +1,14 @@
 -- What is proved of saving and loading, beside what each call promises.
-use Prim.Native.Nat.{ℕ, _<_, _^_}
+use Prim.Native.Nat.{ℕ}
 use mathlib.Core.Path.{_≡_}
 use mathlib.Core.Bool.{true}
 use mathlib.Core.List.{List}
-use lib.ListN.{getD}
 use Rattle.answer.specs.declared.Answer.the-variants.{Done}
+use Rattle.little.specs.Bytes.{Bytes}
 use Rattle.state.specs.State.{validOf}
 use Rattle.state.specs.Sound.{Sound}
 use Rattle.state.specs.declared.State.{State}
 use Rattle.saved.specs.Record.{recordOf, stateAt, isRecord, loadOf}
-
--- every number of the list is a byte
-abbrev pub Bytes : List ℕ → Type 0
-Bytes l = (i : ℕ) → getD l i 0 < 2 ^ 8
 
 -- a saved state reads back as itself
 abbrev pub SavedReadsBack : Type 0
