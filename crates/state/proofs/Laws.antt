@@ -155,6 +155,10 @@ named-kept : (s : State) (t : Slot) (v : ℕ) (z : Size) (c : ℕ) → namedIn (
 unfolding setSlot withLong
 named-kept s t v z c = refl
 
+-- the slot of a register is one of the twenty, whatever the numbers are
+pub slot-held : (b : ℕ) (z : Size) (c : ℕ) (t : Slot) → t ≡ slotOf (b % 4) z (c % 8) → t .index < 20
+slot-held b z c t e = rw e (slot-known (b % 4) z (c % 8) (omega arith) (omega arith))
+
 pub register-lt : (s : State) (z : Size) (c : ℕ) → getRegister s z c < 2 ^ bitsOf z
 unfolding getRegister
 register-lt s z c = rw (← width-of (s .bank .0 % 4) z (c % 8)) (slot-lt s (namedIn s z c))

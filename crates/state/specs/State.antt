@@ -6,6 +6,17 @@ use lib.ListN.{getD, set, replicate}
 use lib.Dec.{ltb, eqb}
 use Rattle.state.specs.declared.State.{State}
 
+-- a state from its parts, where they lie apart: the registers, the counter, the numbers of the bank and of the level, F and F'
+abbrev pub stateOf : List ℕ → ℕ → ℕ → ℕ → ℕ → ℕ → State
+stateOf registers counter bank level flags spare = record {
+  registers = registers;
+  counter = counter;
+  bank = record { 0 = bank };
+  level = record { 0 = level };
+  flags = flags;
+  spare = spare;
+}
+
 -- all zero
 unfoldable pub zeroState : State
 zeroState = record {

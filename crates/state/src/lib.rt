@@ -1,7 +1,7 @@
 // The machine's state: twenty long registers, the counter, the bank, the interrupt level and two sets of flags.
 ghost use mathlib.Core.Path.{_≡_};
-ghost use Prim.Native.Nat.{_%_, _<_};
-ghost use Rattle.state.specs.State.{zeroState, resetState, flagsValid, validOf, longOf, withLong, withCounter, withBank, withFlags, withBothFlags};
+ghost use Prim.Native.Nat.{ℕ, _%_, _<_};
+ghost use Rattle.state.specs.State.{stateOf, zeroState, resetState, flagsValid, validOf, longOf, withLong, withCounter, withBank, withFlags, withBothFlags};
 ghost use Rattle.state.specs.Register.{getBits, setBits, startOf, widthOf, getSlot, setSlot, indexOf, bytePart, slotOf, getRegister, setRegister};
 use little::Size;
 
@@ -254,4 +254,25 @@ pub fn slot_of(bank: Bank, size: Size, code: u8) -> Slot
             part: Part::Whole,
         },
     }
+}
+
+// ---- registers that lie apart from the rest of their state: they are changed where they lie, and nothing is copied
+
+// The register of a size and a code, in a bank.
+pub fn read(registers: &[u32; 20], bank: u8, size: Size, code: u8) -> u32
+    ensures { λ r. ⌜ ((counter level flags spare : ℕ) → r ≡ getRegister (stateOf (now (registers .entry)) counter bank level flags spare) size code) ⌝ }
+{
+    let t = slot_of(Bank(bank), size, code);
+    let i = t.index;
+    let p = t.part;
+    bits_of(p, registers[i])
+}
+
+pub fn write(registers: &mut [u32; 20], bank: u8, size: Size, code: u8, v: u32)
+    ensures { λ _. ⌜ ((counter level flags spare : ℕ) → stateOf (now (registers .exit)) counter bank level flags spare ≡ setRegister (stateOf (now (registers .entry)) counter bank level flags spare) size code v) ⌝ }
+{
+    let t = slot_of(Bank(bank), size, code);
+    let i = t.index;
+    let p = t.part;
+    registers[i] = with_bits(p, registers[i], v);
 }

@@ -8,6 +8,7 @@ use native.Mathlib.Nat.{add-zero, mod-eq-of-lt, add-mod-right}
 use lib.Dec.{ltb}
 use lib.Pow.{mod-mod-pow, field}
 use borrow.Author.Tests.{le-leb, lt-leb, ltb-true, ltb-false}
+use Rattle.answer.specs.declared.Answer.{Answer}
 use Rattle.answer.specs.declared.Answer.the-variants.{Done, Refused}
 use Rattle.answer.specs.declared.Why.{Why}
 use Rattle.little.specs.declared.Size.{Size}
@@ -18,19 +19,18 @@ use Rattle.memory.specs.Access.{loadOf, storeOf, ramAfter}
 use Rattle.memory.specs.declared.Loaded.the-variants as loaded
 use Rattle.memory.proofs.Laws.{refused-keeps}
 use Rattle.state.specs.declared.State.{State}
-use Rattle.state.specs.State.{longOf, withBank, withCounter, withFlags, withBothFlags}
+use Rattle.state.specs.State.{stateOf, longOf, withBank, withCounter, withFlags, withBothFlags}
 use Rattle.state.specs.Register.{getRegister, getSlot}
 use Rattle.code.specs.declared.MemoryForm.{MemoryForm}
 use Rattle.code.specs.declared.Base.{Base}
 use Rattle.code.specs.declared.Base.the-variants.{Indirect, Displaced, Absolute8, Absolute16, Absolute24}
-use Rattle.step.specs.declared.Stepped.{Stepped}
-use Rattle.step.specs.Try.{Try, did, no, Outcome, outcome, leaves, andThen}
+use Rattle.step.specs.Try.{Try, did, no, Outcome, after, leaves, andThen}
 use Rattle.code.specs.Listed.{decodeOf}
 use Rattle.code.specs.declared.Decoded.{Decoded}
 use Rattle.code.specs.declared.Decoded.the-variants as decoded
 use Rattle.code.proofs.Ranges.{length-fits}
 use lib.ListN.{length}
-use Rattle.step.specs.Exec.{pastOf, backAt}
+use Rattle.step.specs.Exec.{pastOf}
 use Rattle.step.specs.Show.{lengthIn}
 use Rattle.step.specs.Operand.{displaced, pointerOf, addressOf, addressFrom, storing}
 use Rattle.step.specs.Stack.{less, plus, withStack, popOf}
@@ -148,24 +148,20 @@ flags-low v =
     )
 
 -- ---- a call, and then a change of the state where it was done
-module _ (s : State) (ram : List ℕ) (r : Stepped) (m : List ℕ) (f : State → State) where
-  pub then-done :
-      (t : Try) → outcome r m ≡ leaves s ram t → r .answer ≡ Done →
-      _≡_ {A = Outcome} (record { state = f (r .state); ram = m; answer = Done }) (leaves s ram (andThen t f))
-  then-done (did u n) e a = rw (ap (λ (o : Outcome). o .state) e, ap (λ (o : Outcome). o .ram) e) refl
-  then-done (no w) e a =
-      let b : r .answer ≡ Refused w = ap (λ (o : Outcome). o .answer) e in
+module _ (s : State) (ram : List ℕ) (a : Answer) (u : State) (m : List ℕ) (f : State → State) where
+  pub then-done : (t : Try) → after a u m ≡ leaves s ram t → a ≡ Done → after Done (f u) m ≡ leaves s ram (andThen t f)
+  then-done (did v n) e d = rw (ap (λ (o : Outcome). o .state) e, ap (λ (o : Outcome). o .ram) e) refl
+  then-done (no w) e d =
+      let b : a ≡ Refused w = ap (λ (o : Outcome). o .answer) e in
       let z : _≡_ {A = ℕ} 0 1 = cc in
       absurd (omega arith)
 
-  pub then-refused :
-      (w : Why) (t : Try) → outcome r m ≡ leaves s ram t → r .answer ≡ Refused w →
-      _≡_ {A = Outcome} (record { state = r .state; ram = m; answer = Refused w }) (leaves s ram (andThen t f))
-  then-refused w (did u n) e a =
-      let b : r .answer ≡ Done = ap (λ (o : Outcome). o .answer) e in
+  pub then-refused : (w : Why) (t : Try) → after a u m ≡ leaves s ram t → a ≡ Refused w → after (Refused w) u m ≡ leaves s ram (andThen t f)
+  then-refused w (did v n) e d =
+      let b : a ≡ Done = ap (λ (o : Outcome). o .answer) e in
       let z : _≡_ {A = ℕ} 0 1 = cc in
       absurd (omega arith)
-  then-refused w (no x) e a = rw (← a) e
+  then-refused w (no x) e d = rw (← d) e
 
 -- ---- an instruction: the state past it, and back where it is refused
 pub past-is : (n : ℕ) (s : State) (r : ℕ) → r ≡ (s .counter + n % 16777216) % 2 ^ 32 → withCounter s r ≡ pastOf n s
@@ -174,30 +170,36 @@ past-is n s r e =
     let k : r % 2 ^ 24 ≡ (s .counter + n) % 2 ^ 24 = rw e (mod-mod-pow (s .counter + n % 2 ^ 24) 8 24 ∙ omega arith) in
     rw k refl
 
+pub went :
+    (s p : State) (ram : List ℕ) (a : Answer) (u : State) (m : List ℕ) (t : Try) → after a u m ≡ leaves p ram t → a ≡ Done →
+    after Done u m ≡ leaves s ram t
+went s p ram a u m (did v n) e d = rw (ap (λ (o : Outcome). o .state) e, ap (λ (o : Outcome). o .ram) e) refl
+went s p ram a u m (no w) e d =
+    let b : a ≡ Refused w = ap (λ (o : Outcome). o .answer) e in
+    let z : _≡_ {A = ℕ} 0 1 = cc in
+    absurd (omega arith)
+
+-- the state with the counter that it had, not cut
+backAt : State → ℕ → State
+backAt s at = stateOf (s .registers) at (s .bank .0) (s .level .0) (s .flags) (s .spare)
+
 back-is : (n : ℕ) (s : State) → backAt (pastOf n s) (s .counter) ≡ s
 unfolding pastOf withCounter backAt
 back-is n s = refl
 
-pub went :
-    (s p : State) (ram : List ℕ) (r : Stepped) (m : List ℕ) (t : Try) → outcome r m ≡ leaves p ram t → r .answer ≡ Done →
-    _≡_ {A = Outcome} (record { state = r .state; ram = m; answer = Done }) (leaves s ram t)
-went s p ram r m (did u n) e a = rw (ap (λ (o : Outcome). o .state) e, ap (λ (o : Outcome). o .ram) e) refl
-went s p ram r m (no w) e a =
-    let b : r .answer ≡ Refused w = ap (λ (o : Outcome). o .answer) e in
-    let z : _≡_ {A = ℕ} 0 1 = cc in
-    absurd (omega arith)
-
 pub came-back :
-    (s : State) (n : ℕ) (ram : List ℕ) (r : Stepped) (m : List ℕ) (w : Why) (t : Try) →
-    outcome r m ≡ leaves (pastOf n s) ram t → r .answer ≡ Refused w →
-    _≡_ {A = Outcome} (record { state = backAt (r .state) (s .counter); ram = m; answer = Refused w }) (leaves s ram t)
-came-back s n ram r m w (did u l) e a =
-    let b : r .answer ≡ Done = ap (λ (o : Outcome). o .answer) e in
+    (s : State) (n : ℕ) (ram : List ℕ) (a : Answer) (u : State) (m : List ℕ) (w : Why) (t : Try) →
+    after a u m ≡ leaves (pastOf n s) ram t → a ≡ Refused w →
+    after (Refused w) (stateOf (u .registers) (s .counter) (u .bank .0) (u .level .0) (u .flags) (u .spare)) m ≡ leaves s ram t
+unfolding backAt
+came-back s n ram a u m w (did v l) e d =
+    let b : a ≡ Done = ap (λ (o : Outcome). o .answer) e in
     let z : _≡_ {A = ℕ} 0 1 = cc in
     absurd (omega arith)
-came-back s n ram r m w (no x) e a =
-    let b : Refused w ≡ Refused x = sym a ∙ ap (λ (o : Outcome). o .answer) e in
-    rw (ap (λ (o : Outcome). o .state) e, ap (λ (o : Outcome). o .ram) e, back-is n s, b) refl
+came-back s n ram a u m w (no x) e d =
+    let b : Refused w ≡ Refused x = sym d ∙ ap (λ (o : Outcome). o .answer) e in
+    let k : backAt u (s .counter) ≡ s = ap (λ (o : Outcome). backAt (o .state) (s .counter)) e ∙ back-is n s in
+    rw (ap (λ (o : Outcome). o .ram) e, b) (ap (λ (v : State). after (Refused x) v ram) k)
 
 -- ---- what is shown is there
 pub length-there : (l : List ℕ) → lengthIn (decodeOf l) ≤ length l

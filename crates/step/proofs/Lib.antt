@@ -1,4 +1,5 @@
 pub mod Laws
+pub mod Division
 pub mod Rounds
 pub mod Kept
 pub mod Touched

@@ -33,7 +33,7 @@ use Rattle.step.specs.Operand.{pointerOf, valueAt, storing, storedBy, pu
 use Rattle.step.specs.Stack.{plus, pushOf, popOf}
 use Rattle.step.specs.Flag.{flagsIn, flagged, exchanged}
 use Rattle.step.specs.Jump.{jumpOf}
-use Rattle.step.specs.Compute.{computed, resultIn, storesOf, answerIn, keptOf, countIn}
+use Rattle.step.specs.Compute.{computed, resultIn, storesOf, answerIn}
 use Rattle.step.specs.Block.{counted, moved, copied, compared, roundOf, goesOn, endsAt}
 use Rattle.step.specs.Exec.{pastOf, effectOf}
 use Rattle.step.specs.Touched.{Span, none, bytes, operandSpan, onStack, belowStack, readOf, targetOf, loadTo, readAnswer, storeAnswer, unless, answerBy, Spares}
@@ -63,11 +63,6 @@ module _ (P : State → Type 0) (k : Kept P) where
   byte-kept : (s : State) (f : Flags) → P s → P (withFlags s (byteOf f))
   unfolding flagged
   byte-kept s f ok = k .flags s f ok
-
-  kept-kept : (z : Size) (s : State) (f : Flags) → P s → P (withFlags s (keptOf z (s .flags) (byteOf f)))
-  kept-kept Byte s f ok = byte-kept s f ok
-  kept-kept Word s f ok = subst P (sym (same-flags s)) ok
-  kept-kept Long s f ok = subst P (sym (same-flags s)) ok
 
   moved-kept : (f : Form) (r : ℕ) (s : State) → P s → P (moved f r s)
   unfolding moved
@@ -190,9 +185,6 @@ module _ (P : State → Type 0) (ram rom : List ℕ) where
       go true = fair-result s z (Register c) r k ok
       go false = fair-did _ (k .flags s (r .flags) ok)
 
-  fair-count : (s : State) (z : Size) (o : Operand) (r : Computed) → Kept P → P s → Fair none (operandSpan s z o) (countIn s ram rom z o r)
-  fair-count s z o r k ok = fair-flagged s _ z o _ k (kept-kept P k z s (r .flags) ok)
-
   pub fair-round :
       (f : Form) (s : State) → Kept P → P s
       → Fair (bytes (pointerOf s (f .from)) (bytesOf (f .size))) (cond (f .copies) (bytes (pointerOf s (f .to)) (bytesOf (f .size))) none) (roundOf f s ram rom)
@@ -236,8 +228,8 @@ module _ (P : State → Type 0) (ram rom : List ℕ) where
   fair-effect (Compute op r) z o at s k ok = fair-value s z o _ _ (λ v. fair-register op s z r (computed s op z (getRegister s z r) v) k ok)
   fair-effect (ComputeInto op r) z o at s k ok = fair-value s z o _ _ (λ v. fair-answer op s z o _ k ok)
   fair-effect (ComputeConstant op n) z o at s k ok = fair-value s z o _ _ (λ v. fair-answer op s z o _ k ok)
-  fair-effect (Inc n) z o at s k ok = fair-value s z o _ _ (λ v. fair-count s z o _ k ok)
-  fair-effect (Dec n) z o at s k ok = fair-value s z o _ _ (λ v. fair-count s z o _ k ok)
+  fair-effect (Inc n) z o at s k ok = fair-value s z o _ _ (λ v. fair-result s z o _ k ok)
+  fair-effect (Dec n) z o at s k ok = fair-value s z o _ _ (λ v. fair-result s z o _ k ok)
   fair-effect (Shifted kind n) z o at s k ok = fair-value s z o _ _ (λ v. fair-result s z o _ k ok)
   fair-effect Extz z o at s k ok = fair-value s z o _ _ (λ v. fair-put s z o _ k ok)
   fair-effect Exts z o at s k ok = fair-value s z o _ _ (λ v. fair-put s z o _ k ok)

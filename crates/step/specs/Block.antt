@@ -31,10 +31,11 @@ unfoldable pub counted : State → State
 counted s = setRegister s Word 1 (less 16 (countIn s) 1)
 
 -- a pointer moved by the element's size, up or down, round at its width
+abbrev pub steppedOf : Form → ℕ → ℕ
+steppedOf f x = cond (f .up) (plus 32 x (bytesOf (f .size))) (less 32 x (bytesOf (f .size)))
+
 unfoldable pub moved : Form → ℕ → State → State
-moved f r s =
-    let x = getRegister s Long r in
-    setRegister s Long r (cond (f .up) (plus 32 x (bytesOf (f .size))) (less 32 x (bytesOf (f .size))))
+moved f r s = setRegister s Long r (steppedOf f (getRegister s Long r))
 
 -- the registers and flags after a copy's round: both pointers, BC, and the flags of LDI and LDD
 unfoldable pub copied : Form → State → State

@@ -20,23 +20,12 @@ use Rattle.step.specs.Operand.{displaced, valueAt, putAt, numberIn, regi
 use Rattle.step.specs.Stack.{pushOf, popOf, callOf, retOf, pushFOf, popFOf}
 use Rattle.step.specs.Jump.{jumpOf}
 use Rattle.step.specs.Flag.{flagsIn, flagged, exchanged}
-use Rattle.step.specs.Compute.{computed, resultIn, answerIn, countIn, stepsOf}
+use Rattle.step.specs.Compute.{computed, resultIn, answerIn, stepsOf}
 use Rattle.step.specs.Block.{roundOf, endsAt}
 
 -- the state past an instruction of n bytes
 unfoldable pub pastOf : ℕ → State → State
 pastOf n s = withCounter s (s .counter + n)
-
--- the state with the counter that it had, as it was
-unfoldable pub backAt : State → ℕ → State
-backAt s at = record {
-  counter = at;
-  registers = s .registers;
-  bank = s .bank;
-  level = s .level;
-  flags = s .flags;
-  spare = s .spare;
-}
 
 -- What an operation of a size does with its operand. The state is past the instruction, which stands at the address `at`:
 -- a repeating form that goes on has its counter there again.
@@ -73,9 +62,9 @@ effectOf (ComputeInto op r) z o at s ram rom =
 effectOf (ComputeConstant op n) z o at s ram rom =
     withLoaded (valueAt s ram rom z o) (λ v. answerIn op s ram rom z o (computed s op z v n))
 effectOf (Inc n) z o at s ram rom =
-    withLoaded (valueAt s ram rom z o) (λ v. countIn s ram rom z o (incOf (flagsIn s) (bitsOf z) v (stepsOf n)))
+    withLoaded (valueAt s ram rom z o) (λ v. resultIn s ram rom z o (incOf (flagsIn s) (bitsOf z) v (stepsOf n)))
 effectOf (Dec n) z o at s ram rom =
-    withLoaded (valueAt s ram rom z o) (λ v. countIn s ram rom z o (decOf (flagsIn s) (bitsOf z) v (stepsOf n)))
+    withLoaded (valueAt s ram rom z o) (λ v. resultIn s ram rom z o (decOf (flagsIn s) (bitsOf z) v (stepsOf n)))
 effectOf (Shifted kind n) z o at s ram rom =
     withLoaded (valueAt s ram rom z o) (λ v. resultIn s ram rom z o (shiftOf kind (bitsOf z) v (placesOf n)))
 effectOf Extz z o at s ram rom = withLoaded (valueAt s ram rom z o) (λ v. putAt s ram rom z o (extzOf (bitsOf z) v))

@@ -6,6 +6,7 @@ pub mod Jump
 pub mod Compute
 pub mod Block
 pub mod Exec
+pub mod Kind
 pub mod Step
 pub mod Show
 pub mod Reset

@@ -24,6 +24,10 @@ pub record Outcome : Type 0 where
 abbrev pub outcome : Stepped → List ℕ → Outcome
 outcome r ram = record { state = r .state; ram = ram; answer = r .answer }
 
+-- the same of a function whose state lies apart
+abbrev pub after : Answer → State → List ℕ → Outcome
+after a s ram = record { state = s; ram = ram; answer = a }
+
 -- what a function answers where it is done, and where it is refused
 abbrev pub doneWith : State → Stepped
 doneWith s = record { state = s; answer = Done }

@@ -1,128 +1,166 @@
 // Copies and compares: one round a step.
 ghost use mathlib.Core.Path.{_≡_};
-ghost use Rattle.step.specs.Try.{outcome, leaves, andThen};
+ghost use Prim.Native.Nat.{ℕ};
+ghost use Rattle.state.specs.State.{stateOf};
+ghost use Rattle.step.specs.Try.{after, leaves, andThen};
 ghost use Rattle.step.specs.Operand.{pointerOf, storing};
-ghost use Rattle.step.specs.Block.{moreIn, counted, moved, copied, accumulator, compared, roundOf, goesOn, endsAt};
-use crate::Stepped;
-use crate::done;
+ghost use Rattle.step.specs.Block.{moreIn, counted, steppedOf, moved, copied, accumulator, compared, roundOf, goesOn, endsAt};
 use crate::operand::pointer;
-use crate::refuse;
 use answer::Answer;
 use code::Form;
 use little::Size;
 use memory::Loaded;
-use state::State;
 
 // Whether BC is not 0.
-fn more(s: State) -> bool
-    ensures { λ r. ⌜ r ≡ moreIn s ⌝ }
+fn more(bank: u8, regs: &[u32; 20]) -> bool
+    ensures { λ r. ⌜ ((counter level flags spare : ℕ) → r ≡ moreIn (stateOf (now (regs .entry)) counter bank level flags spare)) ⌝ }
 {
-    s.register(Size::Word, 1) != 0
+    state::read(regs, bank, Size::Word, 1) != 0
 }
 
 // BC less one.
-fn counted(s: State) -> State
-    ensures { λ r. ⌜ r ≡ counted s ⌝ }
+fn counted(bank: u8, regs: &mut [u32; 20])
+    ensures { λ _. ⌜ ((counter level flags spare : ℕ) → stateOf (now (regs .exit)) counter bank level flags spare ≡ counted (stateOf (now (regs .entry)) counter bank level flags spare)) ⌝ }
 {
-    let bc = (s.register(Size::Word, 1) % 65536) as u16;
-    s.with_register(Size::Word, 1, std::num::wrapping_sub_u16(bc, 1) as u32)
+    let bc = (state::read(&*regs, bank, Size::Word, 1) % 65536) as u16;
+    state::write(regs, bank, Size::Word, 1, std::num::wrapping_sub_u16(bc, 1) as u32);
 }
 
-// A pointer past its element.
-fn moved(f: Form, r: u8, s: State) -> State
-    ensures { λ t. ⌜ t ≡ moved f r s ⌝ }
+// A pointer's value past its element.
+fn stepped(f: Form, x: u32) -> u32
+    ensures { λ r. ⌜ r ≡ steppedOf f x ⌝ }
 {
     let size = f.size;
     let n = little::bytes(size) as u32;
-    let x = s.register(Size::Long, r);
     if f.up {
-        return s.with_register(Size::Long, r, std::num::wrapping_add_u32(x, n));
+        return std::num::wrapping_add_u32(x, n);
     }
-    s.with_register(Size::Long, r, std::num::wrapping_sub_u32(x, n))
+    std::num::wrapping_sub_u32(x, n)
 }
 
-fn copied(f: Form, s: State) -> State
-    ensures { λ t. ⌜ t ≡ copied f s ⌝ }
+// A pointer past its element.
+fn moved(f: Form, r: u8, bank: u8, regs: &mut [u32; 20])
+    ensures { λ _. ⌜ ((counter level flags spare : ℕ) → stateOf (now (regs .exit)) counter bank level flags spare ≡ moved f r (stateOf (now (regs .entry)) counter bank level flags spare)) ⌝ }
 {
-    let t = counted(moved(f, f.to, moved(f, f.from, s)));
-    let flags = alu::copy_flags(alu::unpack(s.flags), more(t));
-    t.with_flags(alu::pack(flags))
+    let x = state::read(&*regs, bank, Size::Long, r);
+    state::write(regs, bank, Size::Long, r, stepped(f, x));
+}
+
+fn copied(f: Form, bank: u8, flags: &mut u8, regs: &mut [u32; 20])
+    ensures { λ _. ⌜ ((counter level spare : ℕ) → stateOf (now (regs .exit)) counter bank level (now (flags .exit)) spare ≡ copied f (stateOf (now (regs .entry)) counter bank level (now (flags .entry)) spare)) ⌝ }
+{
+    moved(f, f.from, bank, &mut *regs);
+    moved(f, f.to, bank, &mut *regs);
+    counted(bank, &mut *regs);
+    let old = alu::unpack(*flags);
+    *flags = alu::pack(alu::copy_flags(old, more(bank, &*regs)));
 }
 
 // A, WA or XWA.
-fn accumulator(s: State, size: Size) -> u32
-    ensures { λ r. ⌜ r ≡ accumulator s size ⌝ }
+fn accumulator(bank: u8, regs: &[u32; 20], size: Size) -> u32
+    ensures { λ r. ⌜ ((counter level flags spare : ℕ) → r ≡ accumulator (stateOf (now (regs .entry)) counter bank level flags spare) size) ⌝ }
 {
     match size {
-        Size::Byte => s.register(size, 1),
-        Size::Word => s.register(size, 0),
-        Size::Long => s.register(size, 0),
+        Size::Byte => state::read(regs, bank, size, 1),
+        Size::Word => state::read(regs, bank, size, 0),
+        Size::Long => state::read(regs, bank, size, 0),
     }
 }
 
-fn compared(f: Form, v: u32, s: State) -> State
-    ensures { λ t. ⌜ t ≡ compared f v s ⌝ }
+fn compared(f: Form, v: u32, bank: u8, flags: &mut u8, regs: &mut [u32; 20])
+    ensures { λ _. ⌜ ((counter level spare : ℕ) → stateOf (now (regs .exit)) counter bank level (now (flags .exit)) spare ≡ compared f v (stateOf (now (regs .entry)) counter bank level (now (flags .entry)) spare)) ⌝ }
 {
     let size = f.size;
-    let on = moved(f, f.from, s);
-    let t = counted(on);
-    let d = alu::sub(size, accumulator(s, size), v, false);
+    let d = alu::sub(size, accumulator(bank, &*regs, size), v, false);
     let found = d.flags;
-    let flags = alu::compare_flags(alu::unpack(s.flags), found, more(t));
-    t.with_flags(alu::pack(flags))
+    moved(f, f.from, bank, &mut *regs);
+    counted(bank, &mut *regs);
+    let old = alu::unpack(*flags);
+    *flags = alu::pack(alu::compare_flags(old, found, more(bank, &*regs)));
 }
 
 // The second half of a copy's round.
-fn copy(f: Form, v: u32, s: State, ram: &mut [u8], rom: &[u8]) -> Stepped
-    ensures { λ r. ⌜ outcome r (now (ram .exit)) ≡ leaves s (now (ram .entry)) (storing (copied f s) (now (ram .entry)) (now (rom .entry)) (pointerOf s (f .to)) (f .size) v) ⌝ }
+fn copy(
+    f: Form,
+    v: u32,
+    bank: u8,
+    flags: &mut u8,
+    regs: &mut [u32; 20],
+    ram: &mut [u8],
+    rom: &[u8],
+) -> Answer
+    ensures { λ a. ⌜ ((counter level spare : ℕ) → after a (stateOf (now (regs .exit)) counter bank level (now (flags .exit)) spare) (now (ram .exit)) ≡ leaves (stateOf (now (regs .entry)) counter bank level (now (flags .entry)) spare) (now (ram .entry)) (storing (copied f (stateOf (now (regs .entry)) counter bank level (now (flags .entry)) spare)) (now (ram .entry)) (now (rom .entry)) (pointerOf (stateOf (now (regs .entry)) counter bank level (now (flags .entry)) spare) (f .to)) (f .size) v)) ⌝ }
 {
     let size = f.size;
-    match memory::store(ram, rom, pointer(s, f.to), size, v) {
-        Answer::Done => done(copied(f, s)),
-        Answer::Refused(w) => refuse(s, w),
+    match memory::store(ram, rom, pointer(bank, &*regs, f.to), size, v) {
+        Answer::Done => {
+            copied(f, bank, flags, regs);
+            Answer::Done
+        }
+        Answer::Refused(w) => Answer::Refused(w),
     }
 }
 
 // One round: what LDI, LDD, CPI and CPD do, but for the counter.
-fn round(f: Form, s: State, ram: &mut [u8], rom: &[u8]) -> Stepped
-    ensures { λ r. ⌜ outcome r (now (ram .exit)) ≡ leaves s (now (ram .entry)) (roundOf f s (now (ram .entry)) (now (rom .entry))) ⌝ }
+fn round(
+    f: Form,
+    bank: u8,
+    flags: &mut u8,
+    regs: &mut [u32; 20],
+    ram: &mut [u8],
+    rom: &[u8],
+) -> Answer
+    ensures { λ a. ⌜ ((counter level spare : ℕ) → after a (stateOf (now (regs .exit)) counter bank level (now (flags .exit)) spare) (now (ram .exit)) ≡ leaves (stateOf (now (regs .entry)) counter bank level (now (flags .entry)) spare) (now (ram .entry)) (roundOf f (stateOf (now (regs .entry)) counter bank level (now (flags .entry)) spare) (now (ram .entry)) (now (rom .entry)))) ⌝ }
 {
     let size = f.size;
-    match memory::load(&*ram, rom, pointer(s, f.from), size) {
+    match memory::load(&*ram, rom, pointer(bank, &*regs, f.from), size) {
         Loaded::Value(v) => {
             if f.copies {
-                return copy(f, v, s, ram, rom);
+                return copy(f, v, bank, flags, regs, ram, rom);
             }
-            done(compared(f, v, s))
+            compared(f, v, bank, flags, regs);
+            Answer::Done
         }
-        Loaded::Refused(w) => refuse(s, w),
+        Loaded::Refused(w) => Answer::Refused(w),
     }
 }
 
-fn goes_on(f: Form, s: State) -> bool
-    ensures { λ r. ⌜ r ≡ goesOn f s ⌝ }
+fn goes_on(f: Form, bank: u8, flags: u8, regs: &[u32; 20]) -> bool
+    ensures { λ r. ⌜ ((counter level spare : ℕ) → r ≡ goesOn f (stateOf (now (regs .entry)) counter bank level flags spare)) ⌝ }
 {
-    let flags = alu::unpack(s.flags);
-    let equal = !f.copies & flags.z;
-    f.again & (more(s) & !equal)
+    let now = alu::unpack(flags);
+    let equal = !f.copies & now.z;
+    f.again & (more(bank, regs) & !equal)
 }
 
 // The counter at the form again, where it goes on.
-fn ended(f: Form, at: u32, s: State) -> State
-    ensures { λ t. ⌜ t ≡ endsAt f at s ⌝ }
+fn ended(f: Form, at: u32, bank: u8, flags: u8, regs: &[u32; 20], counter: u32) -> u32
+    ensures { λ r. ⌜ ((level spare : ℕ) → stateOf (now (regs .entry)) r bank level flags spare ≡ endsAt f at (stateOf (now (regs .entry)) counter bank level flags spare)) ⌝ }
 {
-    if goes_on(f, s) { s.with_counter(at) } else { s }
+    if goes_on(f, bank, flags, regs) {
+        return at % 16777216;
+    }
+    counter
 }
 
-// A round of the form that stands at an address, on a state that is past it.
-pub fn block(f: Form, at: u32, s: State, ram: &mut [u8], rom: &[u8]) -> Stepped
-    ensures { λ r. ⌜ outcome r (now (ram .exit)) ≡ leaves s (now (ram .entry)) (andThen (roundOf f s (now (ram .entry)) (now (rom .entry))) (endsAt f at)) ⌝ }
+// A round of the form that stands at an address; the counter is past it.
+pub fn block(
+    f: Form,
+    at: u32,
+    bank: u8,
+    flags: &mut u8,
+    regs: &mut [u32; 20],
+    counter: &mut u32,
+    ram: &mut [u8],
+    rom: &[u8],
+) -> Answer
+    ensures { λ a. ⌜ ((level spare : ℕ) → after a (stateOf (now (regs .exit)) (now (counter .exit)) bank level (now (flags .exit)) spare) (now (ram .exit)) ≡ leaves (stateOf (now (regs .entry)) (now (counter .entry)) bank level (now (flags .entry)) spare) (now (ram .entry)) (andThen (roundOf f (stateOf (now (regs .entry)) (now (counter .entry)) bank level (now (flags .entry)) spare) (now (ram .entry)) (now (rom .entry))) (endsAt f at))) ⌝ }
 {
-    let r = round(f, s, ram, rom);
-    let t = r.state;
-    let a = r.answer;
-    match a {
-        Answer::Done => done(ended(f, at, t)),
-        Answer::Refused(w) => refuse(t, w),
+    match round(f, bank, &mut *flags, &mut *regs, ram, rom) {
+        Answer::Done => {
+            *counter = ended(f, at, bank, *flags, &*regs, *counter);
+            Answer::Done
+        }
+        Answer::Refused(w) => Answer::Refused(w),
     }
 }

@@ -1,88 +1,42 @@
-// What is done with an operand's value: loads, the operations on two operands, INC, DEC, shifts and extensions.
+// What an instruction puts: what is read, what is made of it, and where that goes.
 ghost use mathlib.Core.Path.{_≡_};
-ghost use Rattle.step.specs.Try.{outcome, leaves, withLoaded};
-ghost use Rattle.step.specs.Operand.{valueAt};
-ghost use Rattle.step.specs.Compute.{computed, resultIn, storesOf, answerIn, stepsOf, keptOf, countIn, useIn};
-use crate::Stepped;
-use crate::done;
-use crate::operand::keep;
+ghost use Prim.Native.Nat.{ℕ};
+ghost use Rattle.state.specs.State.{stateOf};
+ghost use Rattle.step.specs.Try.{after, leaves};
+ghost use Rattle.step.specs.Compute.{stepsOf};
+ghost use Rattle.step.specs.Kind.{targetOf, readsOf, givenOf, sourceOf, resultOf, keptOf, firstOf, secondOf, intoOf, arithmeticOf, workOf, putsOf};
+use crate::kind::Side;
+use crate::kind::Use;
 use crate::operand::put;
 use crate::operand::value;
-use crate::refuse;
 use alu::Arith;
 use alu::Computed;
-use alu::Shift;
+use answer::Answer;
 use code::Operand;
 use little::Size;
 use memory::Loaded;
-use state::State;
 
-pub enum Use {
-    Load(u8), // into the register of a code
-    Register(Arith, u8), // the register of a code with it
-    Into(Arith, u8), // it with the register of a code
-    Number(Arith, u32), // it with a number
-    Inc(u8),
-    Dec(u8),
-    Shift(Shift, u8),
-    Extz,
-    Exts,
+// What is put, the flags then, and where it is put.
+pub struct Work {
+    pub value: u32,
+    pub flags: u8,
+    pub into: Operand,
 }
 
-fn computed(s: State, op: Arith, size: Size, a: u32, b: u32) -> Computed
-    ensures { λ r. ⌜ r ≡ computed s op size a b ⌝ }
-{
-    let f = alu::unpack(s.flags);
-    alu::operate(op, size, a, b, f.c)
-}
-
-// Puts a result where the operand is, and sets the flags.
-fn result(
-    s: State,
-    ram: &mut [u8],
-    rom: &[u8],
-    size: Size,
-    operand: Operand,
-    r: Computed,
-) -> Stepped
-    ensures { λ o. ⌜ outcome o (now (ram .exit)) ≡ leaves s (now (ram .entry)) (resultIn s (now (ram .entry)) (now (rom .entry)) size operand r) ⌝ }
-{
-    let f = r.flags;
-    put(s, alu::pack(f), ram, rom, size, operand, r.value)
-}
-
-// CP puts nothing.
-fn stores(op: Arith) -> bool
-    ensures { λ r. ⌜ r ≡ storesOf op ⌝ }
+// CP puts nothing, as into a constant.
+fn target(op: Arith, into: Operand) -> Operand
+    ensures { λ r. ⌜ r ≡ targetOf op into ⌝ }
 {
     match op {
-        Arith::Add => true,
-        Arith::Adc => true,
-        Arith::Sub => true,
-        Arith::Sbc => true,
-        Arith::And => true,
-        Arith::Xor => true,
-        Arith::Or => true,
-        Arith::Cp => false,
+        Arith::Add => into,
+        Arith::Adc => into,
+        Arith::Sub => into,
+        Arith::Sbc => into,
+        Arith::And => into,
+        Arith::Xor => into,
+        Arith::Or => into,
+        Arith::Cp => Operand::Constant(0),
     }
-}
-
-fn answer(
-    op: Arith,
-    s: State,
-    ram: &mut [u8],
-    rom: &[u8],
-    size: Size,
-    operand: Operand,
-    r: Computed,
-) -> Stepped
-    ensures { λ o. ⌜ outcome o (now (ram .exit)) ≡ leaves s (now (ram .entry)) (answerIn op s (now (ram .entry)) (now (rom .entry)) size operand r) ⌝ }
-{
-    if stores(op) {
-        return result(s, ram, rom, size, operand, r);
-    }
-    let f = r.flags;
-    done(s.with_flags(alu::pack(f)))
 }
 
 // 0 means 8.
@@ -96,82 +50,179 @@ fn steps_of(n: u8) -> u32
     m as u32
 }
 
-// F after INC or DEC: of a byte the new flags, of a word or a long as it was.
-fn kept(size: Size, old: u8, new: u8) -> u8
-    ensures { λ r. ⌜ r ≡ keptOf size old new ⌝ }
+// Whether the operand's value is read.
+fn reads(how: Use) -> bool
+    ensures { λ r. ⌜ r ≡ readsOf how ⌝ }
 {
-    match size {
-        Size::Byte => new,
-        Size::Word => old,
-        Size::Long => old,
+    match how {
+        Use::Number(_) => false,
+        Use::From(_) => false,
+        Use::Load(_) => true,
+        Use::Compute(_, _) => true,
+        Use::Inc(_) => true,
+        Use::Dec(_) => true,
+        Use::Shift(_, _) => true,
+        Use::Extz => true,
+        Use::Exts => true,
     }
 }
 
-fn count(s: State, ram: &mut [u8], rom: &[u8], size: Size, operand: Operand, r: Computed) -> Stepped
-    ensures { λ o. ⌜ outcome o (now (ram .exit)) ≡ leaves s (now (ram .entry)) (countIn s (now (ram .entry)) (now (rom .entry)) size operand r) ⌝ }
+// What is put where the operand's value is not read.
+fn given(how: Use, bank: u8, regs: &[u32; 20], size: Size) -> u32
+    ensures { λ r. ⌜ ((counter level flags spare : ℕ) → r ≡ givenOf how (stateOf (now (regs .entry)) counter bank level flags spare) size) ⌝ }
+{
+    match how {
+        Use::Number(n) => n,
+        Use::From(r) => state::read(regs, bank, size, r),
+        Use::Load(_) => 0,
+        Use::Compute(_, _) => 0,
+        Use::Inc(_) => 0,
+        Use::Dec(_) => 0,
+        Use::Shift(_, _) => 0,
+        Use::Extz => 0,
+        Use::Exts => 0,
+    }
+}
+
+fn source(
+    how: Use,
+    bank: u8,
+    regs: &[u32; 20],
+    ram: &[u8],
+    rom: &[u8],
+    size: Size,
+    operand: Operand,
+) -> Loaded
+    ensures { λ r. ⌜ ((counter level flags spare : ℕ) → r ≡ sourceOf how (stateOf (now (regs .entry)) counter bank level flags spare) (now (ram .entry)) (now (rom .entry)) size operand) ⌝ }
+{
+    if reads(how) {
+        return value(bank, regs, ram, rom, size, operand);
+    }
+    Loaded::Value(given(how, bank, regs, size))
+}
+
+fn result(r: Computed, into: Operand) -> Work
+    ensures { λ w. ⌜ w ≡ resultOf r into ⌝ }
 {
     let f = r.flags;
-    put(
-        s,
-        kept(size, s.flags, alu::pack(f)),
-        ram,
-        rom,
-        size,
-        operand,
-        r.value,
+    Work {
+        value: r.value,
+        flags: alu::pack(f),
+        into: into,
+    }
+}
+
+fn kept(flags: u8, v: u32, into: Operand) -> Work
+    ensures { λ w. ⌜ w ≡ keptOf flags v into ⌝ }
+{
+    Work {
+        value: v,
+        flags: flags,
+        into: into,
+    }
+}
+
+fn first(side: Side, v: u32, bank: u8, regs: &[u32; 20], size: Size) -> u32
+    ensures { λ r. ⌜ ((counter level flags spare : ℕ) → r ≡ firstOf side (stateOf (now (regs .entry)) counter bank level flags spare) size v) ⌝ }
+{
+    match side {
+        Side::Register(r) => state::read(regs, bank, size, r),
+        Side::Into(_) => v,
+        Side::With(_) => v,
+    }
+}
+
+fn second(side: Side, v: u32, bank: u8, regs: &[u32; 20], size: Size) -> u32
+    ensures { λ r. ⌜ ((counter level flags spare : ℕ) → r ≡ secondOf side (stateOf (now (regs .entry)) counter bank level flags spare) size v) ⌝ }
+{
+    match side {
+        Side::Register(_) => v,
+        Side::Into(r) => state::read(regs, bank, size, r),
+        Side::With(n) => n,
+    }
+}
+
+fn into(side: Side, operand: Operand) -> Operand
+    ensures { λ r. ⌜ r ≡ intoOf side operand ⌝ }
+{
+    match side {
+        Side::Register(r) => Operand::Register(r),
+        Side::Into(_) => operand,
+        Side::With(_) => operand,
+    }
+}
+
+// The operation on the operand's value v and the other operand.
+fn arithmetic(
+    op: Arith,
+    side: Side,
+    v: u32,
+    bank: u8,
+    flags: u8,
+    regs: &[u32; 20],
+    size: Size,
+    operand: Operand,
+) -> Work
+    ensures { λ w. ⌜ ((counter level spare : ℕ) → w ≡ arithmeticOf op side (stateOf (now (regs .entry)) counter bank level flags spare) size operand v) ⌝ }
+{
+    let a = first(side, v, bank, regs, size);
+    let b = second(side, v, bank, regs, size);
+    let f = alu::unpack(flags);
+    result(
+        alu::operate(op, size, a, b, f.c),
+        target(op, into(side, operand)),
     )
 }
 
-// What becomes of the operand's value v.
-fn used(
+// What is made of the value v that was read or given.
+fn made(
     how: Use,
     v: u32,
-    s: State,
-    ram: &mut [u8],
-    rom: &[u8],
+    bank: u8,
+    flags: u8,
+    regs: &[u32; 20],
     size: Size,
     operand: Operand,
-) -> Stepped
-    ensures { λ o. ⌜ outcome o (now (ram .exit)) ≡ leaves s (now (ram .entry)) (useIn how s (now (ram .entry)) (now (rom .entry)) size operand v) ⌝ }
+) -> Work
+    ensures { λ w. ⌜ ((counter level spare : ℕ) → w ≡ workOf how (stateOf (now (regs .entry)) counter bank level flags spare) size operand v) ⌝ }
 {
     match how {
-        Use::Load(r) => done(s.with_register(size, r, v)),
-        Use::Register(op, r) => {
-            let c = computed(s, op, size, s.register(size, r), v);
-            answer(op, s, ram, rom, size, Operand::Register(r), c)
-        }
-        Use::Into(op, r) => {
-            let c = computed(s, op, size, v, s.register(size, r));
-            answer(op, s, ram, rom, size, operand, c)
-        }
-        Use::Number(op, n) => answer(op, s, ram, rom, size, operand, computed(s, op, size, v, n)),
-        Use::Inc(n) => {
-            let c = alu::inc(alu::unpack(s.flags), size, v, steps_of(n));
-            count(s, ram, rom, size, operand, c)
-        }
-        Use::Dec(n) => {
-            let c = alu::dec(alu::unpack(s.flags), size, v, steps_of(n));
-            count(s, ram, rom, size, operand, c)
-        }
-        Use::Shift(kind, n) => result(s, ram, rom, size, operand, alu::shift_by(kind, size, v, n)),
-        Use::Extz => keep(s, ram, rom, size, operand, alu::extz(size, v)),
-        Use::Exts => keep(s, ram, rom, size, operand, alu::exts(size, v)),
+        Use::Number(_) => kept(flags, v, operand),
+        Use::From(_) => kept(flags, v, operand),
+        Use::Load(r) => kept(flags, v, Operand::Register(r)),
+        Use::Compute(op, side) => arithmetic(op, side, v, bank, flags, regs, size, operand),
+        Use::Inc(n) => result(
+            alu::inc(alu::unpack(flags), size, v, steps_of(n)),
+            operand,
+        ),
+        Use::Dec(n) => result(
+            alu::dec(alu::unpack(flags), size, v, steps_of(n)),
+            operand,
+        ),
+        Use::Shift(kind, n) => result(alu::shift_by(kind, size, v, n), operand),
+        Use::Extz => kept(flags, alu::extz(size, v), operand),
+        Use::Exts => kept(flags, alu::exts(size, v), operand),
     }
 }
 
-// The operand's value is loaded, and used.
-pub fn with_value(
+pub fn puts(
     how: Use,
-    s: State,
-    ram: &mut [u8],
-    rom: &[u8],
     size: Size,
     operand: Operand,
-) -> Stepped
-    ensures { λ o. ⌜ outcome o (now (ram .exit)) ≡ leaves s (now (ram .entry)) (withLoaded (valueAt s (now (ram .entry)) (now (rom .entry)) size operand) (useIn how s (now (ram .entry)) (now (rom .entry)) size operand)) ⌝ }
+    bank: u8,
+    flags: &mut u8,
+    regs: &mut [u32; 20],
+    ram: &mut [u8],
+    rom: &[u8],
+) -> Answer
+    ensures { λ a. ⌜ ((counter level spare : ℕ) → after a (stateOf (now (regs .exit)) counter bank level (now (flags .exit)) spare) (now (ram .exit)) ≡ leaves (stateOf (now (regs .entry)) counter bank level (now (flags .entry)) spare) (now (ram .entry)) (putsOf how (stateOf (now (regs .entry)) counter bank level (now (flags .entry)) spare) (now (ram .entry)) (now (rom .entry)) size operand)) ⌝ }
 {
-    match value(s, &*ram, rom, size, operand) {
-        Loaded::Value(v) => used(how, v, s, ram, rom, size, operand),
-        Loaded::Refused(w) => refuse(s, w),
+    match source(how, bank, &*regs, &*ram, rom, size, operand) {
+        Loaded::Value(v) => {
+            let w = made(how, v, bank, *flags, &*regs, size, operand);
+            let into = w.into;
+            put(bank, flags, w.flags, regs, ram, rom, size, into, w.value)
+        }
+        Loaded::Refused(w) => Answer::Refused(w),
     }
 }

@@ -1,75 +1,66 @@
-// Banks, flags and jumps: what changes the state alone.
+// Banks, flags and jumps: what changes the counter, the bank and the flags alone.
 ghost use mathlib.Core.Path.{_≡_};
-ghost use Prim.Native.Nat.{_+_};
-ghost use Rattle.state.specs.State.{withBank};
-ghost use Rattle.alu.specs.Flag.{rcfOf, scfOf, ccfOf, zcfOf};
-ghost use Rattle.step.specs.Flag.{flagsIn, flagged, exchanged};
+ghost use mathlib.Core.List.{List};
+ghost use Prim.Native.Nat.{ℕ};
 ghost use Rattle.little.specs.Width.{bitsOf};
+ghost use Rattle.state.specs.State.{stateOf};
 ghost use Rattle.step.specs.Operand.{displaced};
 ghost use Rattle.step.specs.Jump.{jumpOf};
+ghost use Rattle.step.specs.Kind.{controlOf};
+use crate::kind::Control;
 use crate::operand::displace;
-use alu::Flags;
 use little::Size;
-use state::Bank;
-use state::State;
 
-// Some banks on, modulo 4.
-pub fn banks_on(s: State, n: u8) -> State
-    ensures { λ r. ⌜ r ≡ withBank s (s .bank .0 + n) ⌝ }
+// The counter after a jump of a displacement of a size, where its condition holds.
+fn jump(flags: u8, counter: u32, cc: u8, size: Size, d: u32) -> u32
+    ensures { λ r. ⌜ ((regs : List ℕ) (bank level spare : ℕ) → stateOf regs r bank level flags spare ≡ jumpOf (stateOf regs counter bank level flags spare) cc (displaced (bitsOf size) counter d)) ⌝ }
 {
-    let b = s.bank.0 % 4;
-    s.with_bank(Bank(b + n % 4))
+    if alu::holds(alu::unpack(flags), cc) {
+        return displace(size, counter, d);
+    }
+    counter
 }
 
-pub fn bank_is(s: State, n: u32) -> State
-    ensures { λ r. ⌜ r ≡ withBank s n ⌝ }
+pub fn control(
+    what: Control,
+    number: u32,
+    counter: &mut u32,
+    bank: &mut u8,
+    flags: &mut u8,
+    spare: &mut u8,
+)
+    ensures { λ _. ⌜ ((regs : List ℕ) (level : ℕ) → stateOf regs (now (counter .exit)) (now (bank .exit)) level (now (flags .exit)) (now (spare .exit)) ≡ controlOf what number (stateOf regs (now (counter .entry)) (now (bank .entry)) level (now (flags .entry)) (now (spare .entry)))) ⌝ }
 {
-    s.with_bank(Bank((n % 4) as u8))
-}
-
-fn flagged(s: State, f: Flags) -> State
-    ensures { λ r. ⌜ r ≡ flagged s f ⌝ }
-{
-    s.with_flags(alu::pack(f))
-}
-
-pub fn rcf(s: State) -> State
-    ensures { λ r. ⌜ r ≡ flagged s (rcfOf (flagsIn s)) ⌝ }
-{
-    flagged(s, alu::rcf(alu::unpack(s.flags)))
-}
-
-pub fn scf(s: State) -> State
-    ensures { λ r. ⌜ r ≡ flagged s (scfOf (flagsIn s)) ⌝ }
-{
-    flagged(s, alu::scf(alu::unpack(s.flags)))
-}
-
-pub fn ccf(s: State) -> State
-    ensures { λ r. ⌜ r ≡ flagged s (ccfOf (flagsIn s)) ⌝ }
-{
-    flagged(s, alu::ccf(alu::unpack(s.flags)))
-}
-
-pub fn zcf(s: State) -> State
-    ensures { λ r. ⌜ r ≡ flagged s (zcfOf (flagsIn s)) ⌝ }
-{
-    flagged(s, alu::zcf(alu::unpack(s.flags)))
-}
-
-pub fn exchange(s: State) -> State
-    ensures { λ r. ⌜ r ≡ exchanged s ⌝ }
-{
-    s.with_both_flags(s.spare, s.flags)
-}
-
-// A jump of a displacement of a size, where its condition holds.
-pub fn jump(s: State, cc: u8, size: Size, d: u32) -> State
-    ensures { λ r. ⌜ r ≡ jumpOf s cc (displaced (bitsOf size) (s .counter) d) ⌝ }
-{
-    if alu::holds(alu::unpack(s.flags), cc) {
-        s.with_counter(displace(size, s.counter, d))
-    } else {
-        s
+    let f = *flags;
+    match what {
+        Control::Nop => {}
+        Control::BankOn(n) => {
+            *bank = (*bank % 4 + n % 4) % 4;
+        }
+        Control::BankIs => {
+            *bank = (number % 4) as u8;
+        }
+        Control::Rcf => {
+            *flags = alu::pack(alu::rcf(alu::unpack(f)));
+        }
+        Control::Scf => {
+            *flags = alu::pack(alu::scf(alu::unpack(f)));
+        }
+        Control::Ccf => {
+            *flags = alu::pack(alu::ccf(alu::unpack(f)));
+        }
+        Control::Zcf => {
+            *flags = alu::pack(alu::zcf(alu::unpack(f)));
+        }
+        Control::Exf => {
+            *flags = *spare;
+            *spare = f;
+        }
+        Control::Jump => {
+            *counter = number % 16777216;
+        }
+        Control::JumpIf(cc, size) => {
+            *counter = jump(f, *counter, cc, size, number);
+        }
     }
 }

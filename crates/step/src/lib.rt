@@ -1,9 +1,11 @@
 // One step: the instruction at the counter is done as the book says, or refused and nothing changes.
 ghost use mathlib.Core.Path.{_≡_};
+ghost use Prim.Native.Nat.{ℕ};
 ghost use Rattle.memory.specs.Access.{codeAt};
+ghost use Rattle.state.specs.State.{stateOf};
 ghost use Rattle.code.specs.Listed.{decodeOf};
-ghost use Rattle.step.specs.Try.{doneWith, refusedWith, outcome, leaves};
-ghost use Rattle.step.specs.Exec.{backAt, executedOf};
+ghost use Rattle.step.specs.Try.{doneWith, refusedWith, outcome, after, leaves};
+ghost use Rattle.step.specs.Exec.{executedOf};
 ghost use Rattle.step.specs.Step.{tooLong, onceOf, stepOf};
 ghost use Rattle.step.specs.Show.{judgedOf, lengthIn, showAnswerOf, shownOf};
 ghost use Rattle.step.specs.Reset.{resetOf};
@@ -13,12 +15,14 @@ use code::Decoded;
 use code::Instruction;
 use little::Size;
 use memory::Loaded;
+use state::Bank;
 use state::State;
 
 mod block;
 mod compute;
 mod control;
 mod effect;
+mod kind;
 mod operand;
 mod stack;
 
@@ -45,30 +49,31 @@ fn refuse(given: State, w: Why) -> Stepped
     }
 }
 
-// The state with the counter that it had, so that a refused step needs no second copy of the state.
-fn back(s: State, at: u32) -> State
-    ensures { λ r. ⌜ r ≡ backAt s at ⌝ }
+// A refused instruction leaves the counter at it.
+fn execute(
+    i: Instruction,
+    regs: &mut [u32; 20],
+    counter: &mut u32,
+    bank: &mut u8,
+    flags: &mut u8,
+    spare: &mut u8,
+    ram: &mut [u8],
+    rom: &[u8],
+) -> Answer
+    ensures { λ a. ⌜ ((level : ℕ) → after a (stateOf (now (regs .exit)) (now (counter .exit)) (now (bank .exit)) level (now (flags .exit)) (now (spare .exit))) (now (ram .exit)) ≡ leaves (stateOf (now (regs .entry)) (now (counter .entry)) (now (bank .entry)) level (now (flags .entry)) (now (spare .entry))) (now (ram .entry)) (executedOf i (stateOf (now (regs .entry)) (now (counter .entry)) (now (bank .entry)) level (now (flags .entry)) (now (spare .entry))) (now (ram .entry)) (now (rom .entry)))) ⌝ }
 {
-    let mut t = s;
-    t.counter = at;
-    t
-}
-
-fn execute(i: Instruction, s: State, ram: &mut [u8], rom: &[u8]) -> Stepped
-    ensures { λ r. ⌜ outcome r (now (ram .exit)) ≡ leaves s (now (ram .entry)) (executedOf i s (now (ram .entry)) (now (rom .entry))) ⌝ }
-{
-    let at = s.counter;
+    let at = *counter;
     let n = (i.length % 16777216) as u32;
-    let past = s.with_counter(std::num::wrapping_add_u32(at, n));
+    *counter = std::num::wrapping_add_u32(at, n) % 16777216;
     let op = i.op;
     let size = i.size;
     let operand = i.operand;
-    let r = effect::effect(op, size, operand, at, past, ram, rom);
-    let t = r.state;
-    let a = r.answer;
-    match a {
-        Answer::Done => done(t),
-        Answer::Refused(w) => refuse(back(t, at), w),
+    match effect::effect(op, size, operand, at, regs, &mut *counter, bank, flags, spare, ram, rom) {
+        Answer::Done => Answer::Done,
+        Answer::Refused(w) => {
+            *counter = at;
+            Answer::Refused(w)
+        }
     }
 }
 
@@ -78,14 +83,48 @@ fn decode_at<'a>(ram: &'a [u8], rom: &'a [u8], at: u32) -> Decoded
     code::decode(memory::fetch(ram, rom, at))
 }
 
-// What stands at the counter, done or refused, whatever the state is: the checks before it are the caller's.
-pub fn once(s: State, ram: &mut [u8], rom: &[u8]) -> Stepped
+// What stands at the counter, done or refused, whatever the state is: the checks before it are the caller's. The state's parts
+// lie apart and are changed where they lie.
+pub fn once(
+    regs: &mut [u32; 20],
+    counter: &mut u32,
+    bank: &mut u8,
+    flags: &mut u8,
+    spare: &mut u8,
+    ram: &mut [u8],
+    rom: &[u8],
+) -> Answer
+    ensures { λ a. ⌜ ((level : ℕ) → after a (stateOf (now (regs .exit)) (now (counter .exit)) (now (bank .exit)) level (now (flags .exit)) (now (spare .exit))) (now (ram .exit)) ≡ leaves (stateOf (now (regs .entry)) (now (counter .entry)) (now (bank .entry)) level (now (flags .entry)) (now (spare .entry))) (now (ram .entry)) (onceOf (stateOf (now (regs .entry)) (now (counter .entry)) (now (bank .entry)) level (now (flags .entry)) (now (spare .entry))) (now (ram .entry)) (now (rom .entry)))) ⌝ }
+{
+    match decode_at(&*ram, rom, *counter) {
+        Decoded::Whole(i) => execute(i, regs, counter, bank, flags, spare, ram, rom),
+        Decoded::Short => Answer::Refused(Why::NoCode),
+        Decoded::Unlisted => Answer::Refused(Why::Unlisted),
+    }
+}
+
+// The same of a whole state.
+fn whole_once(s: State, ram: &mut [u8], rom: &[u8]) -> Stepped
     ensures { λ r. ⌜ outcome r (now (ram .exit)) ≡ leaves s (now (ram .entry)) (onceOf s (now (ram .entry)) (now (rom .entry))) ⌝ }
 {
-    match decode_at(&*ram, rom, s.counter) {
-        Decoded::Whole(i) => execute(i, s, ram, rom),
-        Decoded::Short => refuse(s, Why::NoCode),
-        Decoded::Unlisted => refuse(s, Why::Unlisted),
+    let mut regs = s.registers;
+    let mut counter = s.counter;
+    let b = s.bank;
+    let level = s.level;
+    let mut bank = b.0;
+    let mut flags = s.flags;
+    let mut spare = s.spare;
+    let a = once(&mut regs, &mut counter, &mut bank, &mut flags, &mut spare, ram, rom);
+    Stepped {
+        state: State {
+            registers: regs,
+            counter: counter,
+            bank: Bank(bank),
+            level: level,
+            flags: flags,
+            spare: spare,
+        },
+        answer: a,
     }
 }
 
@@ -104,7 +143,7 @@ pub fn step(s: State, ram: &mut [u8], rom: &[u8]) -> Stepped
         return refuse(s, Why::TooLong);
     }
     if s.valid() {
-        return once(s, ram, rom);
+        return whole_once(s, ram, rom);
     }
     refuse(s, Why::Invalid)
 }

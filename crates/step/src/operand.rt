@@ -1,20 +1,16 @@
 // The operand of an instruction: its address, its value, and a value put there.
 ghost use mathlib.Core.Path.{_≡_};
-ghost use Prim.Native.Nat.{_-_, _^_};
+ghost use Prim.Native.Nat.{ℕ, _-_, _^_};
 ghost use Rattle.little.specs.Width.{bitsOf};
-ghost use Rattle.state.specs.State.{withFlags};
-ghost use Rattle.step.specs.Try.{outcome, leaves};
+ghost use Rattle.state.specs.State.{stateOf, withFlags};
+ghost use Rattle.step.specs.Try.{after, leaves};
 ghost use Rattle.step.specs.Operand.{displaced, pointerOf, addressOf, valueAt, putAt, numberIn, registerIn};
-use crate::Stepped;
-use crate::done;
-use crate::refuse;
 use answer::Answer;
 use code::Base;
 use code::MemoryForm;
 use code::Operand;
 use little::Size;
 use memory::Loaded;
-use state::State;
 
 // The weight of the sign of a number of a size.
 fn sign(size: Size) -> u32
@@ -39,63 +35,75 @@ pub fn displace(size: Size, x: u32, d: u32) -> u32
     std::num::wrapping_add_u32(x, d) % 16777216
 }
 
-pub fn pointer(s: State, r: u8) -> u32
-    ensures { λ a. ⌜ a ≡ pointerOf s r ⌝ }
+pub fn pointer(bank: u8, regs: &[u32; 20], r: u8) -> u32
+    ensures { λ a. ⌜ ((counter level flags spare : ℕ) → a ≡ pointerOf (stateOf (now (regs .entry)) counter bank level flags spare) r) ⌝ }
 {
-    s.register(Size::Long, r) % 16777216
+    state::read(regs, bank, Size::Long, r) % 16777216
 }
 
-pub fn address(s: State, m: MemoryForm) -> u32
-    ensures { λ r. ⌜ r ≡ addressOf s m ⌝ }
+fn address(bank: u8, regs: &[u32; 20], m: MemoryForm) -> u32
+    ensures { λ a. ⌜ ((counter level flags spare : ℕ) → a ≡ addressOf (stateOf (now (regs .entry)) counter bank level flags spare) m) ⌝ }
 {
     let base = m.base;
     let n = m.number;
     match base {
-        Base::Indirect(r) => pointer(s, r),
-        Base::Displaced(r) => displace(Size::Byte, s.register(Size::Long, r), n),
+        Base::Indirect(r) => pointer(bank, regs, r),
+        Base::Displaced(r) => displace(Size::Byte, state::read(regs, bank, Size::Long, r), n),
         Base::Absolute8 => n % 16777216,
         Base::Absolute16 => n % 16777216,
         Base::Absolute24 => n % 16777216,
     }
 }
 
-pub fn value(s: State, ram: &[u8], rom: &[u8], size: Size, operand: Operand) -> Loaded
-    ensures { λ r. ⌜ r ≡ valueAt s (now (ram .entry)) (now (rom .entry)) size operand ⌝ }
+pub fn value(
+    bank: u8,
+    regs: &[u32; 20],
+    ram: &[u8],
+    rom: &[u8],
+    size: Size,
+    operand: Operand,
+) -> Loaded
+    ensures { λ r. ⌜ ((counter level flags spare : ℕ) → r ≡ valueAt (stateOf (now (regs .entry)) counter bank level flags spare) (now (ram .entry)) (now (rom .entry)) size operand) ⌝ }
 {
     match operand {
-        Operand::Register(r) => Loaded::Value(s.register(size, r)),
+        Operand::Register(r) => Loaded::Value(state::read(regs, bank, size, r)),
         Operand::Constant(n) => Loaded::Value(n),
-        Operand::Memory(m) => memory::load(ram, rom, address(s, m), size),
+        Operand::Memory(m) => memory::load(ram, rom, address(bank, regs, m), size),
     }
 }
 
-// Puts a value where the operand is, and new flags into the state; a refused store leaves both.
+// Puts a value where the operand is, and sets the flags; a refused store leaves both.
 pub fn put(
-    s: State,
-    flags: u8,
+    bank: u8,
+    flags: &mut u8,
+    new: u8,
+    regs: &mut [u32; 20],
     ram: &mut [u8],
     rom: &[u8],
     size: Size,
     operand: Operand,
     v: u32,
-) -> Stepped
-    ensures { λ r. ⌜ outcome r (now (ram .exit)) ≡ leaves s (now (ram .entry)) (putAt (withFlags s flags) (now (ram .entry)) (now (rom .entry)) size operand v) ⌝ }
+) -> Answer
+    ensures { λ a. ⌜ ((counter level spare : ℕ) → after a (stateOf (now (regs .exit)) counter bank level (now (flags .exit)) spare) (now (ram .exit)) ≡ leaves (stateOf (now (regs .entry)) counter bank level (now (flags .entry)) spare) (now (ram .entry)) (putAt (withFlags (stateOf (now (regs .entry)) counter bank level (now (flags .entry)) spare) new) (now (ram .entry)) (now (rom .entry)) size operand v)) ⌝ }
 {
     match operand {
-        Operand::Register(r) => done(s.with_flags(flags).with_register(size, r, v)),
-        Operand::Constant(_) => done(s.with_flags(flags)),
-        Operand::Memory(m) => match memory::store(ram, rom, address(s, m), size, v) {
-            Answer::Done => done(s.with_flags(flags)),
-            Answer::Refused(w) => refuse(s, w),
+        Operand::Register(r) => {
+            state::write(regs, bank, size, r, v);
+            *flags = new;
+            Answer::Done
+        }
+        Operand::Constant(_) => {
+            *flags = new;
+            Answer::Done
+        }
+        Operand::Memory(m) => match memory::store(ram, rom, address(bank, &*regs, m), size, v) {
+            Answer::Done => {
+                *flags = new;
+                Answer::Done
+            }
+            Answer::Refused(w) => Answer::Refused(w),
         },
     }
-}
-
-// A value put where the operand is; the flags are kept.
-pub fn keep(s: State, ram: &mut [u8], rom: &[u8], size: Size, operand: Operand, v: u32) -> Stepped
-    ensures { λ r. ⌜ outcome r (now (ram .exit)) ≡ leaves s (now (ram .entry)) (putAt s (now (ram .entry)) (now (rom .entry)) size operand v) ⌝ }
-{
-    put(s, s.flags, ram, rom, size, operand, v)
 }
 
 // The number that an operand is; 0 where it is none.

@@ -1,89 +1,143 @@
 // Pushes, pops, calls and returns.
 ghost use mathlib.Core.Path.{_≡_};
+ghost use Prim.Native.Nat.{ℕ};
 ghost use Rattle.little.specs.Width.{bytesOf};
 ghost use Rattle.little.specs.declared.Size.the-variants.{Long};
+ghost use Rattle.state.specs.State.{stateOf};
 ghost use Rattle.state.specs.Register.{getRegister, setRegister};
-ghost use Rattle.step.specs.Try.{outcome, leaves};
-ghost use Rattle.step.specs.Stack.{plus, withStack, pushOf, popOf, callOf, retOf, pushFOf, popFOf};
-use crate::Stepped;
-use crate::done;
+ghost use Rattle.step.specs.Try.{after, leaves};
+ghost use Rattle.step.specs.Stack.{plus, withStack, pushOf, popOf, callOf, retOf, popFOf};
+ghost use Rattle.step.specs.Kind.{stackOf};
+use crate::kind::Stack;
+use crate::operand::displace;
+use crate::operand::number_in;
 use crate::operand::pointer;
-use crate::refuse;
+use crate::operand::register_in;
 use answer::Answer;
+use code::Operand;
 use little::Size;
 use memory::Loaded;
-use state::State;
 
-// Stores below the stack's end; the state with its end moved there is given only where the store is done.
-pub fn push(s: State, ram: &mut [u8], rom: &[u8], size: Size, v: u32) -> Stepped
-    ensures { λ r. ⌜ outcome r (now (ram .exit)) ≡ leaves s (now (ram .entry)) (pushOf s (now (ram .entry)) (now (rom .entry)) size v) ⌝ }
+// Stores below the stack's end, and moves the end there where the store is done.
+fn push(
+    bank: u8,
+    regs: &mut [u32; 20],
+    ram: &mut [u8],
+    rom: &[u8],
+    size: Size,
+    v: u32,
+) -> Answer
+    ensures { λ a. ⌜ ((counter level flags spare : ℕ) → after a (stateOf (now (regs .exit)) counter bank level flags spare) (now (ram .exit)) ≡ leaves (stateOf (now (regs .entry)) counter bank level flags spare) (now (ram .entry)) (pushOf (stateOf (now (regs .entry)) counter bank level flags spare) (now (ram .entry)) (now (rom .entry)) size v)) ⌝ }
 {
     let n = little::bytes(size) as u32;
-    let end = std::num::wrapping_sub_u32(s.register(Size::Long, 7), n);
-    let moved = s.with_register(Size::Long, 7, end);
+    let end = std::num::wrapping_sub_u32(state::read(&*regs, bank, Size::Long, 7), n);
     match memory::store(ram, rom, end % 16777216, size, v) {
-        Answer::Done => done(moved),
-        Answer::Refused(w) => refuse(s, w),
+        Answer::Done => {
+            state::write(regs, bank, Size::Long, 7, end);
+            Answer::Done
+        }
+        Answer::Refused(w) => Answer::Refused(w),
     }
 }
 
-// The stack's end after a pop of a size.
-fn popped(s: State, size: Size) -> State
-    ensures { λ r. ⌜ r ≡ withStack s (plus 32 (getRegister s Long 7) (bytesOf size)) ⌝ }
+// The stack's end moved, as after a pop of a size.
+fn popped(bank: u8, regs: &mut [u32; 20], size: Size)
+    ensures { λ _. ⌜ ((counter level flags spare : ℕ) → stateOf (now (regs .exit)) counter bank level flags spare ≡ withStack (stateOf (now (regs .entry)) counter bank level flags spare) (plus 32 (getRegister (stateOf (now (regs .entry)) counter bank level flags spare) Long 7) (bytesOf size))) ⌝ }
 {
     let n = little::bytes(size) as u32;
-    s.with_register(
-        Size::Long,
-        7,
-        std::num::wrapping_add_u32(s.register(Size::Long, 7), n),
-    )
+    let x = state::read(&*regs, bank, Size::Long, 7);
+    state::write(regs, bank, Size::Long, 7, std::num::wrapping_add_u32(x, n));
 }
 
 // A pop into the register of a code.
-pub fn pop(s: State, ram: &[u8], rom: &[u8], size: Size, code: u8) -> Stepped
-    ensures { λ r. ⌜ outcome r (now (ram .entry)) ≡ leaves s (now (ram .entry)) (popOf s (now (ram .entry)) (now (rom .entry)) size (λ t v. setRegister t size code v)) ⌝ }
+fn pop(bank: u8, regs: &mut [u32; 20], ram: &[u8], rom: &[u8], size: Size, code: u8) -> Answer
+    ensures { λ a. ⌜ ((counter level flags spare : ℕ) → after a (stateOf (now (regs .exit)) counter bank level flags spare) (now (ram .entry)) ≡ leaves (stateOf (now (regs .entry)) counter bank level flags spare) (now (ram .entry)) (popOf (stateOf (now (regs .entry)) counter bank level flags spare) (now (ram .entry)) (now (rom .entry)) size (λ t v. setRegister t size code v))) ⌝ }
 {
-    match memory::load(ram, rom, pointer(s, 7), size) {
-        Loaded::Value(v) => done(popped(s, size).with_register(size, code, v)),
-        Loaded::Refused(w) => refuse(s, w),
+    match memory::load(ram, rom, pointer(bank, &*regs, 7), size) {
+        Loaded::Value(v) => {
+            popped(bank, &mut *regs, size);
+            state::write(regs, bank, size, code, v);
+            Answer::Done
+        }
+        Loaded::Refused(w) => Answer::Refused(w),
     }
 }
 
-pub fn call(s: State, ram: &mut [u8], rom: &[u8], to: u32) -> Stepped
-    ensures { λ r. ⌜ outcome r (now (ram .exit)) ≡ leaves s (now (ram .entry)) (callOf s (now (ram .entry)) (now (rom .entry)) to) ⌝ }
+fn call(
+    bank: u8,
+    regs: &mut [u32; 20],
+    counter: &mut u32,
+    ram: &mut [u8],
+    rom: &[u8],
+    to: u32,
+) -> Answer
+    ensures { λ a. ⌜ ((level flags spare : ℕ) → after a (stateOf (now (regs .exit)) (now (counter .exit)) bank level flags spare) (now (ram .exit)) ≡ leaves (stateOf (now (regs .entry)) (now (counter .entry)) bank level flags spare) (now (ram .entry)) (callOf (stateOf (now (regs .entry)) (now (counter .entry)) bank level flags spare) (now (ram .entry)) (now (rom .entry)) to)) ⌝ }
 {
-    let r = push(s, ram, rom, Size::Long, s.counter);
-    let t = r.state;
-    let a = r.answer;
-    match a {
-        Answer::Done => done(t.with_counter(to)),
-        Answer::Refused(w) => refuse(t, w),
+    match push(bank, regs, ram, rom, Size::Long, *counter) {
+        Answer::Done => {
+            *counter = to % 16777216;
+            Answer::Done
+        }
+        Answer::Refused(w) => Answer::Refused(w),
     }
 }
 
-pub fn ret(s: State, ram: &[u8], rom: &[u8]) -> Stepped
-    ensures { λ r. ⌜ outcome r (now (ram .entry)) ≡ leaves s (now (ram .entry)) (retOf s (now (ram .entry)) (now (rom .entry))) ⌝ }
+fn ret(bank: u8, regs: &mut [u32; 20], counter: &mut u32, ram: &[u8], rom: &[u8]) -> Answer
+    ensures { λ a. ⌜ ((level flags spare : ℕ) → after a (stateOf (now (regs .exit)) (now (counter .exit)) bank level flags spare) (now (ram .entry)) ≡ leaves (stateOf (now (regs .entry)) (now (counter .entry)) bank level flags spare) (now (ram .entry)) (retOf (stateOf (now (regs .entry)) (now (counter .entry)) bank level flags spare) (now (ram .entry)) (now (rom .entry)))) ⌝ }
 {
-    match memory::load(ram, rom, pointer(s, 7), Size::Long) {
-        Loaded::Value(v) => done(popped(s, Size::Long).with_counter(v)),
-        Loaded::Refused(w) => refuse(s, w),
+    match memory::load(ram, rom, pointer(bank, &*regs, 7), Size::Long) {
+        Loaded::Value(v) => {
+            popped(bank, regs, Size::Long);
+            *counter = v % 16777216;
+            Answer::Done
+        }
+        Loaded::Refused(w) => Answer::Refused(w),
     }
 }
 
-pub fn push_f(s: State, ram: &mut [u8], rom: &[u8]) -> Stepped
-    ensures { λ r. ⌜ outcome r (now (ram .exit)) ≡ leaves s (now (ram .entry)) (pushFOf s (now (ram .entry)) (now (rom .entry))) ⌝ }
+fn pop_f(bank: u8, regs: &mut [u32; 20], flags: &mut u8, ram: &[u8], rom: &[u8]) -> Answer
+    ensures { λ a. ⌜ ((counter level spare : ℕ) → after a (stateOf (now (regs .exit)) counter bank level (now (flags .exit)) spare) (now (ram .entry)) ≡ leaves (stateOf (now (regs .entry)) counter bank level (now (flags .entry)) spare) (now (ram .entry)) (popFOf (stateOf (now (regs .entry)) counter bank level (now (flags .entry)) spare) (now (ram .entry)) (now (rom .entry)))) ⌝ }
 {
-    push(s, ram, rom, Size::Byte, s.flags as u32)
-}
-
-pub fn pop_f(s: State, ram: &[u8], rom: &[u8]) -> Stepped
-    ensures { λ r. ⌜ outcome r (now (ram .entry)) ≡ leaves s (now (ram .entry)) (popFOf s (now (ram .entry)) (now (rom .entry))) ⌝ }
-{
-    match memory::load(ram, rom, pointer(s, 7), Size::Byte) {
+    match memory::load(ram, rom, pointer(bank, &*regs, 7), Size::Byte) {
         Loaded::Value(v) => {
             let f = (v % 256) as u8;
-            done(popped(s, Size::Byte).with_flags(alu::pack(alu::unpack(f))))
+            popped(bank, regs, Size::Byte);
+            *flags = alu::pack(alu::unpack(f));
+            Answer::Done
         }
-        Loaded::Refused(w) => refuse(s, w),
+        Loaded::Refused(w) => Answer::Refused(w),
+    }
+}
+
+pub fn stack(
+    what: Stack,
+    size: Size,
+    operand: Operand,
+    bank: u8,
+    flags: &mut u8,
+    regs: &mut [u32; 20],
+    counter: &mut u32,
+    ram: &mut [u8],
+    rom: &[u8],
+) -> Answer
+    ensures { λ a. ⌜ ((level spare : ℕ) → after a (stateOf (now (regs .exit)) (now (counter .exit)) bank level (now (flags .exit)) spare) (now (ram .exit)) ≡ leaves (stateOf (now (regs .entry)) (now (counter .entry)) bank level (now (flags .entry)) spare) (now (ram .entry)) (stackOf what size operand (stateOf (now (regs .entry)) (now (counter .entry)) bank level (now (flags .entry)) spare) (now (ram .entry)) (now (rom .entry)))) ⌝ }
+{
+    match what {
+        Stack::PushF => {
+            let f = *flags as u32;
+            push(bank, regs, ram, rom, Size::Byte, f)
+        }
+        Stack::PopF => pop_f(bank, regs, flags, &*ram, rom),
+        Stack::Push => {
+            let v = state::read(&*regs, bank, size, register_in(operand));
+            push(bank, regs, ram, rom, size, v)
+        }
+        Stack::Pop => pop(bank, regs, &*ram, rom, size, register_in(operand)),
+        Stack::Call => call(bank, regs, counter, ram, rom, number_in(operand)),
+        Stack::Calr => {
+            let to = displace(Size::Word, *counter, number_in(operand));
+            call(bank, regs, counter, ram, rom, to)
+        }
+        Stack::Ret => ret(bank, regs, counter, &*ram, rom),
     }
 }

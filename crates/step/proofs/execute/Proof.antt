@@ -1,4 +1,8 @@
-use mathlib.Core.Path.{_∙_}
+use Prim.Native.Nat.{_%_}
+use mathlib.Core.Path.{_≡_, subst}
+use Rattle.state.specs.State.{stateOf, withCounter}
+use Rattle.state.specs.declared.State.{State}
+use Rattle.step.specs.Try.{after, leaves}
 use Rattle.step.specs.Exec.{effectOf, executedOf, pastOf}
 use Rattle.step.proofs.Laws.{past-is, went, came-back}
 use borrow.Author.Needs.{needs}
@@ -11,52 +15,52 @@ cast-n c = search needs
 wrapping-add-u32-requires : tie.Need-wrapping-add-u32-requires
 wrapping-add-u32-requires c κs = search needs
 
-with-counter-requires : tie.Need-with-counter-requires
-with-counter-requires c κs = search needs
-
 effect-requires : tie.Need-effect-requires
 effect-requires c κs = search needs
 
 enum-told : tie.Need-enum-told
 enum-told c = search needs
 
-done-requires : tie.Need-done-requires
-done-requires c κs = search needs
-
-enum-known-a : tie.Need-enum-known-a
-enum-known-a c = search needs
-
-back-requires : tie.Need-back-requires
-back-requires c κs = search needs
-
-refuse-requires : tie.Need-refuse-requires
-refuse-requires c κs = search needs
+enum-known-w : tie.Need-enum-known-w
+enum-known-w c = search needs
 
 same-length : tie.Need-same-length
 same-length c = search needs
 
 returns : tie.Need-returns
-unfolding executedOf
-returns c =
-    let a = c .before .before .before .before .before .before .before .before .before .before .before .before .before .args in
-    let p = c .before .before .before .before .before .before .before .before .with-counter .ensures ∙ past-is (a .i .length) (a .s) _ (c .before .before .before .before .before .before .before .before .before .wrapping-add-u32 .ensures) in
-    rw (c .done .ensures)
-    (went (a .s) (pastOf (a .i .length) (a .s)) (a .ram .now) (c .before .before .before .before .before .before .effect .result) (c .before .before .before .before .before .before .effect .last .1 .1 .1 .1 .1 .0)
-    (effectOf (a .i .op) (a .i .size) (a .i .operand) (a .s .counter) (pastOf (a .i .length) (a .s)) (a .ram .now) (a .rom .now))
-    (rw p at (c .before .before .before .before .before .before .effect .ensures)) (c .before .enum-told .given .1))
+unfolding executedOf withCounter
+returns c level =
+    let a = c .before .before .before .before .before .before .before .before .before .before .before .before .before .before .before .before .args in
+    let i = a .i in
+    let s = stateOf (a .regs .now) (a .counter .now) (a .bank .now) level (a .flags .now) (a .spare .now) in
+    let p : stateOf (a .regs .now) (c .before .before .before .before .before .before .before .before .before .before .before .wrapping-add-u32 .result % 16777216) (a .bank .now) level (a .flags .now) (a .spare .now) ≡ pastOf (i .length) s = past-is (i .length) s (c .before .before .before .before .before .before .before .before .before .before .before .wrapping-add-u32 .result) (c .before .before .before .before .before .before .before .before .before .before .before .wrapping-add-u32 .ensures) in
+    let l = c .before .before .before .before .effect .last .1 .1 .1 .1 in
+    let u = stateOf (l .0) (l .1 .0) (l .1 .1 .0) level (l .1 .1 .1 .0) (l .1 .1 .1 .1 .0) in
+    let m = l .1 .1 .1 .1 .1 .0 in
+    let h =
+    subst (λ (q : State). after (c .before .before .before .before .effect .result) u m ≡ leaves q (a .ram .now) (effectOf (i .op) (i .size) (i .operand) (a .counter .now) q (a .ram .now) (a .rom .now))) p
+    (c .before .before .before .before .effect .ensures level) in
+    let t = effectOf (i .op) (i .size) (i .operand) (a .counter .now) (pastOf (i .length) s) (a .ram .now) (a .rom .now) in
+    went s (pastOf (i .length) s) (a .ram .now) (c .before .before .before .before .effect .result) u m t h (c .enum-told .given .1)
 
 same-length-2 : tie.Need-same-length-2
 same-length-2 c = search needs
 
 returns-2 : tie.Need-returns-2
-unfolding executedOf
-returns-2 c =
-    let a = c .before .before .before .before .before .before .before .before .before .before .before .before .before .before .before .args in
-    let p = c .before .before .before .before .before .before .before .before .before .before .with-counter .ensures ∙ past-is (a .i .length) (a .s) _ (c .before .before .before .before .before .before .before .before .before .before .before .wrapping-add-u32 .ensures) in
-    rw (c .refuse .ensures, c .before .back .ensures)
-    (came-back (a .s) (a .i .length) (a .ram .now) (c .before .before .before .before .before .before .before .before .effect .result) (c .before .before .before .before .before .before .before .before .effect .last .1 .1 .1 .1 .1 .0) (c .before .before .before .a .given .0 .0)
-    (effectOf (a .i .op) (a .i .size) (a .i .operand) (a .s .counter) (pastOf (a .i .length) (a .s)) (a .ram .now) (a .rom .now))
-    (rw p at (c .before .before .before .before .before .before .before .before .effect .ensures)) (c .before .before .before .a .given .1))
+unfolding executedOf withCounter
+returns-2 c level =
+    let a = c .before .before .before .before .before .before .before .before .before .before .before .before .before .before .before .before .before .args in
+    let i = a .i in
+    let s = stateOf (a .regs .now) (a .counter .now) (a .bank .now) level (a .flags .now) (a .spare .now) in
+    let p : stateOf (a .regs .now) (c .before .before .before .before .before .before .before .before .before .before .before .before .wrapping-add-u32 .result % 16777216) (a .bank .now) level (a .flags .now) (a .spare .now) ≡ pastOf (i .length) s = past-is (i .length) s (c .before .before .before .before .before .before .before .before .before .before .before .before .wrapping-add-u32 .result) (c .before .before .before .before .before .before .before .before .before .before .before .before .wrapping-add-u32 .ensures) in
+    let l = c .before .before .before .before .before .effect .last .1 .1 .1 .1 in
+    let u = stateOf (l .0) (l .1 .0) (l .1 .1 .0) level (l .1 .1 .1 .0) (l .1 .1 .1 .1 .0) in
+    let m = l .1 .1 .1 .1 .1 .0 in
+    let h =
+    subst (λ (q : State). after (c .before .before .before .before .before .effect .result) u m ≡ leaves q (a .ram .now) (effectOf (i .op) (i .size) (i .operand) (a .counter .now) q (a .ram .now) (a .rom .now))) p
+    (c .before .before .before .before .before .effect .ensures level) in
+    let t = effectOf (i .op) (i .size) (i .operand) (a .counter .now) (pastOf (i .length) s) (a .ram .now) (a .rom .now) in
+    came-back s (i .length) (a .ram .now) (c .before .before .before .before .before .effect .result) u m (c .before .w .given .0 .0) t h (c .before .w .given .1)
 
 pub execute-spec : {M : Type 1} → statement M
 execute-spec =
@@ -64,13 +68,9 @@ execute-spec =
     (tie.spec
     cast-n
     wrapping-add-u32-requires
-    with-counter-requires
     effect-requires
     enum-told
-    done-requires
-    enum-known-a
-    back-requires
-    refuse-requires
+    enum-known-w
     same-length
     returns
     same-length-2

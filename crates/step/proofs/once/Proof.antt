@@ -16,35 +16,29 @@ execute-requires c κs = search needs
 enum-told : tie.Need-enum-told
 enum-told c = search needs
 
-refuse-requires : tie.Need-refuse-requires
-refuse-requires c κs = search needs
-
 enum-told-2 : tie.Need-enum-told-2
 enum-told-2 c = search needs
-
-refuse-requires-2 : tie.Need-refuse-requires-2
-refuse-requires-2 c κs = search needs
 
 same-length : tie.Need-same-length
 same-length c = search needs
 
 returns : tie.Need-returns
 unfolding onceOf
-returns c = rw (sym (c .before .before .before .before .before .before .before .decode-at .ensures) ∙ c .before .before .before .before .before .i .given .1) (c .before .before .execute .ensures)
+returns c level = rw (sym (c .before .before .before .before .before .before .before .before .before .before .before .before .decode-at .ensures) ∙ c .before .before .before .before .before .before .before .before .before .before .i .given .1) (c .before .before .execute .ensures level)
 
 same-length-2 : tie.Need-same-length-2
 same-length-2 c = search needs
 
 returns-2 : tie.Need-returns-2
 unfolding onceOf
-returns-2 c = rw (sym (c .before .before .before .decode-at .ensures) ∙ c .before .enum-told .given .1, c .refuse .ensures) refl
+returns-2 c level = rw (sym (c .before .before .decode-at .ensures) ∙ c .enum-told .given .1) refl
 
 same-length-3 : tie.Need-same-length-3
 same-length-3 c = search needs
 
 returns-3 : tie.Need-returns-3
 unfolding onceOf
-returns-3 c = rw (sym (c .before .before .before .decode-at .ensures) ∙ c .before .enum-told2 .given .1, c .refuse2 .ensures) refl
+returns-3 c level = rw (sym (c .before .before .decode-at .ensures) ∙ c .enum-told2 .given .1) refl
 
 pub once-spec : {M : Type 1} → statement M
 once-spec =
@@ -54,9 +48,7 @@ once-spec =
     enum-known-i
     execute-requires
     enum-told
-    refuse-requires
     enum-told-2
-    refuse-requires-2
     same-length
     returns
     same-length-2

@@ -17,8 +17,8 @@ returns c = rw (c .refuse .ensures, sym (c .before .before .too-long .ensures) �
 valid-requires : tie.Need-valid-requires
 valid-requires c κs = search needs
 
-once-requires : tie.Need-once-requires
-once-requires c κs = search needs
+whole-once-requires : tie.Need-whole-once-requires
+whole-once-requires c κs = search needs
 
 same-length : tie.Need-same-length
 same-length c = search needs
@@ -26,7 +26,7 @@ same-length c = search needs
 returns-2 : tie.Need-returns-2
 unfolding guarded tryOf stepOf
 returns-2 c =
-    rw (sym (c .before .before .before .before .before .before .before .too-long .ensures) ∙ c .before .before .before .before .before .before .if1 .left, sym (c .before .before .before .before .before .valid .ensures) ∙ c .before .before .before .before .if2 .taken) (c .before .before .once .ensures)
+    rw (sym (c .before .before .before .before .before .before .before .too-long .ensures) ∙ c .before .before .before .before .before .before .if1 .left, sym (c .before .before .before .before .before .valid .ensures) ∙ c .before .before .before .before .if2 .taken) (c .before .before .whole-once .ensures)
 
 refuse-requires-2 : tie.Need-refuse-requires-2
 refuse-requires-2 c κs = search needs
@@ -44,7 +44,7 @@ step-spec =
     refuse-requires
     returns
     valid-requires
-    once-requires
+    whole-once-requires
     same-length
     returns-2
     refuse-requires-2

@@ -6,40 +6,40 @@ use Rattle.step.proofs.block.accumulator.Tie as tie
 enum-told : tie.Need-enum-told
 enum-told c = search needs
 
-register-requires : tie.Need-register-requires
-register-requires c κs = search needs
+read-requires : tie.Need-read-requires
+read-requires c κs = search needs
 
 enum-told-2 : tie.Need-enum-told-2
 enum-told-2 c = search needs
 
-register-requires-2 : tie.Need-register-requires-2
-register-requires-2 c κs = search needs
+read-requires-2 : tie.Need-read-requires-2
+read-requires-2 c κs = search needs
 
 enum-told-3 : tie.Need-enum-told-3
 enum-told-3 c = search needs
 
-register-requires-3 : tie.Need-register-requires-3
-register-requires-3 c κs = search needs
+read-requires-3 : tie.Need-read-requires-3
+read-requires-3 c κs = search needs
 
 returns : tie.Need-returns
-returns c = c .register .ensures ∙ rw (c .before .enum-told .given .1) refl
+returns c counter level flags spare = c .read .ensures counter level flags spare ∙ rw (c .before .enum-told .given .1) refl
 
 returns-2 : tie.Need-returns-2
-returns-2 c = c .register2 .ensures ∙ rw (c .before .enum-told2 .given .1) refl
+returns-2 c counter level flags spare = c .read2 .ensures counter level flags spare ∙ rw (c .before .enum-told2 .given .1) refl
 
 returns-3 : tie.Need-returns-3
-returns-3 c = c .register3 .ensures ∙ rw (c .before .enum-told3 .given .1) refl
+returns-3 c counter level flags spare = c .read3 .ensures counter level flags spare ∙ rw (c .before .enum-told3 .given .1) refl
 
 pub accumulator-spec : {M : Type 1} → statement M
 accumulator-spec =
     tie.close
     (tie.spec
     enum-told
-    register-requires
+    read-requires
     enum-told-2
-    register-requires-2
+    read-requires-2
     enum-told-3
-    register-requires-3
+    read-requires-3
     returns
     returns-2
     returns-3)

@@ -1,21 +1,27 @@
-use mathlib.Core.Path.{refl, _∙_, ap}
+use mathlib.Core.Path.{ap, _∙_}
+use mathlib.Core.Bool.{false}
+use Rattle.little.specs.Width.{bitsOf}
+use Rattle.alu.specs.Sums.{differenceOf}
+use Rattle.alu.specs.Flag.{byteOf, flagsOf, comparedOf}
+use Rattle.state.specs.State.{stateOf, withFlags, withBothFlags}
+use Rattle.state.specs.declared.State.{State}
 use Rattle.step.specs.Flag.{flagged}
-use Rattle.step.specs.Block.{compared, counted}
+use Rattle.step.specs.Block.{moreIn, counted, accumulator, compared}
 use borrow.Author.Needs.{needs}
 use Rattle.step.proofs.block.compared.Statement.{statement}
 use Rattle.step.proofs.block.compared.Tie as tie
-
-moved-requires : tie.Need-moved-requires
-moved-requires c κs = search needs
-
-counted-requires : tie.Need-counted-requires
-counted-requires c κs = search needs
 
 accumulator-requires : tie.Need-accumulator-requires
 accumulator-requires c κs = search needs
 
 sub-requires : tie.Need-sub-requires
 sub-requires c κs = search needs
+
+moved-requires : tie.Need-moved-requires
+moved-requires c κs = search needs
+
+counted-requires : tie.Need-counted-requires
+counted-requires c κs = search needs
 
 unpack-requires : tie.Need-unpack-requires
 unpack-requires c κs = search needs
@@ -29,35 +35,33 @@ compare-flags-requires c κs = search needs
 pack-requires : tie.Need-pack-requires
 pack-requires c κs = search needs
 
-with-flags-requires : tie.Need-with-flags-requires
-with-flags-requires c κs = search needs
-
 returns : tie.Need-returns
-unfolding compared flagged
-returns c =
-    c .with-flags .ensures
-    ∙ rw (
-      c .before .pack .ensures,
-      c .before .before .compare-flags .ensures,
-      c .before .before .before .more .ensures,
+unfolding compared flagged withFlags withBothFlags
+returns c counter level spare =
+    let a = c .before .before .before .before .before .before .before .before .before .before .before .before .before .before .args in
+    let f = a .flags .now in
+    let s = stateOf (a .regs .now) counter (a .bank) level f spare in
+    let e = c .before .before .before .before .before .before .counted .ensures counter level f spare ∙ ap counted (c .before .before .before .before .before .before .before .before .moved .ensures counter level f spare) in
+    rw (
+      c .pack .ensures,
+      c .before .compare-flags .ensures,
+      c .before .before .more .ensures counter level f spare,
       c .before .before .before .before .unpack .ensures,
-      c .before .before .before .before .before .before .sub .ensures,
-      c .before .before .before .before .before .before .before .accumulator .ensures,
-      c .before .before .before .before .before .before .before .before .counted .ensures ∙ ap counted (c .before .before .before .before .before .before .before .before .before .moved .ensures),
+      c .before .before .before .before .before .before .before .before .before .before .before .sub .ensures,
+      c .before .before .before .before .before .before .before .before .before .before .before .before .accumulator .ensures counter level f spare,
     )
-    refl
+    (ap (λ (t : State). withFlags t (byteOf (comparedOf (flagsOf f) (differenceOf (bitsOf (a .f .size)) (accumulator s (a .f .size)) (a .v) false .flags) (moreIn t)))) e)
 
 pub compared-spec : {M : Type 1} → statement M
 compared-spec =
     tie.close
     (tie.spec
-    moved-requires
-    counted-requires
     accumulator-requires
     sub-requires
+    moved-requires
+    counted-requires
     unpack-requires
     more-requires
     compare-flags-requires
     pack-requires
-    with-flags-requires
     returns)

@@ -1,6 +1,9 @@
-use mathlib.Core.Path.{refl, _∙_}
+use mathlib.Core.Path.{ap, _∙_}
+use Rattle.alu.specs.Flag.{byteOf, flagsOf, copiedOf}
+use Rattle.state.specs.State.{withFlags, withBothFlags}
+use Rattle.state.specs.declared.State.{State}
 use Rattle.step.specs.Flag.{flagged}
-use Rattle.step.specs.Block.{copied}
+use Rattle.step.specs.Block.{moreIn, counted, moved, copied}
 use borrow.Author.Needs.{needs}
 use Rattle.step.proofs.block.copied.Statement.{statement}
 use Rattle.step.proofs.block.copied.Tie as tie
@@ -26,23 +29,16 @@ copy-flags-requires c κs = search needs
 pack-requires : tie.Need-pack-requires
 pack-requires c κs = search needs
 
-with-flags-requires : tie.Need-with-flags-requires
-with-flags-requires c κs = search needs
-
 returns : tie.Need-returns
-unfolding copied flagged
-returns c =
-    c .with-flags .ensures
-    ∙ rw (
-      c .before .pack .ensures,
-      c .before .before .copy-flags .ensures,
-      c .before .before .before .more .ensures,
-      c .before .before .before .before .unpack .ensures,
-      c .before .before .before .before .before .counted .ensures,
-      c .before .before .before .before .before .before .moved2 .ensures,
-      c .before .before .before .before .before .before .before .moved .ensures,
-    )
-    refl
+unfolding copied flagged withFlags withBothFlags
+returns c counter level spare =
+    let a = c .before .before .before .before .before .before .before .before .before .before .before .before .args in
+    let f = a .flags .now in
+    let e =
+    c .before .before .before .before .before .before .counted .ensures counter level f spare
+    ∙ ap counted (c .before .before .before .before .before .before .before .before .moved2 .ensures counter level f spare ∙ ap (moved (a .f) (a .f .to)) (c .before .before .before .before .before .before .before .before .before .before .moved .ensures counter level f spare)) in
+    rw (c .pack .ensures, c .before .copy-flags .ensures, c .before .before .more .ensures counter level f spare, c .before .before .before .before .unpack .ensures)
+    (ap (λ (t : State). withFlags t (byteOf (copiedOf (flagsOf f) (moreIn t)))) e)
 
 pub copied-spec : {M : Type 1} → statement M
 copied-spec =
@@ -55,5 +51,4 @@ copied-spec =
     more-requires
     copy-flags-requires
     pack-requires
-    with-flags-requires
     returns)

@@ -1,4 +1,5 @@
 use mathlib.Core.Path.{sym, _∙_}
+use Rattle.state.specs.State.{stateOf}
 use Rattle.step.specs.Operand.{pointerOf}
 use Rattle.step.specs.Block.{copied}
 use Rattle.step.proofs.Laws.{stored, not-stored}
@@ -18,39 +19,34 @@ enum-told c = search needs
 copied-requires : tie.Need-copied-requires
 copied-requires c κs = search needs
 
-done-requires : tie.Need-done-requires
-done-requires c κs = search needs
-
 enum-known-w : tie.Need-enum-known-w
 enum-known-w c = search needs
-
-refuse-requires : tie.Need-refuse-requires
-refuse-requires c κs = search needs
 
 same-length : tie.Need-same-length
 same-length c = search needs
 
 returns : tie.Need-returns
-returns c =
-    let a = c .before .before .before .before .before .before .before .before .before .before .before .args in
-    let e = c .before .before .before .before .before .before .before .pointer .ensures in
-    rw (c .done .ensures, c .before .copied .ensures)
-    (stored (a .s) (copied (a .f) (a .s)) (a .ram .now) (a .rom .now) (pointerOf (a .s) (a .f .to)) (a .f .size) (a .v) (c .before .before .before .before .before .before .store .last .0)
-    (rw e at (c .before .before .before .before .before .before .store .ensures .1))
-    (sym (rw e at (c .before .before .before .before .before .before .store .ensures .0)) ∙ c .before .before .enum-told .given .1))
+returns c counter level spare =
+    let a = c .before .before .before .before .before .before .before .before .before .before .before .before .before .args in
+    let s = stateOf (a .regs .now) counter (a .bank) level (a .flags .now) spare in
+    let e = c .before .before .before .before .before .before .before .before .pointer .ensures counter level (a .flags .now) spare in
+    rw (c .copied .ensures counter level spare)
+    (stored s (copied (a .f) s) (a .ram .now) (a .rom .now) (pointerOf s (a .f .to)) (a .f .size) (a .v) (c .before .before .before .before .before .before .before .store .last .0)
+    (rw e at (c .before .before .before .before .before .before .before .store .ensures .1))
+    (sym (rw e at (c .before .before .before .before .before .before .before .store .ensures .0)) ∙ c .before .before .before .enum-told .given .1))
 
 same-length-2 : tie.Need-same-length-2
 same-length-2 c = search needs
 
 returns-2 : tie.Need-returns-2
-returns-2 c =
+returns-2 c counter level spare =
     let a = c .before .before .before .before .before .before .before .before .before .before .before .args in
-    let e = c .before .before .before .before .before .before .before .pointer .ensures in
-    rw (c .refuse .ensures)
-    (not-stored (a .s) (copied (a .f) (a .s)) (a .ram .now) (a .rom .now) (pointerOf (a .s) (a .f .to)) (a .f .size) (a .v) (c .before .before .before .before .before .before .store .last .0)
-    (rw e at (c .before .before .before .before .before .before .store .ensures .1))
-    (c .before .before .w .given .0 .0)
-    (sym (rw e at (c .before .before .before .before .before .before .store .ensures .0)) ∙ c .before .before .w .given .1))
+    let s = stateOf (a .regs .now) counter (a .bank) level (a .flags .now) spare in
+    let e = c .before .before .before .before .before .before .pointer .ensures counter level (a .flags .now) spare in
+    not-stored s (copied (a .f) s) (a .ram .now) (a .rom .now) (pointerOf s (a .f .to)) (a .f .size) (a .v) (c .before .before .before .before .before .store .last .0)
+    (rw e at (c .before .before .before .before .before .store .ensures .1))
+    (c .before .w .given .0 .0)
+    (sym (rw e at (c .before .before .before .before .before .store .ensures .0)) ∙ c .before .w .given .1)
 
 pub copy-spec : {M : Type 1} → statement M
 copy-spec =
@@ -60,9 +56,7 @@ copy-spec =
     store-requires
     enum-told
     copied-requires
-    done-requires
     enum-known-w
-    refuse-requires
     same-length
     returns
     same-length-2

@@ -3,11 +3,11 @@ use borrow.Author.Needs.{needs}
 use Rattle.step.proofs.block.more.Statement.{statement}
 use Rattle.step.proofs.block.more.Tie as tie
 
-register-requires : tie.Need-register-requires
-register-requires c κs = search needs
+read-requires : tie.Need-read-requires
+read-requires c κs = search needs
 
 returns : tie.Need-returns
-returns c = rw (c .register .ensures) refl
+returns c counter level flags spare = rw (c .read .ensures counter level flags spare) refl
 
 pub more-spec : {M : Type 1} → statement M
-more-spec = tie.close (tie.spec register-requires returns)
+more-spec = tie.close (tie.spec read-requires returns)

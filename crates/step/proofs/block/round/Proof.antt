@@ -1,5 +1,6 @@
-use Rattle.step.specs.Try.{leaves}
 use mathlib.Core.Path.{ap, sym, _∙_}
+use Rattle.state.specs.State.{stateOf}
+use Rattle.step.specs.Try.{leaves}
 use Rattle.step.proofs.Rounds.{round-copies, round-compares, round-refused}
 use borrow.Author.Needs.{needs}
 use Rattle.step.proofs.block.round.Statement.{statement}
@@ -21,43 +22,39 @@ same-length : tie.Need-same-length
 same-length c = search needs
 
 returns : tie.Need-returns
-returns c =
-    let a = c .before .before .before .before .before .before .before .before .before .before .before .before .before .args in
-    let e = sym (rw (c .before .before .before .before .before .before .before .before .before .pointer .ensures) at (c .before .before .before .before .before .before .before .before .load .ensures)) ∙ c .before .before .before .before .before .before .v .given .1 in
-    c .before .before .copy .ensures
-    ∙ ap (leaves (a .s) (a .ram .now)) (sym (round-copies (a .f) (a .s) (a .ram .now) (a .rom .now) (c .before .before .before .before .before .before .v .given .0 .0) e (c .before .before .before .before .if1 .taken)))
+returns c counter level spare =
+    let a = c .before .before .before .before .before .before .before .before .before .before .before .before .before .before .before .before .args in
+    let s = stateOf (a .regs .now) counter (a .bank) level (a .flags .now) spare in
+    let e = sym (rw (c .before .before .before .before .before .before .before .before .before .before .before .pointer .ensures counter level (a .flags .now) spare) at (c .before .before .before .before .before .before .before .before .before .before .load .ensures)) ∙ c .before .before .before .before .before .before .before .before .v .given .1 in
+    c .before .before .copy .ensures counter level spare
+    ∙ ap (leaves s (a .ram .now)) (sym (round-copies (a .f) s (a .ram .now) (a .rom .now) (c .before .before .before .before .before .before .before .before .v .given .0 .0) e (c .before .before .before .before .before .before .if1 .taken)))
 
 compared-requires : tie.Need-compared-requires
 compared-requires c κs = search needs
 
-done-requires : tie.Need-done-requires
-done-requires c κs = search needs
-
 enum-known-w : tie.Need-enum-known-w
 enum-known-w c = search needs
-
-refuse-requires : tie.Need-refuse-requires
-refuse-requires c κs = search needs
 
 same-length-2 : tie.Need-same-length-2
 same-length-2 c = search needs
 
 returns-2 : tie.Need-returns-2
-returns-2 c =
-    let a = c .before .before .before .before .before .before .before .before .before .before .before .args in
-    let e = sym (rw (c .before .before .before .before .before .before .before .pointer .ensures) at (c .before .before .before .before .before .before .load .ensures)) ∙ c .before .before .before .before .v .given .1 in
-    rw (c .done .ensures, c .before .compared .ensures)
-    (ap (leaves (a .s) (a .ram .now)) (sym (round-compares (a .f) (a .s) (a .ram .now) (a .rom .now) (c .before .before .before .before .v .given .0 .0) e (c .before .before .if1 .left))))
+returns-2 c counter level spare =
+    let a = c .before .before .before .before .before .before .before .before .before .before .before .before .before .args in
+    let s = stateOf (a .regs .now) counter (a .bank) level (a .flags .now) spare in
+    let e = sym (rw (c .before .before .before .before .before .before .before .before .pointer .ensures counter level (a .flags .now) spare) at (c .before .before .before .before .before .before .before .load .ensures)) ∙ c .before .before .before .before .before .v .given .1 in
+    rw (c .compared .ensures counter level spare)
+    (ap (leaves s (a .ram .now)) (sym (round-compares (a .f) s (a .ram .now) (a .rom .now) (c .before .before .before .before .before .v .given .0 .0) e (c .before .before .before .if1 .left))))
 
 same-length-3 : tie.Need-same-length-3
 same-length-3 c = search needs
 
 returns-3 : tie.Need-returns-3
-returns-3 c =
+returns-3 c counter level spare =
     let a = c .before .before .before .before .before .before .before .before .before .args in
-    let e = sym (rw (c .before .before .before .before .before .pointer .ensures) at (c .before .before .before .before .load .ensures)) ∙ c .before .before .w .given .1 in
-    rw (c .refuse .ensures)
-    (ap (leaves (a .s) (a .ram .now)) (sym (round-refused (a .f) (a .s) (a .ram .now) (a .rom .now) (c .before .before .w .given .0 .0) e)))
+    let s = stateOf (a .regs .now) counter (a .bank) level (a .flags .now) spare in
+    let e = sym (rw (c .before .before .before .before .pointer .ensures counter level (a .flags .now) spare) at (c .before .before .before .load .ensures)) ∙ c .before .w .given .1 in
+    ap (leaves s (a .ram .now)) (sym (round-refused (a .f) s (a .ram .now) (a .rom .now) (c .before .w .given .0 .0) e))
 
 pub round-spec : {M : Type 1} → statement M
 round-spec =
@@ -70,9 +67,7 @@ round-spec =
     same-length
     returns
     compared-requires
-    done-requires
     enum-known-w
-    refuse-requires
     same-length-2
     returns-2
     same-length-3

@@ -1,4 +1,12 @@
-use mathlib.Core.Path.{refl, sym, _∙_}
+use Prim.Native.Nat.{_+_, _-_, _^_}
+use mathlib.Core.Path.{_≡_, refl, sym, _∙_}
+use mathlib.Core.Bool.{true, false, cond}
+use lib.Pow.{mod-mod-pow}
+use Rattle.little.specs.Width.{bitsOf}
+use Rattle.alu.specs.Width.{negative}
+use Rattle.alu.specs.Flag.{flagsOf}
+use Rattle.alu.specs.Condition.{holdsOf}
+use Rattle.state.specs.State.{withCounter}
 use Rattle.step.specs.Jump.{jumpOf}
 use borrow.Author.Needs.{needs}
 use Rattle.step.proofs.control.jump.Statement.{statement}
@@ -13,21 +21,20 @@ holds-requires c κs = search needs
 displace-requires : tie.Need-displace-requires
 displace-requires c κs = search needs
 
-with-counter-requires : tie.Need-with-counter-requires
-with-counter-requires c κs = search needs
-
 returns : tie.Need-returns
-unfolding jumpOf
-returns c =
-    let h = sym (rw (c .before .before .before .before .unpack .ensures) at (c .before .before .before .holds .ensures)) ∙ c .before .before .if1 .taken in
-    c .with-counter .ensures ∙ rw (h, c .before .displace .ensures) refl
+unfolding jumpOf withCounter
+returns c regs bank level spare =
+    let a = c .before .before .before .before .args in
+    let t : holdsOf (flagsOf (a .flags)) (a .cc) ≡ true = sym (rw (c .before .before .before .unpack .ensures) at (c .before .before .holds .ensures)) ∙ c .before .if1 .taken in
+    let k = bitsOf (a .size) in
+    rw (c .displace .ensures, t, mod-mod-pow (a .counter + a .d + cond (negative k (a .d)) (2 ^ 24 - 2 ^ k) 0) 0 24) refl
 
 returns-2 : tie.Need-returns-2
 unfolding jumpOf
-returns-2 c =
-    let h = sym (rw (c .before .before .unpack .ensures) at (c .before .holds .ensures)) ∙ c .if1 .left in
-    rw h refl
+returns-2 c regs bank level spare =
+    let a = c .before .before .before .args in
+    let t : holdsOf (flagsOf (a .flags)) (a .cc) ≡ false = sym (rw (c .before .before .unpack .ensures) at (c .before .holds .ensures)) ∙ c .if1 .left in
+    rw t refl
 
 pub jump-spec : {M : Type 1} → statement M
-jump-spec =
-    tie.close (tie.spec unpack-requires holds-requires displace-requires with-counter-requires returns returns-2)
+jump-spec = tie.close (tie.spec unpack-requires holds-requires displace-requires returns returns-2)

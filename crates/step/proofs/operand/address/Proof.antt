@@ -13,8 +13,8 @@ pointer-requires c κs = search needs
 enum-known-base-2 : tie.Need-enum-known-base-2
 enum-known-base-2 c = search needs
 
-register-requires : tie.Need-register-requires
-register-requires c κs = search needs
+read-requires : tie.Need-read-requires
+read-requires c κs = search needs
 
 displace-requires : tie.Need-displace-requires
 displace-requires c κs = search needs
@@ -30,23 +30,23 @@ enum-told-3 c = search needs
 
 returns : tie.Need-returns
 unfolding addressOf
-returns c = c .pointer .ensures ∙ rw (c .before .before .base .given .1) refl
+returns c counter level flags spare = c .pointer .ensures counter level flags spare ∙ rw (c .before .before .base .given .1) refl
 
 returns-2 : tie.Need-returns-2
 unfolding addressOf
-returns-2 c = c .displace .ensures ∙ rw (c .before .register .ensures, c .before .before .before .base2 .given .1) refl
+returns-2 c counter level flags spare = c .displace .ensures ∙ rw (c .before .read .ensures counter level flags spare, c .before .before .before .base2 .given .1) refl
 
 returns-3 : tie.Need-returns-3
 unfolding addressOf
-returns-3 c = rw (c .enum-told .given .1) refl
+returns-3 c counter level flags spare = rw (c .enum-told .given .1) refl
 
 returns-4 : tie.Need-returns-4
 unfolding addressOf
-returns-4 c = rw (c .enum-told2 .given .1) refl
+returns-4 c counter level flags spare = rw (c .enum-told2 .given .1) refl
 
 returns-5 : tie.Need-returns-5
 unfolding addressOf
-returns-5 c = rw (c .enum-told3 .given .1) refl
+returns-5 c counter level flags spare = rw (c .enum-told3 .given .1) refl
 
 pub address-spec : {M : Type 1} → statement M
 address-spec =
@@ -55,7 +55,7 @@ address-spec =
     enum-known-base
     pointer-requires
     enum-known-base-2
-    register-requires
+    read-requires
     displace-requires
     enum-told
     enum-told-2

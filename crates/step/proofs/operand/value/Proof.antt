@@ -1,5 +1,5 @@
-use Rattle.step.specs.Operand.{valueAt}
 use mathlib.Core.Path.{refl, _∙_}
+use Rattle.step.specs.Operand.{valueAt}
 use borrow.Author.Needs.{needs}
 use Rattle.step.proofs.operand.value.Statement.{statement}
 use Rattle.step.proofs.operand.value.Tie as tie
@@ -7,8 +7,8 @@ use Rattle.step.proofs.operand.value.Tie as tie
 enum-known-operand : tie.Need-enum-known-operand
 enum-known-operand c = search needs
 
-register-requires : tie.Need-register-requires
-register-requires c κs = search needs
+read-requires : tie.Need-read-requires
+read-requires c κs = search needs
 
 enum-known-operand-2 : tie.Need-enum-known-operand-2
 enum-known-operand-2 c = search needs
@@ -24,22 +24,22 @@ load-requires c κs = search needs
 
 returns : tie.Need-returns
 unfolding valueAt
-returns c = rw (c .register .ensures, c .before .before .operand .given .1) refl
+returns c counter level flags spare = rw (c .read .ensures counter level flags spare, c .before .before .operand .given .1) refl
 
 returns-2 : tie.Need-returns-2
 unfolding valueAt
-returns-2 c = rw (c .before .operand2 .given .1) refl
+returns-2 c counter level flags spare = rw (c .before .operand2 .given .1) refl
 
 returns-3 : tie.Need-returns-3
 unfolding valueAt
-returns-3 c = c .load .ensures ∙ rw (c .before .address .ensures, c .before .before .before .operand3 .given .1) refl
+returns-3 c counter level flags spare = c .load .ensures ∙ rw (c .before .address .ensures counter level flags spare, c .before .before .before .operand3 .given .1) refl
 
 pub value-spec : {M : Type 1} → statement M
 value-spec =
     tie.close
     (tie.spec
     enum-known-operand
-    register-requires
+    read-requires
     enum-known-operand-2
     enum-known-operand-3
     address-requires

@@ -1,5 +1,5 @@
 use Rattle.little.specs.declared.Size.the-variants.{Long}
-use Rattle.state.specs.State.{withCounter}
+use Rattle.state.specs.State.{stateOf, withCounter}
 use Rattle.state.specs.declared.State.{State}
 use Rattle.step.specs.Stack.{pushOf}
 use Rattle.step.proofs.Laws.{then-done, then-refused}
@@ -13,49 +13,31 @@ push-requires c κs = search needs
 enum-told : tie.Need-enum-told
 enum-told c = search needs
 
-with-counter-requires : tie.Need-with-counter-requires
-with-counter-requires c κs = search needs
-
-done-requires : tie.Need-done-requires
-done-requires c κs = search needs
-
-enum-known-a : tie.Need-enum-known-a
-enum-known-a c = search needs
-
-refuse-requires : tie.Need-refuse-requires
-refuse-requires c κs = search needs
+enum-known-w : tie.Need-enum-known-w
+enum-known-w c = search needs
 
 same-length : tie.Need-same-length
 same-length c = search needs
 
 returns : tie.Need-returns
-returns c =
-    let a = c .before .before .before .before .before .before .before .before .before .before .before .args in
-    rw (c .done .ensures, c .before .with-counter .ensures)
-    (then-done (a .s) (a .ram .now) (c .before .before .before .before .before .before .before .push .result) (c .before .before .before .before .before .before .before .push .last .1 .0) (λ (t : State). withCounter t (a .to))
-    (pushOf (a .s) (a .ram .now) (a .rom .now) Long (a .s .counter)) (c .before .before .before .before .before .before .before .push .ensures) (c .before .before .enum-told .given .1))
+unfolding withCounter
+returns c level flags spare =
+    let a = c .before .before .before .before .before .before .before .before .before .before .args in
+    let s = stateOf (a .regs .now) (a .counter .now) (a .bank) level flags spare in
+    then-done s (a .ram .now) (c .before .before .before .before .push .result) _ _ (λ (t : State). withCounter t (a .to)) (pushOf s (a .ram .now) (a .rom .now) Long (a .counter .now))
+    (c .before .before .before .before .push .ensures (a .counter .now) level flags spare) (c .enum-told .given .1)
 
 same-length-2 : tie.Need-same-length-2
 same-length-2 c = search needs
 
 returns-2 : tie.Need-returns-2
-returns-2 c =
+returns-2 c level flags spare =
     let a = c .before .before .before .before .before .before .before .before .before .before .before .args in
-    rw (c .refuse .ensures)
-    (then-refused (a .s) (a .ram .now) (c .before .before .before .before .before .before .before .push .result) (c .before .before .before .before .before .before .before .push .last .1 .0) (λ (t : State). withCounter t (a .to)) (c .before .before .a .given .0 .0)
-    (pushOf (a .s) (a .ram .now) (a .rom .now) Long (a .s .counter)) (c .before .before .before .before .before .before .before .push .ensures) (c .before .before .a .given .1))
+    let s = stateOf (a .regs .now) (a .counter .now) (a .bank) level flags spare in
+    then-refused s (a .ram .now) (c .before .before .before .before .before .push .result) _ _ (λ (t : State). withCounter t (a .to)) (c .before .w .given .0 .0) (pushOf s (a .ram .now) (a .rom .now) Long (a .counter .now))
+    (c .before .before .before .before .before .push .ensures (a .counter .now) level flags spare) (c .before .w .given .1)
 
 pub call-spec : {M : Type 1} → statement M
 call-spec =
     tie.close
-    (tie.spec
-    push-requires
-    enum-told
-    with-counter-requires
-    done-requires
-    enum-known-a
-    refuse-requires
-    same-length
-    returns
-    same-length-2
-    returns-2)
+    (tie.spec push-requires enum-told enum-known-w same-length returns same-length-2 returns-2)

@@ -1,4 +1,5 @@
 use mathlib.Core.Path.{sym, _∙_}
+use Rattle.state.specs.State.{stateOf}
 use Rattle.state.specs.Register.{setRegister}
 use Rattle.step.proofs.Laws.{popped-by, not-popped}
 use borrow.Author.Needs.{needs}
@@ -17,31 +18,26 @@ enum-known-v c = search needs
 popped-requires : tie.Need-popped-requires
 popped-requires c κs = search needs
 
-with-register-requires : tie.Need-with-register-requires
-with-register-requires c κs = search needs
-
-done-requires : tie.Need-done-requires
-done-requires c κs = search needs
+write-requires : tie.Need-write-requires
+write-requires c κs = search needs
 
 enum-known-w : tie.Need-enum-known-w
 enum-known-w c = search needs
 
-refuse-requires : tie.Need-refuse-requires
-refuse-requires c κs = search needs
-
 returns : tie.Need-returns
-returns c =
-    let a = c .before .before .before .before .before .before .before .before .before .before .args in
-    let e = rw (c .before .before .before .before .before .before .before .pointer .ensures) at (c .before .before .before .before .before .before .load .ensures) in
-    rw (c .done .ensures, c .before .with-register .ensures, c .before .before .popped .ensures)
-    (sym (popped-by (a .s) (a .ram .now) (a .rom .now) (a .size) (λ t v. setRegister t (a .size) (a .code) v) (c .before .before .before .before .v .given .0 .0) (sym e ∙ c .before .before .before .before .v .given .1)))
+returns c counter level flags spare =
+    let a = c .before .before .before .before .before .before .before .before .before .before .before .before .args in
+    let s = stateOf (a .regs .now) counter (a .bank) level flags spare in
+    let e = rw (c .before .before .before .before .before .before .before .before .pointer .ensures counter level flags spare) at (c .before .before .before .before .before .before .before .load .ensures) in
+    rw (c .write .ensures counter level flags spare, c .before .before .popped .ensures counter level flags spare)
+    (sym (popped-by s (a .ram .now) (a .rom .now) (a .size) (λ t v. setRegister t (a .size) (a .code) v) (c .before .before .before .before .before .v .given .0 .0) (sym e ∙ c .before .before .before .before .before .v .given .1)))
 
 returns-2 : tie.Need-returns-2
-returns-2 c =
+returns-2 c counter level flags spare =
     let a = c .before .before .before .before .before .before .before .before .args in
-    let e = rw (c .before .before .before .before .before .pointer .ensures) at (c .before .before .before .before .load .ensures) in
-    rw (c .refuse .ensures)
-    (sym (not-popped (a .s) (a .ram .now) (a .rom .now) (a .size) (λ t v. setRegister t (a .size) (a .code) v) (c .before .before .w .given .0 .0) (sym e ∙ c .before .before .w .given .1)))
+    let s = stateOf (a .regs .now) counter (a .bank) level flags spare in
+    let e = rw (c .before .before .before .before .pointer .ensures counter level flags spare) at (c .before .before .before .load .ensures) in
+    sym (not-popped s (a .ram .now) (a .rom .now) (a .size) (λ t v. setRegister t (a .size) (a .code) v) (c .before .w .given .0 .0) (sym e ∙ c .before .w .given .1))
 
 pub pop-spec : {M : Type 1} → statement M
 pop-spec =
@@ -51,9 +47,7 @@ pop-spec =
     load-requires
     enum-known-v
     popped-requires
-    with-register-requires
-    done-requires
+    write-requires
     enum-known-w
-    refuse-requires
     returns
     returns-2)

@@ -1,8 +1,11 @@
-use mathlib.Core.Path.{sym, _∙_}
+use mathlib.Core.Path.{ap, sym, _∙_}
 use Rattle.little.specs.declared.Size.the-variants.{Byte}
 use Rattle.alu.specs.Flag.{byteOf, flagsOf}
-use Rattle.state.specs.State.{withFlags}
+use Rattle.state.specs.State.{stateOf, withFlags, withBothFlags}
 use Rattle.step.proofs.Laws.{popped-by, not-popped, flags-low}
+use Rattle.answer.specs.declared.Answer.the-variants.{Done}
+use Rattle.state.specs.declared.State.{State}
+use Rattle.step.specs.Try.{after}
 use borrow.Author.Needs.{needs}
 use Rattle.step.proofs.stack.pop_f.Statement.{statement}
 use Rattle.step.proofs.stack.pop_f.Tie as tie
@@ -28,32 +31,28 @@ unpack-requires c κs = search needs
 pack-requires : tie.Need-pack-requires
 pack-requires c κs = search needs
 
-with-flags-requires : tie.Need-with-flags-requires
-with-flags-requires c κs = search needs
-
-done-requires : tie.Need-done-requires
-done-requires c κs = search needs
-
 enum-known-w : tie.Need-enum-known-w
 enum-known-w c = search needs
 
-refuse-requires : tie.Need-refuse-requires
-refuse-requires c κs = search needs
-
 returns : tie.Need-returns
-returns c =
+unfolding withFlags withBothFlags
+returns c counter level spare =
     let a = c .before .before .before .before .before .before .before .before .before .before .before .before .args in
-    let v = c .before .before .before .before .before .before .v .given .0 .0 in
-    let e = rw (c .before .before .before .before .before .before .before .before .before .pointer .ensures) at (c .before .before .before .before .before .before .before .before .load .ensures) in
-    rw (c .done .ensures, c .before .with-flags .ensures, c .before .before .pack .ensures, c .before .before .before .unpack .ensures, flags-low v, c .before .before .before .before .popped .ensures)
-    (sym (popped-by (a .s) (a .ram .now) (a .rom .now) Byte (λ t x. withFlags t (byteOf (flagsOf x))) v (sym e ∙ c .before .before .before .before .before .before .v .given .1)))
+    let f = a .flags .now in
+    let s = stateOf (a .regs .now) counter (a .bank) level f spare in
+    let v = c .before .before .before .before .before .v .given .0 .0 in
+    let e = rw (c .before .before .before .before .before .before .before .before .pointer .ensures counter level f spare) at (c .before .before .before .before .before .before .before .load .ensures) in
+    rw (c .pack .ensures, c .before .unpack .ensures, flags-low v)
+    (ap (λ (t : State). after Done (withFlags t (byteOf (flagsOf v))) (a .ram .now)) (c .before .before .popped .ensures counter level f spare)
+    ∙ sym (popped-by s (a .ram .now) (a .rom .now) Byte (λ t x. withFlags t (byteOf (flagsOf x))) v (sym e ∙ c .before .before .before .before .before .v .given .1)))
 
 returns-2 : tie.Need-returns-2
-returns-2 c =
+returns-2 c counter level spare =
     let a = c .before .before .before .before .before .before .before .before .args in
-    let e = rw (c .before .before .before .before .before .pointer .ensures) at (c .before .before .before .before .load .ensures) in
-    rw (c .refuse .ensures)
-    (sym (not-popped (a .s) (a .ram .now) (a .rom .now) Byte (λ t x. withFlags t (byteOf (flagsOf x))) (c .before .before .w .given .0 .0) (sym e ∙ c .before .before .w .given .1)))
+    let f = a .flags .now in
+    let s = stateOf (a .regs .now) counter (a .bank) level f spare in
+    let e = rw (c .before .before .before .before .pointer .ensures counter level f spare) at (c .before .before .before .load .ensures) in
+    sym (not-popped s (a .ram .now) (a .rom .now) Byte (λ t x. withFlags t (byteOf (flagsOf x))) (c .before .w .given .0 .0) (sym e ∙ c .before .w .given .1))
 
 pub pop-f-spec : {M : Type 1} → statement M
 pop-f-spec =
@@ -66,9 +65,6 @@ pop-f-spec =
     popped-requires
     unpack-requires
     pack-requires
-    with-flags-requires
-    done-requires
     enum-known-w
-    refuse-requires
     returns
     returns-2)

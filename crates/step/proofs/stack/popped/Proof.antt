@@ -11,25 +11,19 @@ bytes-requires c κs = search needs
 cast-n : tie.Need-cast-n
 cast-n c = omega (arith, bytes-le (c .before .args .size))
 
-register-requires : tie.Need-register-requires
-register-requires c κs = search needs
+read-requires : tie.Need-read-requires
+read-requires c κs = search needs
 
 wrapping-add-u32-requires : tie.Need-wrapping-add-u32-requires
 wrapping-add-u32-requires c κs = search needs
 
-with-register-requires : tie.Need-with-register-requires
-with-register-requires c κs = search needs
+write-requires : tie.Need-write-requires
+write-requires c κs = search needs
 
 returns : tie.Need-returns
-returns c = c .with-register .ensures ∙ rw (c .before .wrapping-add-u32 .ensures, c .before .before .register .ensures, c .before .before .before .bytes .ensures) refl
+returns c counter level flags spare = c .write .ensures counter level flags spare ∙ rw (c .before .wrapping-add-u32 .ensures, c .before .before .before .read .ensures counter level flags spare, c .before .before .before .before .before .bytes .ensures) refl
 
 pub popped-spec : {M : Type 1} → statement M
 popped-spec =
     tie.close
-    (tie.spec
-    bytes-requires
-    cast-n
-    register-requires
-    wrapping-add-u32-requires
-    with-register-requires
-    returns)
+    (tie.spec bytes-requires cast-n read-requires wrapping-add-u32-requires write-requires returns)

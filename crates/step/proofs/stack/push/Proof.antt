@@ -1,9 +1,10 @@
-use Prim.Native.Nat.{_%_, _^_}
+use Prim.Native.Nat.{ℕ, _%_, _^_}
 use mathlib.Core.Path.{_≡_, sym, _∙_}
 use native.Mathlib.Omega.{arith}
 use Rattle.little.specs.Width.{bytesOf}
 use Rattle.little.specs.declared.Size.the-variants.{Long}
 use Rattle.memory.proofs.Laws.{bytes-le}
+use Rattle.state.specs.State.{stateOf}
 use Rattle.state.specs.Register.{getRegister}
 use Rattle.state.proofs.Laws.{register-lt}
 use Rattle.step.specs.Stack.{less, withStack, pushOf}
@@ -13,14 +14,17 @@ use Rattle.step.proofs.stack.push.Statement.{statement}
 use Rattle.step.proofs.stack.push.Tie as tie
 
 -- the end of the stack that the code finds
-end-is : (c : tie.After-wrapping-sub-u32) → c .wrapping-sub-u32 .result ≡ less 32 (getRegister (c .before .before .before .before .before .args .s) Long 7) (bytesOf (c .before .before .before .before .before .args .size))
-end-is c =
-    let s = c .before .before .before .before .before .args .s in
-    let e = c .before .register .ensures in
-    let n = c .before .before .bytes .ensures in
+end-is :
+    (c : tie.After-wrapping-sub-u32) (counter level flags spare : ℕ) →
+    c .wrapping-sub-u32 .result ≡ less 32 (getRegister (stateOf (c .before .before .before .before .before .before .args .regs .now) counter (c .before .before .before .before .before .before .args .bank) level flags spare) Long 7) (bytesOf (c .before .before .before .before .before .before .args .size))
+end-is c counter level flags spare =
+    let a = c .before .before .before .before .before .before .args in
+    let s = stateOf (a .regs .now) counter (a .bank) level flags spare in
+    let e = c .before .read .ensures counter level flags spare in
+    let n = c .before .before .before .bytes .ensures in
     rw (← e, ← n)
-    (less-is 32 (c .before .register .result) (c .before .before .bytes .result) (c .wrapping-sub-u32 .result)
-    (rw e (register-lt s Long 7)) (omega (arith, bytes-le (c .before .before .before .before .before .args .size))) (omega arith) (c .wrapping-sub-u32 .ensures))
+    (less-is 32 (c .before .read .result) (c .before .before .before .bytes .result) (c .wrapping-sub-u32 .result)
+    (rw e (register-lt s Long 7)) (omega (arith, bytes-le (a .size))) (omega arith) (c .wrapping-sub-u32 .ensures))
 
 bytes-requires : tie.Need-bytes-requires
 bytes-requires c κs = search needs
@@ -28,8 +32,8 @@ bytes-requires c κs = search needs
 cast-n : tie.Need-cast-n
 cast-n c = omega (arith, bytes-le (c .before .before .before .args .size))
 
-register-requires : tie.Need-register-requires
-register-requires c κs = search needs
+read-requires : tie.Need-read-requires
+read-requires c κs = search needs
 
 wrapping-sub-u32-requires : tie.Need-wrapping-sub-u32-requires
 wrapping-sub-u32-requires c κs = search needs
@@ -40,46 +44,41 @@ store-requires c κs = search needs
 enum-told : tie.Need-enum-told
 enum-told c = search needs
 
-with-register-requires : tie.Need-with-register-requires
-with-register-requires c κs = search needs
-
-done-requires : tie.Need-done-requires
-done-requires c κs = search needs
+write-requires : tie.Need-write-requires
+write-requires c κs = search needs
 
 enum-known-w : tie.Need-enum-known-w
 enum-known-w c = search needs
-
-refuse-requires : tie.Need-refuse-requires
-refuse-requires c κs = search needs
 
 same-length : tie.Need-same-length
 same-length c = search needs
 
 returns : tie.Need-returns
 unfolding pushOf
-returns c =
-    let a = c .before .before .before .before .before .before .before .before .before .before .before .before .before .args in
-    let x = less 32 (getRegister (a .s) Long 7) (bytesOf (a .size)) in
-    let e = end-is (c .before .before .before .before .before .before .before .before) in
-    rw (c .done .ensures, c .before .before .before .before .before .before .before .with-register .ensures, e)
-    (stored (a .s) (withStack (a .s) x) (a .ram .now) (a .rom .now) (x % 2 ^ 24) (a .size) (a .v) (c .before .before .before .before .before .store .last .0)
-    (rw e at (c .before .before .before .before .before .store .ensures .1))
-    (sym (rw e at (c .before .before .before .before .before .store .ensures .0)) ∙ c .before .enum-told .given .1))
+returns c counter level flags spare =
+    let a = c .before .before .before .before .before .before .before .before .before .before .before .before .before .before .args in
+    let s = stateOf (a .regs .now) counter (a .bank) level flags spare in
+    let x = less 32 (getRegister s Long 7) (bytesOf (a .size)) in
+    let e = end-is (c .before .before .before .before .before .before .before .before) counter level flags spare in
+    rw (c .write .ensures counter level flags spare, e)
+    (stored s (withStack s x) (a .ram .now) (a .rom .now) (x % 2 ^ 24) (a .size) (a .v) (c .before .before .before .before .before .before .store .last .0)
+    (rw e at (c .before .before .before .before .before .before .store .ensures .1))
+    (sym (rw e at (c .before .before .before .before .before .before .store .ensures .0)) ∙ c .before .before .enum-told .given .1))
 
 same-length-2 : tie.Need-same-length-2
 same-length-2 c = search needs
 
 returns-2 : tie.Need-returns-2
 unfolding pushOf
-returns-2 c =
-    let a = c .before .before .before .before .before .before .before .before .before .before .before .before .before .before .args in
-    let x = less 32 (getRegister (a .s) Long 7) (bytesOf (a .size)) in
-    let e = end-is (c .before .before .before .before .before .before .before .before .before) in
-    rw (c .refuse .ensures)
-    (not-stored (a .s) (withStack (a .s) x) (a .ram .now) (a .rom .now) (x % 2 ^ 24) (a .size) (a .v) (c .before .before .before .before .before .before .store .last .0)
-    (rw e at (c .before .before .before .before .before .before .store .ensures .1))
-    (c .before .before .w .given .0 .0)
-    (sym (rw e at (c .before .before .before .before .before .before .store .ensures .0)) ∙ c .before .before .w .given .1))
+returns-2 c counter level flags spare =
+    let a = c .before .before .before .before .before .before .before .before .before .before .before .before .before .args in
+    let s = stateOf (a .regs .now) counter (a .bank) level flags spare in
+    let x = less 32 (getRegister s Long 7) (bytesOf (a .size)) in
+    let e = end-is (c .before .before .before .before .before .before .before) counter level flags spare in
+    not-stored s (withStack s x) (a .ram .now) (a .rom .now) (x % 2 ^ 24) (a .size) (a .v) (c .before .before .before .before .before .store .last .0)
+    (rw e at (c .before .before .before .before .before .store .ensures .1))
+    (c .before .w .given .0 .0)
+    (sym (rw e at (c .before .before .before .before .before .store .ensures .0)) ∙ c .before .w .given .1)
 
 pub push-spec : {M : Type 1} → statement M
 push-spec =
@@ -87,14 +86,12 @@ push-spec =
     (tie.spec
     bytes-requires
     cast-n
-    register-requires
+    read-requires
     wrapping-sub-u32-requires
-    with-register-requires
     store-requires
     enum-told
-    done-requires
+    write-requires
     enum-known-w
-    refuse-requires
     same-length
     returns
     same-length-2

@@ -1,0 +1,13 @@
+use mathlib.Core.Path.{refl}
+use borrow.Author.Needs.{needs}
+use Rattle.step.proofs.operand.pointer.Statement.{statement}
+use Rattle.step.proofs.operand.pointer.Tie as tie
+
+read-requires : tie.Need-read-requires
+read-requires c κs = search needs
+
+returns : tie.Need-returns
+returns c counter level flags spare = rw (c .read .ensures counter level flags spare) refl
+
+pub pointer-spec : {M : Type 1} → statement M
+pointer-spec = tie.close (tie.spec read-requires returns)
