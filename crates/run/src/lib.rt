@@ -16,14 +16,20 @@ pub struct Ran {
     pub answer: Answer,
 }
 
-fn refuse(s: State, w: Why) -> Ran
-    ensures { λ r. ⌜ r ≡ stopped s 0 (Answer.Refused w) ⌝ }
+fn stop(s: State, done: u32, answer: Answer) -> Ran
+    ensures { λ r. ⌜ r ≡ stopped s done answer ⌝ }
 {
     Ran {
         state: s,
-        done: 0,
-        answer: Answer::Refused(w),
+        done: done,
+        answer: answer,
     }
+}
+
+fn refuse(s: State, w: Why) -> Ran
+    ensures { λ r. ⌜ r ≡ stopped s 0 (Answer.Refused w) ⌝ }
+{
+    stop(s, 0, Answer::Refused(w))
 }
 
 // A step keeps a valid state valid, so that its checks are made once for all steps.
@@ -31,26 +37,32 @@ fn go(s: State, ram: &mut [u8], rom: &[u8], steps: u32) -> Ran
     requires { ⌜ (validOf s ≡ true) × (tooLong (length (now ram)) (length (now rom)) ≡ false) ⌝ }
     ensures { λ r. ⌜ result r (now (ram .exit)) ≡ goOf steps 0 s (now (ram .entry)) (now (rom .entry)) ⌝ }
 {
-    let mut t = s;
+    let mut regs = s.registers;
+    let mut counter = s.counter;
+    let b = s.bank;
+    let level = s.level;
+    let mut bank = b.0;
+    let mut flags = s.flags;
+    let mut spare = s.spare;
     let mut i: u32 = 0;
     while i < steps {
-        let r = step::once(t, &mut *ram, rom);
-        t = r.state;
-        let a = r.answer;
+        let a = step::once(
+            &mut regs,
+            &mut counter,
+            &mut bank,
+            &mut flags,
+            &mut spare,
+            &mut *ram,
+            rom,
+        );
         if let Answer::Refused(w) = a {
-            return Ran {
-                state: t,
-                done: i,
-                answer: Answer::Refused(w),
-            };
+            let t = state::whole(regs, counter, bank, level, flags, spare);
+            return stop(t, i, Answer::Refused(w));
         }
         i += 1;
     }
-    Ran {
-        state: t,
-        done: i,
-        answer: Answer::Done,
-    }
+    let t = state::whole(regs, counter, bank, level, flags, spare);
+    stop(t, i, Answer::Done)
 }
 
 // All the steps asked for, or those before the first one refused.

@@ -276,3 +276,24 @@ pub fn write(registers: &mut [u32; 20], bank: u8, size: Size, code: u8, v: u32)
     let p = t.part;
     registers[i] = with_bits(p, registers[i], v);
 }
+
+// A state from its parts.
+pub fn whole(
+    registers: [u32; 20],
+    counter: u32,
+    bank: u8,
+    level: Level,
+    flags: u8,
+    spare: u8,
+) -> State
+    ensures { λ r. ⌜ r ≡ stateOf registers counter bank (level .0) flags spare ⌝ }
+{
+    State {
+        registers: registers,
+        counter: counter,
+        bank: Bank(bank),
+        level: level,
+        flags: flags,
+        spare: spare,
+    }
+}

@@ -15,7 +15,6 @@ use code::Decoded;
 use code::Instruction;
 use little::Size;
 use memory::Loaded;
-use state::Bank;
 use state::State;
 
 mod block;
@@ -115,15 +114,9 @@ fn whole_once(s: State, ram: &mut [u8], rom: &[u8]) -> Stepped
     let mut flags = s.flags;
     let mut spare = s.spare;
     let a = once(&mut regs, &mut counter, &mut bank, &mut flags, &mut spare, ram, rom);
+    let t = state::whole(regs, counter, bank, level, flags, spare);
     Stepped {
-        state: State {
-            registers: regs,
-            counter: counter,
-            bank: Bank(bank),
-            level: level,
-            flags: flags,
-            spare: spare,
-        },
+        state: t,
         answer: a,
     }
 }
