@@ -65,11 +65,23 @@ pub fn store(ram: &mut [u8], rom: &[u8], address: u32, size: Size, v: u32) -> An
 {
     let n = little::bytes(size);
     match find(ram.len(), rom.len(), address, n) {
-        Place::Ram(o) => {
-            let e = o + n;
-            little::write(&mut ram[o..e], v);
-            Answer::Done
-        }
+        Place::Ram(o) => match size {
+            Size::Byte => {
+                let e = o + 1;
+                little::write(&mut ram[o..e], v);
+                Answer::Done
+            }
+            Size::Word => {
+                let e = o + 2;
+                little::write(&mut ram[o..e], v);
+                Answer::Done
+            }
+            Size::Long => {
+                let e = o + 4;
+                little::write(&mut ram[o..e], v);
+                Answer::Done
+            }
+        },
         Place::Rom(_) => Answer::Refused(Why::ToRom),
         Place::Missing => Answer::Refused(Why::Missing),
     }
