@@ -3,7 +3,8 @@ use Prim.Native.Nat.{ℕ, _/_, _%_, _<_}
 use mathlib.Core.Path.{_≡_, refl}
 use mathlib.Core.Bool.{cond}
 use mathlib.Core.List.{List, [], _∷_}
-use lib.Dec.{ltb}
+use lib.Dec.{ltb, eqb}
+use types.Run.{OneOf}
 use Rattle.little.specs.declared.Size.the-variants.{Byte, Word, Long}
 use Rattle.code.specs.declared.Op.the-variants.{Set, Push, Pop, Jr, Jrl}
 use Rattle.code.specs.declared.Base.the-variants.{Indirect, Displaced}
@@ -11,9 +12,9 @@ use Rattle.code.specs.declared.Operand.the-variants.{Register}
 use Rattle.code.specs.Said.{Said, whole, unlisted}
 use Rattle.code.specs.Rows.{lookup, byRows}
 use Rattle.code.specs.Registers.{registerRows}
-use Rattle.code.specs.Memory.{form, memoryRows, storeRows, indirectRows}
-use Rattle.code.specs.Listed.{withConstant, formWith, absoluteRows, bankRows, flagRows, constantRows, stackRows, jumpRows, relativeRows, registerFormRows, memoryFormRows, memoryAtRows, storeFormRows, firstRows}
-use Rattle.code.proofs.Groups.{in-group, in-others, other, Missed}
+use Rattle.code.specs.Memory.{form, storeRows, indirectRows, rowsAfter}
+use Rattle.code.specs.Listed.{withConstant, sizeOf, formWith, absoluteRows, bankRows, flagRows, constantRows, stackRows, jumpRows, relativeRows, registerFormRows, memoryFormRows, memoryAtRows, storeFormRows, firstRows}
+use Rattle.code.proofs.Groups.{in-group, in-groups, in-others, other, Missed}
 
 -- all lists, opened
 unfoldable pub first : ℕ → Said
@@ -64,84 +65,34 @@ pub jump-long-1 : (b : ℕ) → b / 8 ≡ 15 → lookup firstRows b ≡ withCons
 unfolding first
 jump-long-1 = in-group _ 15 (refl, refl, refl, refl, refl, refl, refl, refl)
 
-pub indirect-byte : (b : ℕ) → b / 8 ≡ 16 → lookup firstRows b ≡ byRows (indirectRows Byte (b % 8))
-unfolding first
-indirect-byte = in-group _ 16 (refl, refl, refl, refl, refl, refl, refl, refl)
+pub indirect-form : (b : ℕ) → OneOf (16 ∷ 18 ∷ 20 ∷ []) (b / 8) → lookup firstRows b ≡ byRows (indirectRows (sizeOf (b / 16)) (b % 8))
+unfolding first sizeOf
+indirect-form = in-groups _ (16 ∷ 18 ∷ 20 ∷ []) ((refl, refl, refl, refl, refl, refl, refl, refl), ((refl, refl, refl, refl, refl, refl, refl, refl), ((refl, refl, refl, refl, refl, refl, refl, refl), tt)))
 
-pub displaced-byte : (b : ℕ) → b / 8 ≡ 17 → lookup firstRows b ≡ formWith (Displaced (b % 8)) 1 (memoryRows Byte)
-unfolding first
-displaced-byte = in-group _ 17 (refl, refl, refl, refl, refl, refl, refl, refl)
-
-pub indirect-word : (b : ℕ) → b / 8 ≡ 18 → lookup firstRows b ≡ byRows (indirectRows Word (b % 8))
-unfolding first
-indirect-word = in-group _ 18 (refl, refl, refl, refl, refl, refl, refl, refl)
-
-pub displaced-word : (b : ℕ) → b / 8 ≡ 19 → lookup firstRows b ≡ formWith (Displaced (b % 8)) 1 (memoryRows Word)
-unfolding first
-displaced-word = in-group _ 19 (refl, refl, refl, refl, refl, refl, refl, refl)
-
-pub indirect-long : (b : ℕ) → b / 8 ≡ 20 → lookup firstRows b ≡ byRows (indirectRows Long (b % 8))
-unfolding first
-indirect-long = in-group _ 20 (refl, refl, refl, refl, refl, refl, refl, refl)
-
-pub displaced-long : (b : ℕ) → b / 8 ≡ 21 → lookup firstRows b ≡ formWith (Displaced (b % 8)) 1 (memoryRows Long)
-unfolding first
-displaced-long = in-group _ 21 (refl, refl, refl, refl, refl, refl, refl, refl)
+pub displaced-form : (b : ℕ) → OneOf (17 ∷ 19 ∷ 21 ∷ 23 ∷ []) (b / 8) → lookup firstRows b ≡ formWith (Displaced (b % 8)) 1 (rowsAfter (eqb (b / 8) 23) (sizeOf (b / 16)))
+unfolding first sizeOf
+displaced-form = in-groups _ (17 ∷ 19 ∷ 21 ∷ 23 ∷ []) ((refl, refl, refl, refl, refl, refl, refl, refl), ((refl, refl, refl, refl, refl, refl, refl, refl), ((refl, refl, refl, refl, refl, refl, refl, refl), ((refl, refl, refl, refl, refl, refl, refl, refl), tt))))
 
 pub indirect-store : (b : ℕ) → b / 8 ≡ 22 → lookup firstRows b ≡ byRows (storeRows (form (Indirect (b % 8)) 0))
 unfolding first
 indirect-store = in-group _ 22 (refl, refl, refl, refl, refl, refl, refl, refl)
 
-pub displaced-store : (b : ℕ) → b / 8 ≡ 23 → lookup firstRows b ≡ formWith (Displaced (b % 8)) 1 storeRows
-unfolding first
-displaced-store = in-group _ 23 (refl, refl, refl, refl, refl, refl, refl, refl)
+pub absolute-form : (b : ℕ) → OneOf (24 ∷ 26 ∷ 28 ∷ 30 ∷ []) (b / 8) → lookup firstRows b ≡ lookup (absoluteRows 0 (rowsAfter (eqb (b / 8) 30) (sizeOf (b / 16)))) (b % 8)
+unfolding first sizeOf
+absolute-form = in-groups _ (24 ∷ 26 ∷ 28 ∷ 30 ∷ []) ((refl, refl, refl, refl, refl, refl, refl, refl), ((refl, refl, refl, refl, refl, refl, refl, refl), ((refl, refl, refl, refl, refl, refl, refl, refl), ((refl, refl, refl, refl, refl, refl, refl, refl), tt))))
 
-pub absolute-byte : (b : ℕ) → b / 8 ≡ 24 → lookup firstRows b ≡ lookup (absoluteRows 0 (memoryRows Byte)) (b % 8)
-unfolding first
-absolute-byte = in-group _ 24 (refl, refl, refl, refl, refl, refl, refl, refl)
-
-pub register-byte : (b : ℕ) → b / 8 ≡ 25 → lookup firstRows b ≡ byRows (registerRows Byte (Register (b % 8)))
-unfolding first
-register-byte = in-group _ 25 (refl, refl, refl, refl, refl, refl, refl, refl)
-
-pub absolute-word : (b : ℕ) → b / 8 ≡ 26 → lookup firstRows b ≡ lookup (absoluteRows 0 (memoryRows Word)) (b % 8)
-unfolding first
-absolute-word = in-group _ 26 (refl, refl, refl, refl, refl, refl, refl, refl)
-
-pub register-word : (b : ℕ) → b / 8 ≡ 27 → lookup firstRows b ≡ byRows (registerRows Word (Register (b % 8)))
-unfolding first
-register-word = in-group _ 27 (refl, refl, refl, refl, refl, refl, refl, refl)
-
-pub absolute-long : (b : ℕ) → b / 8 ≡ 28 → lookup firstRows b ≡ lookup (absoluteRows 0 (memoryRows Long)) (b % 8)
-unfolding first
-absolute-long = in-group _ 28 (refl, refl, refl, refl, refl, refl, refl, refl)
-
-pub register-long : (b : ℕ) → b / 8 ≡ 29 → lookup firstRows b ≡ byRows (registerRows Long (Register (b % 8)))
-unfolding first
-register-long = in-group _ 29 (refl, refl, refl, refl, refl, refl, refl, refl)
-
-pub absolute-store : (b : ℕ) → b / 8 ≡ 30 → lookup firstRows b ≡ lookup (absoluteRows 0 storeRows) (b % 8)
-unfolding first
-absolute-store = in-group _ 30 (refl, refl, refl, refl, refl, refl, refl, refl)
+pub register-form : (b : ℕ) → OneOf (25 ∷ 27 ∷ 29 ∷ []) (b / 8) → lookup firstRows b ≡ byRows (registerRows (sizeOf (b / 16)) (Register (b % 8)))
+unfolding first sizeOf
+register-form = in-groups _ (25 ∷ 27 ∷ 29 ∷ []) ((refl, refl, refl, refl, refl, refl, refl, refl), ((refl, refl, refl, refl, refl, refl, refl, refl), ((refl, refl, refl, refl, refl, refl, refl, refl), tt)))
 
 -- the arms of the first byte's groups, last first
 abbrev pub arms : List (List ℕ)
 arms =
-    (30 ∷ [])
-    ∷ (29 ∷ [])
-    ∷ (28 ∷ [])
-    ∷ (27 ∷ [])
-    ∷ (26 ∷ [])
-    ∷ (25 ∷ [])
-    ∷ (24 ∷ [])
-    ∷ (23 ∷ [])
+    (25 ∷ 27 ∷ 29 ∷ [])
+    ∷ (24 ∷ 26 ∷ 28 ∷ 30 ∷ [])
     ∷ (22 ∷ [])
-    ∷ (21 ∷ [])
-    ∷ (20 ∷ [])
-    ∷ (19 ∷ [])
-    ∷ (18 ∷ [])
-    ∷ (17 ∷ [])
-    ∷ (16 ∷ [])
+    ∷ (17 ∷ 19 ∷ 21 ∷ 23 ∷ [])
+    ∷ (16 ∷ 18 ∷ 20 ∷ [])
     ∷ (15 ∷ [])
     ∷ (14 ∷ [])
     ∷ (13 ∷ [])

@@ -1,6 +1,8 @@
 -- The listed codes, bullet by bullet, and the decoder.
 use Prim.Native.Nat.{ℕ, _+_, _%_}
+use mathlib.Core.Bool.{cond, _||_}
 use mathlib.Core.List.{List, [], _∷_, _++_}
+use lib.Dec.{eqb}
 use Rattle.little.specs.declared.Size.{Size}
 use Rattle.little.specs.declared.Size.the-variants.{Byte, Word, Long}
 use Rattle.code.specs.declared.Op.{Op}
@@ -22,6 +24,10 @@ alone op = whole op Byte (Constant 0)
 -- an operation and a constant of n bytes
 abbrev pub withConstant : Op → Size → ℕ → Said
 withConstant op z n = number n (λ v. whole op z (Constant v))
+
+-- the size of an operand, by the high digit of the first byte: word for 9 and D, long for A and E, and byte for any other
+unfoldable pub sizeOf : ℕ → Size
+sizeOf d = cond (eqb d 0x9 || eqb d 0xD) Word (cond (eqb d 0xA || eqb d 0xE) Long Byte)
 
 -- a byte 00 to 03
 unfoldable pub bankNumberRows : List Row

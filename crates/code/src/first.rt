@@ -7,7 +7,7 @@ ghost use lib.Dec.{ltb};
 ghost use Rattle.little.specs.Width.{bytesOf};
 ghost use Rattle.code.specs.Said.{Said, judge};
 ghost use Rattle.code.specs.Rows.{lookup, byRows};
-ghost use Rattle.code.specs.Listed.{alone, withConstant, bankNumberRows, firstRows};
+ghost use Rattle.code.specs.Listed.{alone, withConstant, sizeOf, bankNumberRows, firstRows};
 use crate::Decoded;
 use crate::Op;
 use crate::Operand;
@@ -149,6 +149,17 @@ fn case_18(code: &[u8], b: u8) -> Decoded
     }
 }
 
+// The size of an operand, by the high digit of the first byte.
+fn size_of(digit: u8) -> Size
+    ensures { λ r. ⌜ r ≡ sizeOf digit ⌝ }
+{
+    match digit {
+        0x9 | 0xD => Size::Word,
+        0xA | 0xE => Size::Long,
+        _ => Size::Byte,
+    }
+}
+
 // The instruction, by the group of eight that its first byte is in.
 pub fn first_case(code: &[u8], b: u8) -> Decoded
     ensures { λ r. ⌜ r ≡ judge (lookup firstRows b) (now (code .entry)) 1 ⌝ }
@@ -170,21 +181,11 @@ pub fn first_case(code: &[u8], b: u8) -> Decoded
         13 => short_jump(code, b % 16),
         14 => long_jump(code, b % 16),
         15 => long_jump(code, b % 16),
-        16 => crate::memory::indirect(code, r, Size::Byte),
-        17 => crate::memory::displaced(code, r, Size::Byte, false),
-        18 => crate::memory::indirect(code, r, Size::Word),
-        19 => crate::memory::displaced(code, r, Size::Word, false),
-        20 => crate::memory::indirect(code, r, Size::Long),
-        21 => crate::memory::displaced(code, r, Size::Long, false),
+        16 | 18 | 20 => crate::memory::indirect(code, r, size_of(b / 16)),
+        17 | 19 | 21 | 23 => crate::memory::displaced(code, r, size_of(b / 16), b / 8 == 23),
         22 => crate::memory::indirect_store(code, r),
-        23 => crate::memory::displaced(code, r, Size::Byte, true),
-        24 => crate::memory::absolute(code, r, Size::Byte, false),
-        25 => crate::registers::register_form(code, 1, Size::Byte, r),
-        26 => crate::memory::absolute(code, r, Size::Word, false),
-        27 => crate::registers::register_form(code, 1, Size::Word, r),
-        28 => crate::memory::absolute(code, r, Size::Long, false),
-        29 => crate::registers::register_form(code, 1, Size::Long, r),
-        30 => crate::memory::absolute(code, r, Size::Byte, true),
+        24 | 26 | 28 | 30 => crate::memory::absolute(code, r, size_of(b / 16), b / 8 == 30),
+        25 | 27 | 29 => crate::registers::register_form(code, 1, size_of(b / 16), r),
         _ => Decoded::Unlisted,
     }
 }
