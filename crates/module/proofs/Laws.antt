@@ -27,7 +27,7 @@ use Rattle.state.proofs.Valid.{Valid, valid-says, valid-from, valid-reset, and-
 use Rattle.saved.specs.declared.Restored.{Restored}
 use Rattle.saved.specs.Record.{recordOf, saveAnswer, saveBytes, stateAt, fixedAt, isRecord, loadOf, refused}
 use Rattle.step.specs.declared.Stepped.{Stepped}
-use Rattle.step.specs.Try.{Try, did, no, Outcome, outcome, leaves}
+use Rattle.step.specs.Try.{Try, did, no, Outcome, leaves}
 use Rattle.step.specs.Step.{tooLong, guarded, onceOf, tryOf, stepOf}
 use Rattle.step.specs.Show.{lengthIn, shownOf}
 use Rattle.step.specs.Reset.{notReset, resetFrom, resetOf}
@@ -35,6 +35,7 @@ use Rattle.step.proofs.Kept.{Keeps, keeps-once}
 use Rattle.run.specs.declared.Ran.{Ran}
 use Rattle.run.specs.Run.{Result, result, ends, afterChecks, goOf, runOf}
 use Rattle.run.proofs.Laws.{go-did, go-no}
+use Rattle.run.proofs.Joins.{one-step-run}
 use Rattle.module.specs.Calls.{left, roomAnswer, whereDone, resetAnswer, resetBytes, refusedRecord, openedOf, stepLeft, runLeft, runDone}
 
 -- ---- the states that are written are valid
@@ -158,6 +159,13 @@ module _ (b ram rom : List ℕ) (r : Stepped) (is : r ≡ resetOf ram rom) where
       room x y false = refl
 
 -- ---- one step
+-- what a run leaves, but for its count
+abbrev uncounted : Result → Outcome
+uncounted r = record { state = r .state; ram = r .ram; answer = r .answer }
+
+run-of-one : (s : State) (ram rom : List ℕ) → uncounted (runOf 1 s ram rom) ≡ stepOf s ram rom
+run-of-one s ram rom = ap uncounted (one-step-run s ram rom)
+
 module _ (b ram rom : List ℕ) (o : Restored) (is : o ≡ openedOf b (length ram) (length rom)) where
   opened-answer : {a : Answer} → o .answer ≡ a → openedOf b (length ram) (length rom) .answer ≡ a
   opened-answer e = ap (λ (x : Restored). x .answer) (sym is) ∙ e
@@ -166,9 +174,9 @@ module _ (b ram rom : List ℕ) (o : Restored) (is : o ≡ openedOf b (length ra
   unfolding stepLeft
   step-stops w a e = rw (opened-answer a, e) refl
 
-  module _ (r : Stepped) (m : List ℕ) (good : o .answer ≡ Done) (e : outcome r m ≡ stepOf (o .state) ram rom) where
-    here : outcome r m ≡ stepOf (openedOf b (length ram) (length rom) .state) ram rom
-    here = e ∙ ap (λ (x : Restored). stepOf (x .state) ram rom) is
+  module _ (r : Ran) (m : List ℕ) (good : o .answer ≡ Done) (e : result r m ≡ runOf 1 (o .state) ram rom) where
+    here : uncounted (result r m) ≡ stepOf (openedOf b (length ram) (length rom) .state) ram rom
+    here = ap uncounted e ∙ run-of-one (o .state) ram rom ∙ ap (λ (x : Restored). stepOf (x .state) ram rom) is
 
     pub step-no : {n : ℕ} (w : Why) → r .answer ≡ Refused w → n ≡ whyNumber w → left n b m ≡ stepLeft b ram rom
     unfolding stepLeft

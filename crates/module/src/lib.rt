@@ -36,7 +36,7 @@ pub extern "C" fn tlcs900h_reset(bytes: &mut [u8], ram: &[u8], rom: &[u8]) -> u8
     answer::number(saved::save(s.state, bytes))
 }
 
-// One step of the state that the record holds. A refusal leaves the record and RAM as they were.
+// One step of the state that the record holds, by a run of one. A refusal leaves the record and RAM as they were.
 #[no_mangle]
 pub extern "C" fn tlcs900h_step(bytes: &mut [u8], ram: &mut [u8], rom: &[u8]) -> u8
     ensures { λ r. ⌜ left r (now (bytes .exit)) (now (ram .exit)) ≡ stepLeft (now (bytes .entry)) (now (ram .entry)) (now (rom .entry)) ⌝ }
@@ -46,7 +46,7 @@ pub extern "C" fn tlcs900h_step(bytes: &mut [u8], ram: &mut [u8], rom: &[u8]) ->
     if let Answer::Refused(w) = a {
         return answer::why_number(w);
     }
-    let r = step::step(o.state, ram, rom);
+    let r = run::run(o.state, ram, rom, 1);
     let b = r.answer;
     if let Answer::Refused(w) = b {
         return answer::why_number(w);

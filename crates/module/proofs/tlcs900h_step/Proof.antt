@@ -23,8 +23,8 @@ returns c =
 enum-told : tie.Need-enum-told
 enum-told c = search needs
 
-step-requires : tie.Need-step-requires
-step-requires c κs = search needs
+run-requires : tie.Need-run-requires
+run-requires c κs = search needs
 
 enum-known-b : tie.Need-enum-known-b
 enum-known-b c = search needs
@@ -41,7 +41,7 @@ same-length-3 c = search needs
 returns-2 : tie.Need-returns-2
 returns-2 c =
     let a = c .before .before .before .before .before .before .before .before .before .before .before .before .before .before .before .args in
-    step-no (a .bytes .now) (a .ram .now) (a .rom .now) (c .before .before .before .before .before .before .before .before .before .before .opened .result) (c .before .before .before .before .before .before .before .before .before .before .opened .ensures) (c .before .before .before .before .before .before .step .result) (c .before .before .before .before .before .before .step .last .1 .0) (c .before .before .before .before .before .before .before .before .enum-told .given .1) (c .before .before .before .before .before .before .step .ensures) (c .before .before .b .given .0 .0) (c .before .before .b .given .1) (c .why-number2 .ensures)
+    step-no (a .bytes .now) (a .ram .now) (a .rom .now) (c .before .before .before .before .before .before .before .before .before .before .opened .result) (c .before .before .before .before .before .before .before .before .before .before .opened .ensures) (c .before .before .before .before .before .before .run .result) (c .before .before .before .before .before .before .run .last .1 .0) (c .before .before .before .before .before .before .before .before .enum-told .given .1) (c .before .before .before .before .before .before .run .ensures) (c .before .before .b .given .0 .0) (c .before .before .b .given .1) (c .why-number2 .ensures)
 
 enum-told-2 : tie.Need-enum-told-2
 enum-told-2 c = search needs
@@ -61,7 +61,7 @@ same-length-5 c = search needs
 returns-3 : tie.Need-returns-3
 returns-3 c =
     let a = c .before .before .before .before .before .before .before .before .before .before .before .before .before .before .before .before .before .before .args in
-    step-did (a .bytes .now) (a .ram .now) (a .rom .now) (c .before .before .before .before .before .before .before .before .before .before .before .before .before .opened .result) (c .before .before .before .before .before .before .before .before .before .before .before .before .before .opened .ensures) (c .before .before .before .before .before .before .before .before .before .step .result) (c .before .before .before .before .before .before .before .before .before .step .last .1 .0) (c .before .before .before .before .before .before .before .before .before .before .before .enum-told .given .1) (c .before .before .before .before .before .before .before .before .before .step .ensures) (c .before .before .before .before .before .enum-told2 .given .1) (c .before .before .before .save .ensures .0) (c .before .before .before .save .ensures .1) (c .number .ensures)
+    step-did (a .bytes .now) (a .ram .now) (a .rom .now) (c .before .before .before .before .before .before .before .before .before .before .before .before .before .opened .result) (c .before .before .before .before .before .before .before .before .before .before .before .before .before .opened .ensures) (c .before .before .before .before .before .before .before .before .before .run .result) (c .before .before .before .before .before .before .before .before .before .run .last .1 .0) (c .before .before .before .before .before .before .before .before .before .before .before .enum-told .given .1) (c .before .before .before .before .before .before .before .before .before .run .ensures) (c .before .before .before .before .before .enum-told2 .given .1) (c .before .before .before .save .ensures .0) (c .before .before .before .save .ensures .1) (c .number .ensures)
 
 pub tlcs900h-step-spec : {M : Type 1} → statement M
 tlcs900h-step-spec =
@@ -73,7 +73,7 @@ tlcs900h-step-spec =
     same-length
     returns
     enum-told
-    step-requires
+    run-requires
     enum-known-b
     why-number-requires-2
     same-length-2
