@@ -3,6 +3,7 @@
  *
  * Link with libmodule.a (x86-64 Linux). It calls no function of the operating system, keeps nothing between calls and
  * allocates nothing: two threads may call it at once, each with its own record and RAM.
+ * tlcs900h_show is in a second archive, liblook.a, so that the one that runs the firmware holds the decoder once.
  *
  * The machine
  *   RAM  holds the addresses 0 to ram_len - 1.

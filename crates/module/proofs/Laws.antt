@@ -1,10 +1,10 @@
 -- What each call comes to, case by case.
-use Prim.Native.Nat.{ℕ, zero, suc, _+_, _^_, _<_, _≤_}
+use Prim.Native.Nat.{ℕ, zero, suc, _+_, _<_, _≤_}
 use mathlib.Core.Path.{_≡_, refl, ap, sym, _∙_, subst}
-use mathlib.Core.List.{List, []}
+use mathlib.Core.List.{List}
 use mathlib.Core.Bool.{Bool, true, false, cond}
 use native.Mathlib.Omega.{arith}
-use lib.ListN.{length, take, length-take}
+use lib.ListN.{length}
 use lib.Dec.{ltb, eqb}
 use borrow.Author.Tests.{lt-ltb, le-ltb, eq-eqb, eqb-true}
 use Rattle.answer.specs.declared.Answer.{Answer}
@@ -14,11 +14,6 @@ use Rattle.answer.specs.declared.Why.the-variants.{TooMany, TooLong, Invalid}
 use Rattle.answer.specs.Number.{whyNumber, numberOf}
 use Rattle.little.specs.declared.Size.the-variants.{Long}
 use Rattle.memory.specs.Access as access
-use Rattle.memory.specs.Access.{codeAt}
-use Rattle.code.specs.Listed.{decodeOf}
-use Rattle.code.specs.declared.Decoded.{Decoded}
-use Rattle.code.specs.declared.Decoded.the-variants as decoded
-use Rattle.code.proofs.Ranges.{length-fits}
 use Rattle.memory.specs.declared.Loaded.{Loaded}
 use Rattle.memory.specs.declared.Loaded.the-variants as loaded
 use Rattle.state.specs.State.{validOf, zeroState}
@@ -29,7 +24,6 @@ use Rattle.saved.specs.Record.{recordOf, saveAnswer, saveBytes, stateAt, fixedA
 use Rattle.step.specs.declared.Stepped.{Stepped}
 use Rattle.step.specs.Try.{Try, did, no, Outcome, leaves}
 use Rattle.step.specs.Step.{tooLong, guarded, onceOf, tryOf, stepOf}
-use Rattle.step.specs.Show.{lengthIn, shownOf}
 use Rattle.step.specs.Reset.{notReset, resetFrom, resetOf}
 use Rattle.step.proofs.Kept.{Keeps, keeps-once}
 use Rattle.run.specs.declared.Ran.{Ran}
@@ -121,14 +115,6 @@ saved-whole s b ok e =
     let t = eq-eqb (length b) 88 e in
     (k .0 ∙ rw t refl, k .1 ∙ rw t refl)
 
-length-few : (l : List ℕ) → lengthIn (decodeOf l) ≤ 6
-length-few l = go (decodeOf l) refl
-  where
-    go : (d : Decoded) → decodeOf l ≡ d → lengthIn d ≤ 6
-    go decoded.Short e = omega arith
-    go decoded.Unlisted e = omega arith
-    go (decoded.Whole i) e = length-fits l i e .1 .0
-
 pub opened-long : (b : List ℕ) (m n : ℕ) → tooLong m n ≡ true → openedOf b m n ≡ refusedRecord TooLong
 unfolding openedOf
 opened-long b m n h = rw h refl
@@ -214,13 +200,3 @@ module _ (n : ℕ) (b ram rom : List ℕ) where
         let w : Valid (r .state) = subst (λ (x : Result). Valid (x .state)) (sym here) (run-valid n _ ram rom (v .0)) in
         let s = saved-whole (r .state) b w (v .1) in
         (rw (le-ltb 1000000 n few, f, sym here, h, g, s .1) refl, rw (le-ltb 1000000 n few, f, sym here) refl)
-
--- ---- show: an instruction has at most six bytes
-pub shown-few : (ram rom : List ℕ) (at : ℕ) → length (shownOf ram rom at) ≤ 6
-unfolding shownOf
-shown-few ram rom at = go (tooLong (length ram) (length rom)) (ltb at (2 ^ 24))
-  where
-    go : (x y : Bool) → length (cond x [] (cond y (take (lengthIn (decodeOf (codeAt ram rom at))) (codeAt ram rom at)) [])) ≤ 6
-    go true y = omega arith
-    go false false = omega arith
-    go false true = omega (arith, length-take (lengthIn (decodeOf (codeAt ram rom at))) (codeAt ram rom at), length-few (codeAt ram rom at))

@@ -29,7 +29,6 @@ settled = (
   λ steps bytes ram rom n n' b b' m m' d d' e f.
       let g = e .0 ∙ sym (f .0) in
       (ap (λ (l : Left). l .number) g, ap (λ (l : Left). l .bytes) g, ap (λ (l : Left). l .ram) g, e .1 ∙ sym (f .1)),
-  λ ram rom at n n' l l' e f. (e .0 ∙ sym (f .0), e .1 ∙ sym (f .1)),
 )
 
 pub step-refused-keeps : StepRefusedKeeps

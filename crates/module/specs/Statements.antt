@@ -5,7 +5,6 @@ use mathlib.Core.List.{List}
 use lib.ListN.{length}
 use Rattle.answer.specs.Number.{numberOf}
 use Rattle.little.specs.Bytes.{Bytes}
-use Rattle.step.specs.Show.{showAnswerOf, shownOf}
 use Rattle.module.specs.Calls.{left, resetAnswer, resetBytes, stepLeft, runLeft, runDone}
 
 -- ---- what each call promises of its number and of what it leaves
@@ -20,10 +19,6 @@ abbrev pub RunMeets : ℕ → List ℕ → List ℕ → List ℕ → ℕ → Lis
 RunMeets steps bytes ram rom number b m done =
     (left number b m ≡ runLeft steps bytes ram rom) × (done ≡ runDone steps bytes ram rom)
 
-abbrev pub ShowMeets : List ℕ → List ℕ → ℕ → ℕ → ℕ → Type 0
-ShowMeets ram rom at number size =
-    (number ≡ numberOf (showAnswerOf ram rom at)) × (size ≡ length (shownOf ram rom at))
-
 -- two outcomes that meet a call's statement are the same
 abbrev pub Settled : Type 0
 Settled =
@@ -32,7 +27,6 @@ Settled =
     (n ≡ n') × (b ≡ b') × (m ≡ m'))
     × ((steps : ℕ) (bytes ram rom : List ℕ) (n n' : ℕ) (b b' m m' : List ℕ) (d d' : ℕ) →
     RunMeets steps bytes ram rom n b m d → RunMeets steps bytes ram rom n' b' m' d' → (n ≡ n') × (b ≡ b') × (m ≡ m') × (d ≡ d'))
-    × ((ram rom : List ℕ) (at n n' l l' : ℕ) → ShowMeets ram rom at n l → ShowMeets ram rom at n' l' → (n ≡ n') × (l ≡ l'))
 
 -- a step that is not done leaves the record and RAM as they were
 abbrev pub StepRefusedKeeps : Type 0

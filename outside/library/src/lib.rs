@@ -38,7 +38,10 @@ mod surface {
             steps: u32,
             done: *mut u32,
         ) -> u8;
+    }
 
+    #[link(name = "look", kind = "static")]
+    extern "C" {
         pub fn tlcs900h_show(
             ram: *const u8,
             ram_length: usize,

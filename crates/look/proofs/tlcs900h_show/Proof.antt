@@ -2,18 +2,16 @@ use mathlib.Core.Path.{ap, _∙_}
 use native.Mathlib.Omega.{arith}
 use lib.ListN.{length}
 use Rattle.answer.specs.Number.{numberOf}
-use Rattle.module.proofs.Laws.{shown-few}
+use Rattle.look.proofs.Laws.{shown-few}
 use borrow.Author.Needs.{needs}
-use Rattle.module.proofs.tlcs900h_show.Statement.{statement}
-use Rattle.module.proofs.tlcs900h_show.Tie as tie
+use Rattle.look.proofs.tlcs900h_show.Statement.{statement}
+use Rattle.look.proofs.tlcs900h_show.Tie as tie
 
 show-requires : tie.Need-show-requires
 show-requires c κs = search needs
 
 cast-size : tie.Need-cast-size
-cast-size c =
-    let a = c .before .before .before .args in
-    omega (arith, ap length (c .show .ensures), shown-few (a .ram .now) (a .rom .now) (a .at))
+cast-size c = omega (arith, shown-few _ _ _ _ (c .show .ensures))
 
 show-answer-requires : tie.Need-show-answer-requires
 show-answer-requires c κs = search needs
