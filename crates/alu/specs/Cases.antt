@@ -21,13 +21,16 @@ pub record Case : Type 0 where
   pub value : ℕ
   pub f : ℕ
 
+-- the value and F are those of the table
 unfoldable pub right : Case → Bool
 right p = eqb (p .got .value) (p .value) && eqb (byteOf (p .got .flags)) (p .f)
 
+-- all rows are right
 unfoldable pub every : List Case → Bool
 every [] = true
 every (p ∷ ps) = right p && every ps
 
+-- a row of the table
 abbrev is : Computed → ℕ → ℕ → Case
 is got value f = record { got = got; value = value; f = f }
 
@@ -43,6 +46,7 @@ unfoldable pub holding : ℕ → Flags → ℕ
 holding zero f = 0
 holding (suc n) f = one (holdsOf f n) * 2 ^ n + holding n f
 
+-- the table
 unfoldable pub cases : List Case
 cases =
     -- P1 to P9

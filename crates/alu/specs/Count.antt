@@ -11,6 +11,7 @@ use Rattle.alu.specs.Sums.{sumOf, differenceOf}
 abbrev pub countedOf : Flags → ℕ → Computed → Computed
 countedOf old k r = record { value = r .value; flags = cond (eqb k 8) (keepingC old (r .flags)) old }
 
+-- a plus n, and a less n, by the sums of ADD and SUB without a carry; `old` are the flags before
 unfoldable pub incOf : Flags → ℕ → ℕ → ℕ → Computed
 incOf old k a n = countedOf old k (sumOf k a n false)
 

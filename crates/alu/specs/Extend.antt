@@ -3,9 +3,10 @@ use Prim.Native.Nat.{ℕ, _+_, _-_, _/_, _^_}
 use mathlib.Core.Bool.{cond}
 use Rattle.alu.specs.Width.{low, negative}
 
+-- EXTZ: the low half, with zeros above it
 unfoldable pub extzOf : ℕ → ℕ → ℕ
 extzOf k a = low (k / 2) a
 
--- 2 ^ k - 2 ^ (k / 2) has ones in the high half
+-- EXTS: ones above it where its top bit is one; 2 ^ k - 2 ^ (k / 2) has ones in the high half
 unfoldable pub extsOf : ℕ → ℕ → ℕ
 extsOf k a = cond (negative (k / 2) (extzOf k a)) (extzOf k a + (2 ^ k - 2 ^ (k / 2))) (extzOf k a)

@@ -11,14 +11,17 @@ use Rattle.alu.specs.Parity.{parityOf}
 unfoldable pub plain : ℕ → ℕ → Bool → Bool → Computed
 plain k r h c = computedOf k r h (parityOf k r) false c
 
+-- AND: H 1, C 0
 unfoldable pub andOf : ℕ → ℕ → ℕ → Computed
 unfolding plain
 andOf k a b = plain k (bitAnd (low k a) (low k b)) true false
 
+-- OR: H 0, C 0
 unfoldable pub orOf : ℕ → ℕ → ℕ → Computed
 unfolding plain
 orOf k a b = plain k (bitOr (low k a) (low k b)) false false
 
+-- XOR: H 0, C 0
 unfoldable pub xorOf : ℕ → ℕ → ℕ → Computed
 unfolding plain
 xorOf k a b = plain k (bitXor (low k a) (low k b)) false false

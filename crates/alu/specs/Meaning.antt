@@ -32,6 +32,7 @@ SumHalf =
     (k a b : ℕ) (c : Bool) → 4 ≤ k → k < 32 →
     sumOf k a b c .value % 16 + 16 * one (sumOf k a b c .flags .h) ≡ a % 16 + b % 16 + one c
 
+-- the same of a difference: the borrow from bit 4
 abbrev pub DifferenceHalf : Type 0
 DifferenceHalf =
     (k a b : ℕ) (c : Bool) → 4 ≤ k → k < 32 →

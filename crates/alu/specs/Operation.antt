@@ -7,6 +7,7 @@ use Rattle.alu.specs.declared.Arith.the-variants.{Add, Adc, Sub, Sbc, An
 use Rattle.alu.specs.Sums.{sumOf, differenceOf}
 use Rattle.alu.specs.Logic.{andOf, orOf, xorOf}
 
+-- ADD, SUB and CP leave the carry out, ADC and SBC take it; CP is SUB, and its value is put nowhere (step)
 unfoldable pub operated : Arith → ℕ → ℕ → ℕ → Bool → Computed
 operated Add k a b c = sumOf k a b false
 operated Adc k a b c = sumOf k a b c

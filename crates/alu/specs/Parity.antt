@@ -8,6 +8,7 @@ unfoldable pub onesOf : ℕ → ℕ → ℕ
 onesOf zero x = 0
 onesOf (suc k) x = x % 2 + onesOf k (x / 2)
 
+-- their number is even
 unfoldable pub evenOnes : ℕ → ℕ → Bool
 unfolding onesOf
 evenOnes k x = eqb (onesOf k x % 2) 0

@@ -26,6 +26,7 @@ added k x y c =
     false
     (leb (2 ^ k) (x + y + one c))
 
+-- ADD and ADC: of both operands the k low bits count
 unfoldable pub sumOf : ℕ → ℕ → ℕ → Bool → Computed
 sumOf k a b c = added k (low k a) (low k b) c
 
@@ -39,5 +40,6 @@ taken k x y c =
     true
     (ltb x (y + one c))
 
+-- SUB, SBC and CP, in the same way
 unfoldable pub differenceOf : ℕ → ℕ → ℕ → Bool → Computed
 differenceOf k a b c = taken k (low k a) (low k b) c

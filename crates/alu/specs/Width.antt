@@ -14,5 +14,6 @@ negative k x = leb (2 ^ (k - 1)) x
 abbrev pub weighed : ℕ → ℕ → ℕ
 weighed k x = cond (negative k x) (2 ^ (k - 1)) 0
 
+-- a bit as a number: 1 for true
 abbrev pub one : Bool → ℕ
 one b = cond b 1 0

@@ -5,6 +5,7 @@ use Rattle.answer.specs.declared.Why.the-variants.{TooMany, TooLong, Inv
 use Rattle.answer.specs.declared.Answer.{Answer}
 use Rattle.answer.specs.declared.Answer.the-variants.{Done, Refused}
 
+-- the number of a reason
 abbrev pub whyNumber : Why → ℕ
 whyNumber TooMany = 7
 whyNumber TooLong = 1
@@ -14,6 +15,7 @@ whyNumber Unlisted = 4
 whyNumber Missing = 5
 whyNumber ToRom = 6
 
+-- the number of an answer
 abbrev pub numberOf : Answer → ℕ
 numberOf Done = 0
 numberOf (Refused w) = whyNumber w

@@ -20,6 +20,7 @@ use Rattle.line.specs.declared.Line.{Line}
 use Rattle.line.specs.Text.{decimalOf, hexOf, after, lineOf}
 
 -- ---- a line that is being made: its bytes so far, and a byte more where there is room
+-- the bytes of a line so far
 abbrev pub written : Line → List ℕ
 written l = take (l .length) (l .text)
 
@@ -27,12 +28,15 @@ written l = take (l .length) (l .text)
 abbrev pub Within : Line → Type 0
 Within l = (l .length ≤ length (l .text)) × (l .length ≡ length (written l))
 
+-- no byte yet, and room for 128
 abbrev pub emptyLine : Line
 emptyLine = record { text = replicate 128 0; length = 0 }
 
+-- a byte more, where there is room
 abbrev pub plus : Line → ℕ → Line
 plus l b = cond (ltb (l .length) 128) (record { text = set (l .text) (l .length) b; length = l .length + 1 }) l
 
+-- several bytes more, one after the other
 unfoldable pub grown : Line → List ℕ → Line
 grown l [] = l
 grown l (b ∷ bs) = grown (plus l b) bs
@@ -46,6 +50,7 @@ counts done number = decimalOf done ++ after (decimalOf number ∷ [])
 abbrev pub whereOf : State → List (List ℕ)
 whereOf s = hexOf 6 (s .counter) ∷ hexOf 4 (srOf s) ∷ []
 
+-- the long register of a code in the current bank, as eight hex digits
 abbrev pub registerOf : State → ℕ → List ℕ
 registerOf s code = hexOf 8 (getRegister s Long code)
 
@@ -65,16 +70,20 @@ unfoldable pub ranLine : State → ℕ → Answer → List ℕ
 ranLine s done a = lineOf (decimalOf done) (decimalOf (numberOf a) ∷ (whereOf s ++ registersOf s))
 
 -- ---- the program: reset, and 1,000 steps with 4,096 zero bytes of RAM; an image of up to 32,768 bytes
+-- the program's RAM
 abbrev pub zeros : List ℕ
 zeros = replicate 4096 0
 
+-- the line of what a run leaves
 abbrev pub resultLine : Result → List ℕ
 resultLine r = ranLine (r .state) (r .done) (r .answer)
 
+-- the line of a refusal, or this one
 abbrev pub unlessRefused : Answer → List ℕ → List ℕ
 unlessRefused (Refused w) l = refusedLine w
 unlessRefused Done l = l
 
+-- the line of an image: 1 where it is too long, else what reset and the run give
 unfoldable pub lineFor : List ℕ → List ℕ
 lineFor image =
     cond (ltb 32768 (length image)) (refusedLine TooLong)

@@ -1,4 +1,4 @@
--- What is proved of the line, beside what the call promises.
+-- What is proved of the line, beside what the call promises. Each statement is proved in proofs/Settled.antt.
 use mathlib.Core.Path.{_≡_}
 use mathlib.Core.List.{List}
 use Prim.Native.Nat.{ℕ}

@@ -3,11 +3,13 @@ use Prim.Native.Nat.{ℕ}
 use Rattle.little.specs.declared.Size.{Size}
 use Rattle.little.specs.declared.Size.the-variants.{Byte, Word, Long}
 
+-- how many bits an operand of a size has
 abbrev pub bitsOf : Size → ℕ
 bitsOf Byte = 8
 bitsOf Word = 16
 bitsOf Long = 32
 
+-- how many bytes it has
 abbrev pub bytesOf : Size → ℕ
 bytesOf Byte = 1
 bytesOf Word = 2

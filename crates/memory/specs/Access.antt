@@ -18,38 +18,42 @@ use Rattle.memory.specs.declared.Loaded.the-variants as loaded
 abbrev pub operandAt : List ℕ → List ℕ → ℕ → Size → Place
 operandAt ram rom a size = placeOf (length ram) (length rom) a (bytesOf size)
 
--- the value at address a, low byte first
+-- the value of n bytes at a place, low byte first
 abbrev pub loadFrom : Place → List ℕ → List ℕ → ℕ → Loaded
 loadFrom (Ram o) ram rom n = loaded.Value (valueOf (take n (drop o ram)))
 loadFrom (Rom o) ram rom n = loaded.Value (valueOf (take n (drop o rom)))
 loadFrom Missing ram rom n = loaded.Refused why.Missing
 
+-- a load from two memories: an operand of a size at address a, or 5 where it is missing
 unfoldable pub loadOf : List ℕ → List ℕ → ℕ → Size → Loaded
 loadOf ram rom a size = loadFrom (operandAt ram rom a size) ram rom (bytesOf size)
 
--- whether a store at address a is done
+-- whether a store at a place is done
 abbrev pub storeTo : Place → Answer
 storeTo (Ram o) = answer.Done
 storeTo (Rom o) = answer.Refused why.ToRom
 storeTo Missing = answer.Refused why.Missing
 
+-- a store to two memories: done in RAM, 6 in ROM, 5 where it is missing
 unfoldable pub storeOf : List ℕ → List ℕ → ℕ → Size → Answer
 storeOf ram rom a size = storeTo (operandAt ram rom a size)
 
--- RAM after a store of v at address a: those bytes are v's, low byte first, and nothing else changes
+-- RAM after a store of n bytes of v at a place: those bytes are v's, low byte first, and nothing else changes
 abbrev pub ramWith : Place → List ℕ → ℕ → ℕ → List ℕ
 ramWith (Ram o) ram n v = replaced o (bytesFrom n v) ram
 ramWith (Rom o) ram n v = ram
 ramWith Missing ram n v = ram
 
+-- the same by address and size
 unfoldable pub ramAfter : List ℕ → List ℕ → ℕ → Size → ℕ → List ℕ
 ramAfter ram rom a size v = ramWith (operandAt ram rom a size) ram (bytesOf size) v
 
--- what stands from address a to the end of the memory that holds it
+-- what stands from a place to the end of the memory that holds it
 abbrev pub codeFrom : Place → List ℕ → List ℕ → List ℕ
 codeFrom (Ram o) ram rom = drop o ram
 codeFrom (Rom o) ram rom = drop o rom
 codeFrom Missing ram rom = []
 
+-- the same by address; empty where there is no memory
 unfoldable pub codeAt : List ℕ → List ℕ → ℕ → List ℕ
 codeAt ram rom a = codeFrom (placeOf (length ram) (length rom) a 1) ram rom

@@ -23,6 +23,7 @@ pub record Left : Type 0 where
   pub bytes : List ℕ
   pub ram : List ℕ
 
+-- these three together
 abbrev pub left : ℕ → List ℕ → List ℕ → Left
 left number bytes ram = record { number = number; bytes = bytes; ram = ram }
 
@@ -30,6 +31,7 @@ left number bytes ram = record { number = number; bytes = bytes; ram = ram }
 abbrev pub refusing : Why → List ℕ → List ℕ → Left
 refusing w bytes ram = left (whyNumber w) bytes ram
 
+-- what a refusal leaves, or this
 abbrev pub unless : Answer → List ℕ → List ℕ → Left → Left
 unless (Refused w) bytes ram l = refusing w bytes ram
 unless Done bytes ram l = l
@@ -39,10 +41,12 @@ unless Done bytes ram l = l
 abbrev pub roomAnswer : ℕ → Answer
 roomAnswer room = cond (eqb room 88) Done (Refused Invalid)
 
+-- the first answer where it is a refusal, else the second
 abbrev pub answerThen : Answer → Answer → Answer
 answerThen (Refused w) then = Refused w
 answerThen Done then = then
 
+-- the answer of a reset with so much room for the record
 unfoldable pub resetAnswer : ℕ → List ℕ → List ℕ → Answer
 resetAnswer room ram rom = answerThen (resetOf ram rom .answer) (roomAnswer room)
 
@@ -51,13 +55,16 @@ abbrev pub whereDone : Answer → List ℕ → List ℕ → List ℕ
 whereDone Done new old = new
 whereDone (Refused w) new old = old
 
+-- what the record holds after it
 unfoldable pub resetBytes : List ℕ → List ℕ → List ℕ → List ℕ
 resetBytes bytes ram rom = whereDone (resetAnswer (length bytes) ram rom) (recordOf (resetOf ram rom .state)) bytes
 
 -- ---- the state that a call's record holds: 1 of the memories, then 2 of the record
+-- a refusal, with the all-zero state in the place of one
 abbrev pub refusedRecord : Why → Restored
 refusedRecord w = record { answer = Refused w; state = zeroState }
 
+-- what the record holds, or why it is not opened
 unfoldable pub openedOf : List ℕ → ℕ → ℕ → Restored
 openedOf bytes ramLength romLength = cond (tooLong ramLength romLength) (refusedRecord TooLong) (loadOf bytes)
 
@@ -66,22 +73,28 @@ openedOf bytes ramLength romLength = cond (tooLong ramLength romLength) (refused
 abbrev pub stepped : Outcome → List ℕ → Left
 stepped o bytes = unless (o .answer) bytes (o .ram) (left 0 (recordOf (o .state)) (o .ram))
 
+-- the step, where the record was opened
 abbrev pub stepFrom : Restored → List ℕ → List ℕ → List ℕ → Left
 stepFrom o bytes ram rom = unless (o .answer) bytes ram (stepped (stepOf (o .state) ram rom) bytes)
 
+-- what one step leaves
 unfoldable pub stepLeft : List ℕ → List ℕ → List ℕ → Left
 stepLeft bytes ram rom = stepFrom (openedOf bytes (length ram) (length rom)) bytes ram rom
 
 -- ---- many steps: 7 before 1 and 2; then the state so far, whether all steps were done or not
+-- the state that a run starts from, or why it does not start
 abbrev pub runOpened : ℕ → List ℕ → List ℕ → List ℕ → Restored
 runOpened n bytes ram rom = cond (ltb 1000000 n) (refusedRecord TooMany) (openedOf bytes (length ram) (length rom))
 
+-- what a run leaves, with the record of the state so far
 abbrev pub ranLeft : Result → Left
 ranLeft r = left (numberOf (r .answer)) (recordOf (r .state)) (r .ram)
 
+-- the run, where it starts
 abbrev pub runFrom : Restored → ℕ → List ℕ → List ℕ → List ℕ → Left
 runFrom o n bytes ram rom = unless (o .answer) bytes ram (ranLeft (runOf n (o .state) ram rom))
 
+-- what many steps leave
 unfoldable pub runLeft : ℕ → List ℕ → List ℕ → List ℕ → Left
 runLeft n bytes ram rom = runFrom (runOpened n bytes ram rom) n bytes ram rom
 
@@ -90,6 +103,7 @@ abbrev pub doneWhere : Answer → ℕ → ℕ
 doneWhere Done d = d
 doneWhere (Refused w) d = 0
 
+-- what `done` holds after them
 unfoldable pub runDone : ℕ → List ℕ → List ℕ → List ℕ → ℕ
 runDone n bytes ram rom =
     doneWhere (runOpened n bytes ram rom .answer) (runOf n (runOpened n bytes ram rom .state) ram rom .done)

@@ -1,4 +1,4 @@
--- What is proved of the calls, beside what each promises.
+-- What is proved of the calls, beside what each promises. Each statement is proved in proofs/Settled.antt.
 use Prim.Native.Nat.{ℕ}
 use mathlib.Core.Path.{_≡_}
 use mathlib.Core.List.{List}
@@ -8,13 +8,16 @@ use Rattle.little.specs.Bytes.{Bytes}
 use Rattle.module.specs.Calls.{left, resetAnswer, resetBytes, stepLeft, runLeft, runDone}
 
 -- ---- what each call promises of its number and of what it leaves
+-- reset: number, and the bytes b of the record afterwards
 abbrev pub ResetMeets : List ℕ → List ℕ → List ℕ → ℕ → List ℕ → Type 0
 ResetMeets bytes ram rom number b =
     (number ≡ numberOf (resetAnswer (length bytes) ram rom)) × (b ≡ resetBytes bytes ram rom)
 
+-- step: number, record b and RAM m afterwards
 abbrev pub StepMeets : List ℕ → List ℕ → List ℕ → ℕ → List ℕ → List ℕ → Type 0
 StepMeets bytes ram rom number b m = left number b m ≡ stepLeft bytes ram rom
 
+-- run: the same, and the count of steps done
 abbrev pub RunMeets : ℕ → List ℕ → List ℕ → List ℕ → ℕ → List ℕ → List ℕ → ℕ → Type 0
 RunMeets steps bytes ram rom number b m done =
     (left number b m ≡ runLeft steps bytes ram rom) × (done ≡ runDone steps bytes ram rom)

@@ -32,7 +32,7 @@ CopyRepeats =
     ElementsThere (countOf s) f s ram rom → TargetsInRam (countOf s) f s ram → Spares (countOf s) f s →
     EndsAfter (countOf s) f s ram rom
 
--- a compare ends at the first equal element, number i from 0, which is i + 1 steps; memory is as it was
+-- a compare ends at the first equal element, number i from 0, which is i + 1 steps (its rounds leave memory as it was)
 abbrev pub CompareFinds : Type 0
 CompareFinds =
     (f : Form) (s : State) (ram rom : List ℕ) (i : ℕ) → At f s ram rom → i < countOf s →

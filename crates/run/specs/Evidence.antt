@@ -21,45 +21,55 @@ use Rattle.run.specs.Runs.{ldirRam, ldirStart, lddrRam, lddrStart, cpirR
 
 -- ---- what each statement supposes
 module _ (f : Form) (s : State) (ram rom : List ℕ) where
+  -- all that CopyRepeats supposes
   abbrev pub CopyMet : Type 0
   CopyMet =
       At f s ram rom × (f .copies ≡ true)
       × ElementsThere (countOf s) f s ram rom × TargetsInRam (countOf s) f s ram × Spares (countOf s) f s
 
+  -- all that CompareFinds supposes of a match at element i
   abbrev pub FindMet : ℕ → Type 0
   FindMet i =
       At f s ram rom × (i < countOf s)
       × ElementsThere (i + 1) f s ram rom × NoneEqual i f s ram rom × EqualAt f s ram rom i
 
+  -- all that CompareExhausts supposes
   abbrev pub ExhaustMet : Type 0
   ExhaustMet =
       At f s ram rom × (f .copies ≡ false)
       × ElementsThere (countOf s) f s ram rom × NoneEqual (countOf s) f s ram rom
 
+  -- all that NotBefore supposes of n steps
   abbrev pub BeforeMet : ℕ → Type 0
   BeforeMet n =
       At f s ram rom × (n < countOf s)
       × ElementsThere n f s ram rom × TargetsInRam n f s ram × Spares n f s × NoneEqual n f s ram rom
 
+  -- all that StopsAtRefusal supposes of a refusal after n rounds
   abbrev pub RefusalMet : ℕ → Why → Type 0
   RefusalMet n w = BeforeMet n × ((t : State) × (m : List ℕ) × (roundsOf n f s ram rom ≡ did t m) × (roundOf f t m rom ≡ no w))
 
 -- ---- LDIR, LDDR, CPIR and CPDR
+-- the form of a repeating copy, and of a repeating compare
 abbrev pub copying : Size → Bool → ℕ → ℕ → Form
 copying z up to from = record { copies = true; size = z; up = up; again = true; to = to; from = from }
 
 abbrev pub comparing : Size → Bool → ℕ → Form
 comparing z up r = record { copies = false; size = z; up = up; again = true; to = r; from = r }
 
+-- LDIR of bytes to (XDE) from (XHL)
 abbrev pub ldir : Form
 ldir = copying Byte true 2 3
 
+-- LDDR of words to (XIX) from (XIY)
 abbrev pub lddr : Form
 lddr = copying Word false 4 5
 
+-- CPIR of bytes at (XIX)
 abbrev pub cpir : Form
 cpir = comparing Byte true 4
 
+-- CPDR of words at (XDE)
 abbrev pub cpdr : Form
 cpdr = comparing Word false 2
 
@@ -74,6 +84,7 @@ toRomRom = 0x83 ∷ 0x13 ∷ 0x00 ∷ 0x00 ∷ []
 abbrev pub toRomStart : State
 toRomStart = begin 0x00 ▹ XHL 5 ▹ XDE 1 ▹ BC 4 ▹ Counter 0xFFFFFC
 
+-- each of these starts meets what is supposed
 abbrev pub SmallMet : Type 0
 SmallMet =
     CopyMet ldir ldirStart ldirRam []
@@ -107,6 +118,7 @@ seekRom = 0x84 ∷ 0x15 ∷ []
 unfoldable pub fullSeek : State
 fullSeek = begin 0x00 ▹ A 1 ▹ XIX 0 ▹ BC 0 ▹ Counter 0xFFFFFE
 
+-- both count 65,536, and meet what is supposed
 abbrev pub FullMet : Type 0
 FullMet =
     (countOf fullCopy ≡ 65536) × (countOf fullSeek ≡ 65536)
@@ -119,6 +131,7 @@ abbrev pub StopsAfter : ℕ → ℕ → Why → Form → State → List ℕ → 
 StopsAfter n steps w f s ram rom =
     (t : State) × (m : List ℕ) × (roundsOf n f s ram rom ≡ did t m) × (runOf steps s ram rom ≡ ends n t m (Refused w))
 
+-- how each of these runs ends
 abbrev pub DemandSays : Type 0
 DemandSays =
     EndsAfter 3 ldir ldirStart ldirRam []

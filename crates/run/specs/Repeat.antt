@@ -50,7 +50,8 @@ abbrev pub targetOf : Form → State → ℕ → ℕ
 targetOf f s i = passed f (getRegister s Long (f .to)) i % 2 ^ 24
 
 -- ---- what demand 3 supposes
--- a valid state, with both memories within their limits, at a listed repeating copy or compare whose bytes lie in one memory
+-- a valid state, with both memories within their limits, at a listed repeating copy or compare whose bytes lie in one memory;
+-- `sound`, `ramBytes` and `romBytes` say only that each number fits where the code holds it, which the types see to
 pub record At (f : Form) (s : State) (ram rom : List ℕ) : Type 0 where
   pub sound : Sound s
   pub valid : validOf s ≡ true

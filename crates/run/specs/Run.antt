@@ -18,9 +18,11 @@ pub record Result : Type 0 where
   pub done : ℕ
   pub answer : Answer
 
+-- a function's result, with what RAM holds after it
 abbrev pub result : Ran → List ℕ → Result
 result r ram = record { state = r .state; ram = ram; done = r .done; answer = r .answer }
 
+-- what a function answers for a run that ends after d steps
 abbrev pub stopped : State → ℕ → Answer → Ran
 stopped s d a = record { state = s; done = d; answer = a }
 

@@ -23,6 +23,7 @@ lddrRam = 0x95 ∷ 0x13 ∷ 0x00 ∷ 0x00 ∷ 0x00 ∷ 0x00 ∷ 0xB1 ∷ 0xB2 �
 abbrev pub lddrStart : State
 lddrStart = begin 0xD7 ▹ XIY 8 ▹ XIX 4 ▹ BC 2
 
+-- the table of copies
 unfoldable pub copies : List Case
 copies =
     -- not yet: the counter is at it still, V says that there is more
@@ -60,6 +61,7 @@ cpdrRam = 0x92 ∷ 0x17 ∷ 0x34 ∷ 0x12 ∷ 0x78 ∷ 0x56 ∷ []
 abbrev pub cpdrStart : State
 cpdrStart = begin 0x01 ▹ XDE 4 ▹ BC 2
 
+-- the table of compares
 unfoldable pub compares : List Case
 compares =
     -- equal at the first element, and at the last: past the match
@@ -104,6 +106,7 @@ onto =
     ∷ []
 
 -- ---- the checks of a run, in their order
+-- the table of checks
 unfoldable pub checks : List Case
 checks =
     -- 7: one step too many is refused first of all, and the most that may be asked for is not
@@ -117,5 +120,6 @@ checks =
     ∷ row (begin 0x20) [] [] 0 (ends 0 (begin 0x20) [] (Refused Invalid))
     ∷ []
 
+-- all these tables hold
 abbrev pub RunsHold : Type 0
 RunsHold = Hold copies × Hold compares × Hold refused × Hold onto × Hold checks

@@ -1,4 +1,4 @@
--- What is proved of a run, beside what the call promises and demand 3.
+-- What is proved of a run, beside what the call promises and demand 3. Each statement is proved in proofs/Joins.antt.
 use Prim.Native.Nat.{ℕ, _+_, _<_, _≤_}
 use mathlib.Core.Path.{_≡_}
 use mathlib.Core.Logic.{_⊎_}
@@ -42,10 +42,12 @@ doneBy (Refused w) = 0
 abbrev pub asRun : Outcome → Result
 asRun o = ends (doneBy (o .answer)) (o .state) (o .ram) (o .answer)
 
+-- a run of one step is a step
 abbrev pub OneStepRun : Type 0
 OneStepRun = (s : State) (ram rom : List ℕ) → runOf 1 s ram rom ≡ asRun (stepOf s ram rom)
 
--- the count is the steps asked for, or those before the first one refused, and the answer is then that step's
+-- the count is the steps asked for, or those before the first one refused, and the answer is then that step's;
+-- where none was done, OneStepRun and RunStops say it
 abbrev pub CountIsTrue : Type 0
 CountIsTrue =
     (n : ℕ) (s : State) (ram rom : List ℕ) →

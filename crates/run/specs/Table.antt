@@ -37,6 +37,7 @@ infixl 30 _▹_
 abbrev pub _▹_ : State → (State → State) → State
 s ▹ change = change s
 
+-- registers by name, F, the bank and the counter, each set to a number
 abbrev pub A : ℕ → State → State
 A v s = setRegister s Byte 1 v
 
@@ -74,6 +75,7 @@ abbrev pub Counter : ℕ → State → State
 Counter a s = withCounter s a
 
 -- ---- how a row is written
+-- a row of a table
 abbrev pub row : State → List ℕ → List ℕ → ℕ → Result → Case
 row s ram rom steps left = record { start = s; ram = ram; rom = rom; steps = steps; left = left }
 

@@ -23,12 +23,15 @@ unfoldable pub recordOf : State → List ℕ
 recordOf s = longsBytes (s .registers) ++ (bytesFrom 4 (s .counter) ++ (bytesFrom 2 (srOf s) ++ (s .spare ∷ 0 ∷ [])))
 
 -- ---- saving: an invalid state, or a buffer that is not 88 bytes long, is refused and leaves the buffer
+-- whether a state can be saved in n bytes
 abbrev pub canSave : State → ℕ → Bool
 canSave s n = validOf s && eqb n 88
 
+-- the answer of a save
 unfoldable pub saveAnswer : State → ℕ → Answer
 saveAnswer s n = cond (canSave s n) Done (Refused Invalid)
 
+-- what the buffer holds after it
 unfoldable pub saveBytes : State → List ℕ → List ℕ
 saveBytes s buffer = cond (canSave s (length buffer)) (recordOf s) buffer
 
@@ -38,6 +41,7 @@ unfoldable pub longsAt : ℕ → List ℕ → List ℕ
 longsAt zero l = []
 longsAt (suc n) l = valueOf (take 4 l) ∷ longsAt n (drop 4 l)
 
+-- SR of a record
 abbrev pub srAt : List ℕ → ℕ
 srAt l = valueOf (take 2 (drop 84 l))
 
@@ -60,8 +64,10 @@ fixedAt l = onesIn (srAt l) && eqb (getD l 87 0) 0
 abbrev pub isRecord : List ℕ → Bool
 isRecord l = eqb (length l) 88 && (validOf (stateAt l) && fixedAt l)
 
+-- what a bad record gives: 2 and the all-zero state
 abbrev pub refused : Restored
 refused = record { answer = Refused Invalid; state = zeroState }
 
+-- what a load gives
 unfoldable pub loadOf : List ℕ → Restored
 loadOf l = cond (isRecord l) (record { answer = Done; state = stateAt l }) refused

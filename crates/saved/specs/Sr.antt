@@ -12,9 +12,11 @@ srOf s = s .flags + 2 ^ 8 * s .bank .0 + 2 ^ 11 + 2 ^ 12 * s .level .0 + 2 ^ 15
 abbrev pub flagsIn : ℕ → ℕ
 flagsIn sr = sr % 2 ^ 8
 
+-- the three bits 8 to 10; bit 10 makes the bank 4 or more, which no valid state has
 abbrev pub bankIn : ℕ → ℕ
 bankIn sr = sr / 2 ^ 8 % 2 ^ 3
 
+-- the three bits 12 to 14
 abbrev pub levelIn : ℕ → ℕ
 levelIn sr = sr / 2 ^ 12 % 2 ^ 3
 

@@ -1,4 +1,4 @@
--- What is proved of saving and loading, beside what each call promises.
+-- What is proved of saving and loading, beside what each call promises. Each statement is proved in proofs/RoundTrip.antt.
 use Prim.Native.Nat.{ℕ}
 use mathlib.Core.Path.{_≡_}
 use mathlib.Core.Bool.{true}
