@@ -28,7 +28,7 @@ unfoldable pub filled : ℕ → State → State
 filled zero s = s
 filled (suc n) s = withLong (filled n s) n 0x5A5A5A5A
 
--- as after reset, with counter 0 and this F; every register and F' hold what a wrong write would spoil
+-- bank 0, level 7, counter 0 and this F; every register, XSP too, and F' hold what a wrong write would spoil
 unfoldable pub begin : ℕ → State
 begin f = withBothFlags (filled 20 (resetState 0)) f 0x51
 
