@@ -3,6 +3,8 @@
 use Prim.Native.Nat.{ℕ, _+_}
 use mathlib.Core.List.{List}
 use mathlib.Core.Bool.{Bool, true, false, cond}
+use Rattle.answer.specs.declared.Answer.{Answer}
+use Rattle.answer.specs.declared.Answer.the-variants.{Done, Refused}
 use Rattle.little.specs.declared.Size.{Size}
 use Rattle.little.specs.declared.Size.the-variants.{Byte, Word}
 use Rattle.little.specs.Width.{bitsOf}
@@ -36,7 +38,7 @@ use Rattle.step.specs.Try.{Try, did, andThen, withLoaded}
 use Rattle.step.specs.Operand.{displaced, valueAt, putAt, numberIn, registerIn}
 use Rattle.step.specs.Flag.{flagsIn, flagged, exchanged}
 use Rattle.step.specs.Jump.{jumpOf}
-use Rattle.step.specs.Stack.{pushOf, popOf, callOf, retOf, pushFOf, popFOf}
+use Rattle.step.specs.Stack.{withStack, pushOf, popOf, callOf, retOf, pushFOf, popFOf}
 use Rattle.step.specs.Compute.{computed, storesOf, stepsOf}
 use Rattle.step.specs.Block.{roundOf, endsAt}
 
@@ -168,6 +170,11 @@ controlOf control.Jump n s = withCounter s n
 controlOf (control.JumpIf cc z) n s = jumpOf s cc (displaced (bitsOf z) (s .counter) n)
 
 -- ---- pushes, pops, calls and returns
+-- the end of the stack after a store: moved where it is done
+abbrev pub endAfter : Answer → State → ℕ → State
+endAfter Done s x = withStack s x
+endAfter (Refused w) s x = s
+
 abbrev pub stackOf : Stack → Size → Operand → State → List ℕ → List ℕ → Try
 stackOf stack.PushF z o s ram rom = pushFOf s ram rom
 stackOf stack.PopF z o s ram rom = popFOf s ram rom

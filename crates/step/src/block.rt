@@ -43,7 +43,8 @@ fn moved(f: Form, r: u8, bank: u8, regs: &mut [u32; 20])
     ensures { λ _. ⌜ ((counter level flags spare : ℕ) → stateOf (now (regs .exit)) counter bank level flags spare ≡ moved f r (stateOf (now (regs .entry)) counter bank level flags spare)) ⌝ }
 {
     let x = state::read(&*regs, bank, Size::Long, r);
-    state::write(regs, bank, Size::Long, r, stepped(f, x));
+    let y = stepped(f, x);
+    state::write(regs, bank, Size::Long, r, y);
 }
 
 fn copied(f: Form, bank: u8, flags: &mut u8, regs: &mut [u32; 20])

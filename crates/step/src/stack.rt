@@ -7,7 +7,7 @@ ghost use Rattle.state.specs.State.{stateOf};
 ghost use Rattle.state.specs.Register.{getRegister, setRegister};
 ghost use Rattle.step.specs.Try.{after, leaves};
 ghost use Rattle.step.specs.Stack.{plus, withStack, pushOf, popOf, callOf, retOf, popFOf};
-ghost use Rattle.step.specs.Kind.{stackOf};
+ghost use Rattle.step.specs.Kind.{endAfter, stackOf};
 use crate::kind::Stack;
 use crate::operand::displace;
 use crate::operand::number_in;
@@ -17,6 +17,18 @@ use answer::Answer;
 use code::Operand;
 use little::Size;
 use memory::Loaded;
+
+// Moves the stack's end where a store was done.
+fn move_end(stored: Answer, bank: u8, regs: &mut [u32; 20], end: u32)
+    ensures { λ _. ⌜ ((counter level flags spare : ℕ) → stateOf (now (regs .exit)) counter bank level flags spare ≡ endAfter stored (stateOf (now (regs .entry)) counter bank level flags spare) end) ⌝ }
+{
+    match stored {
+        Answer::Done => {
+            state::write(regs, bank, Size::Long, 7, end);
+        }
+        Answer::Refused(_) => {}
+    }
+}
 
 // Stores below the stack's end, and moves the end there where the store is done.
 fn push(
@@ -31,13 +43,9 @@ fn push(
 {
     let n = little::bytes(size) as u32;
     let end = std::num::wrapping_sub_u32(state::read(&*regs, bank, Size::Long, 7), n);
-    match memory::store(ram, rom, end % 16777216, size, v) {
-        Answer::Done => {
-            state::write(regs, bank, Size::Long, 7, end);
-            Answer::Done
-        }
-        Answer::Refused(w) => Answer::Refused(w),
-    }
+    let a = memory::store(ram, rom, end % 16777216, size, v);
+    move_end(a, bank, regs, end);
+    a
 }
 
 // The stack's end moved, as after a pop of a size.

@@ -15,7 +15,7 @@ write-requires c κs = search needs
 
 returns : tie.Need-returns
 unfolding moved
-returns c counter level flags spare = c .write .ensures counter level flags spare ∙ rw (c .before .stepped .ensures, c .before .before .before .read .ensures counter level flags spare) refl
+returns c counter level flags spare = c .write .ensures counter level flags spare ∙ rw (c .before .before .stepped .ensures, c .before .before .before .read .ensures counter level flags spare) refl
 
 pub moved-spec : {M : Type 1} → statement M
 moved-spec = tie.close (tie.spec read-requires stepped-requires write-requires returns)

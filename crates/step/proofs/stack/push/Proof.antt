@@ -8,7 +8,8 @@ use Rattle.state.specs.State.{stateOf}
 use Rattle.state.specs.Register.{getRegister}
 use Rattle.state.proofs.Laws.{register-lt}
 use Rattle.step.specs.Stack.{less, withStack, pushOf}
-use Rattle.step.proofs.Laws.{stored, not-stored, less-is}
+use Rattle.step.proofs.Laws.{less-is}
+use Rattle.step.proofs.Division.{end-after}
 use borrow.Author.Needs.{needs}
 use Rattle.step.proofs.stack.push.Statement.{statement}
 use Rattle.step.proofs.stack.push.Tie as tie
@@ -41,14 +42,8 @@ wrapping-sub-u32-requires c κs = search needs
 store-requires : tie.Need-store-requires
 store-requires c κs = search needs
 
-enum-told : tie.Need-enum-told
-enum-told c = search needs
-
-write-requires : tie.Need-write-requires
-write-requires c κs = search needs
-
-enum-known-w : tie.Need-enum-known-w
-enum-known-w c = search needs
+move-end-requires : tie.Need-move-end-requires
+move-end-requires c κs = search needs
 
 same-length : tie.Need-same-length
 same-length c = search needs
@@ -56,29 +51,13 @@ same-length c = search needs
 returns : tie.Need-returns
 unfolding pushOf
 returns c counter level flags spare =
-    let a = c .before .before .before .before .before .before .before .before .before .before .before .before .before .before .args in
+    let a = c .before .before .before .before .before .before .before .before .before .before .before .before .args in
     let s = stateOf (a .regs .now) counter (a .bank) level flags spare in
     let x = less 32 (getRegister s Long 7) (bytesOf (a .size)) in
-    let e = end-is (c .before .before .before .before .before .before .before .before) counter level flags spare in
-    rw (c .write .ensures counter level flags spare, e)
-    (stored s (withStack s x) (a .ram .now) (a .rom .now) (x % 2 ^ 24) (a .size) (a .v) (c .before .before .before .before .before .before .store .last .0)
-    (rw e at (c .before .before .before .before .before .before .store .ensures .1))
-    (sym (rw e at (c .before .before .before .before .before .before .store .ensures .0)) ∙ c .before .before .enum-told .given .1))
-
-same-length-2 : tie.Need-same-length-2
-same-length-2 c = search needs
-
-returns-2 : tie.Need-returns-2
-unfolding pushOf
-returns-2 c counter level flags spare =
-    let a = c .before .before .before .before .before .before .before .before .before .before .before .before .before .args in
-    let s = stateOf (a .regs .now) counter (a .bank) level flags spare in
-    let x = less 32 (getRegister s Long 7) (bytesOf (a .size)) in
-    let e = end-is (c .before .before .before .before .before .before .before) counter level flags spare in
-    not-stored s (withStack s x) (a .ram .now) (a .rom .now) (x % 2 ^ 24) (a .size) (a .v) (c .before .before .before .before .before .store .last .0)
-    (rw e at (c .before .before .before .before .before .store .ensures .1))
-    (c .before .w .given .0 .0)
-    (sym (rw e at (c .before .before .before .before .before .store .ensures .0)) ∙ c .before .w .given .1)
+    let e = end-is (c .before .before .before .before .before .before) counter level flags spare in
+    rw (c .move-end .ensures counter level flags spare, e)
+    (end-after s x (a .ram .now) (a .rom .now) (a .size) (a .v) (c .before .before .before .before .store .last .0) (c .before .before .before .before .store .result)
+    (rw e at (c .before .before .before .before .store .ensures .1)) (rw e at (c .before .before .before .before .store .ensures .0)))
 
 pub push-spec : {M : Type 1} → statement M
 push-spec =
@@ -89,10 +68,6 @@ push-spec =
     read-requires
     wrapping-sub-u32-requires
     store-requires
-    enum-told
-    write-requires
-    enum-known-w
+    move-end-requires
     same-length
-    returns
-    same-length-2
-    returns-2)
+    returns)
