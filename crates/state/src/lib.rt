@@ -1,8 +1,8 @@
 // The machine's state: twenty long registers, the counter, the bank, the interrupt level and two sets of flags.
 ghost use mathlib.Core.Path.{_≡_};
 ghost use Prim.Native.Nat.{ℕ, _%_, _<_};
-ghost use Rattle.state.specs.State.{stateOf, zeroState, resetState, flagsValid, validOf, longOf, withLong, withCounter, withBank, withFlags, withBothFlags};
-ghost use Rattle.state.specs.Register.{getBits, setBits, startOf, widthOf, getSlot, setSlot, indexOf, bytePart, slotOf, getRegister, setRegister};
+ghost use Rattle.state.specs.State.{stateOf, zeroState, resetState, flagsValid, validOf, longOf};
+ghost use Rattle.state.specs.Register.{getBits, setBits, startOf, widthOf, getSlot, indexOf, bytePart, slotOf, getRegister, setRegister};
 use little::Size;
 
 // A bank number: which of the four banks the codes 0 to 3 name.
@@ -99,29 +99,11 @@ impl State {
         if i < 20 { self.registers[i] } else { 0 }
     }
 
-    pub fn with_long(self, i: usize, v: u32) -> State
-        ensures { λ r. ⌜ r ≡ withLong self i v ⌝ }
-    {
-        let mut s = self;
-        if i < 20 {
-            s.registers[i] = v;
-        }
-        s
-    }
-
     pub fn get(self, t: Slot) -> u32
         ensures { λ r. ⌜ r ≡ getSlot self t ⌝ }
     {
         let p = t.part;
         bits_of(p, self.long(t.index))
-    }
-
-    pub fn set(self, t: Slot, v: u32) -> State
-        ensures { λ r. ⌜ r ≡ setSlot self t v ⌝ }
-    {
-        let i = t.index;
-        let p = t.part;
-        self.with_long(i, with_bits(p, self.long(i), v))
     }
 
     // The register of a size and a code, in the current bank.
@@ -130,49 +112,6 @@ impl State {
     {
         let b = self.bank;
         self.get(slot_of(b, size, code))
-    }
-
-    pub fn with_register(self, size: Size, code: u8, v: u32) -> State
-        ensures { λ r. ⌜ r ≡ setRegister self size code v ⌝ }
-    {
-        let b = self.bank;
-        self.set(slot_of(b, size, code), v)
-    }
-
-    // The counter is taken modulo 2^24.
-    pub fn with_counter(self, counter: u32) -> State
-        ensures { λ r. ⌜ r ≡ withCounter self counter ⌝ }
-    {
-        let mut s = self;
-        s.counter = counter % 16777216;
-        s
-    }
-
-    // The bank number is taken modulo 4.
-    pub fn with_bank(self, bank: Bank) -> State
-        ensures { λ r. ⌜ r ≡ withBank self (bank .0) ⌝ }
-    {
-        let mut s = self;
-        let b = Bank(bank.0 % 4);
-        s.bank = b;
-        s
-    }
-
-    pub fn with_flags(self, flags: u8) -> State
-        ensures { λ r. ⌜ r ≡ withFlags self flags ⌝ }
-    {
-        let mut s = self;
-        s.flags = flags;
-        s
-    }
-
-    pub fn with_both_flags(self, flags: u8, spare: u8) -> State
-        ensures { λ r. ⌜ r ≡ withBothFlags self flags spare ⌝ }
-    {
-        let mut s = self;
-        s.flags = flags;
-        s.spare = spare;
-        s
     }
 }
 

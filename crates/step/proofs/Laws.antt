@@ -19,7 +19,7 @@ use Rattle.memory.specs.Access.{loadOf, storeOf, ramAfter}
 use Rattle.memory.specs.declared.Loaded.the-variants as loaded
 use Rattle.memory.proofs.Laws.{refused-keeps}
 use Rattle.state.specs.declared.State.{State}
-use Rattle.state.specs.State.{stateOf, longOf, withBank, withCounter, withFlags, withBothFlags}
+use Rattle.state.specs.State.{stateOf, longOf, withCounter, withFlags, withBothFlags}
 use Rattle.state.specs.Register.{getRegister, getSlot}
 use Rattle.code.specs.declared.MemoryForm.{MemoryForm}
 use Rattle.code.specs.declared.Base.{Base}
@@ -90,16 +90,7 @@ module _ (s t : State) (ram rom : List ℕ) (a : ℕ) (z : Size) (v : ℕ) (m : 
   unfolding storing
   not-stored w e = rw (e, after ∙ refused-keeps ram rom a z v w e) refl
 
--- ---- the bank is taken modulo 4
-pub same-bank : (s : State) (a b : ℕ) → a % 4 ≡ b % 4 → withBank s a ≡ withBank s b
-unfolding withBank
-same-bank s a b e = rw e refl
-
 -- ---- flags
-pub same-flags : (s : State) → withFlags s (s .flags) ≡ s
-unfolding withFlags withBothFlags
-same-flags s = refl
-
 -- new flags move no operand
 pub address-flags : (s : State) (f : ℕ) (m : MemoryForm) → addressOf (withFlags s f) m ≡ addressOf s m
 unfolding addressOf getRegister getSlot longOf withFlags withBothFlags

@@ -1,6 +1,6 @@
 -- One walk over what each instruction does: what it keeps of the state, the bytes that it spares, and its answer.
 use Prim.Native.Nat.{ℕ, _+_, _<_, _≤_}
-use mathlib.Core.Path.{_≡_, refl, ap, sym, _∙_, subst}
+use mathlib.Core.Path.{_≡_, refl, ap, _∙_, subst}
 use mathlib.Core.List.{List}
 use mathlib.Core.Bool.{Bool, true, false, cond}
 use mathlib.Core.Logic.{_⊎_, ⊎-elim}
@@ -37,7 +37,7 @@ use Rattle.step.specs.Compute.{computed, resultIn, storesOf, answerIn}
 use Rattle.step.specs.Block.{counted, moved, copied, compared, roundOf, goesOn, endsAt}
 use Rattle.step.specs.Exec.{pastOf, effectOf}
 use Rattle.step.specs.Touched.{Span, none, bytes, operandSpan, onStack, belowStack, readOf, targetOf, loadTo, readAnswer, storeAnswer, unless, answerBy, Spares}
-use Rattle.step.proofs.Laws.{same-flags, address-flags}
+use Rattle.step.proofs.Laws.{address-flags}
 
 -- what no change of the state breaks
 pub record Kept (P : State → Type 0) : Type 0 where

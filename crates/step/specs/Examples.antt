@@ -12,7 +12,6 @@ use Rattle.little.specs.declared.Size.the-variants.{Byte, Word, Long}
 use Rattle.state.specs.State.{zeroState, withCounter, withBank, withFlags}
 use Rattle.state.specs.Register.{setRegister}
 use Rattle.state.specs.declared.State.{State}
-use Rattle.step.specs.Try.{Outcome}
 use Rattle.step.specs.Step.{stepOf}
 
 -- one thing that a state or RAM holds

@@ -23,7 +23,13 @@ fn counted(bank: u8, regs: &mut [u32; 20])
     ensures { λ _. ⌜ ((counter level flags spare : ℕ) → stateOf (now (regs .exit)) counter bank level flags spare ≡ counted (stateOf (now (regs .entry)) counter bank level flags spare)) ⌝ }
 {
     let bc = (state::read(&*regs, bank, Size::Word, 1) % 65536) as u16;
-    state::write(regs, bank, Size::Word, 1, std::num::wrapping_sub_u16(bc, 1) as u32);
+    state::write(
+        regs,
+        bank,
+        Size::Word,
+        1,
+        std::num::wrapping_sub_u16(bc, 1) as u32,
+    );
 }
 
 // A pointer's value past its element.

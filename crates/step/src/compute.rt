@@ -191,14 +191,8 @@ fn made(
         Use::From(_) => kept(flags, v, operand),
         Use::Load(r) => kept(flags, v, Operand::Register(r)),
         Use::Compute(op, side) => arithmetic(op, side, v, bank, flags, regs, size, operand),
-        Use::Inc(n) => result(
-            alu::inc(alu::unpack(flags), size, v, steps_of(n)),
-            operand,
-        ),
-        Use::Dec(n) => result(
-            alu::dec(alu::unpack(flags), size, v, steps_of(n)),
-            operand,
-        ),
+        Use::Inc(n) => result(alu::inc(alu::unpack(flags), size, v, steps_of(n)), operand),
+        Use::Dec(n) => result(alu::dec(alu::unpack(flags), size, v, steps_of(n)), operand),
         Use::Shift(kind, n) => result(alu::shift_by(kind, size, v, n), operand),
         Use::Extz => kept(flags, alu::extz(size, v), operand),
         Use::Exts => kept(flags, alu::exts(size, v), operand),

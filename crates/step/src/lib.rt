@@ -67,7 +67,19 @@ fn execute(
     let op = i.op;
     let size = i.size;
     let operand = i.operand;
-    match effect::effect(op, size, operand, at, regs, &mut *counter, bank, flags, spare, ram, rom) {
+    match effect::effect(
+        op,
+        size,
+        operand,
+        at,
+        regs,
+        &mut *counter,
+        bank,
+        flags,
+        spare,
+        ram,
+        rom,
+    ) {
         Answer::Done => Answer::Done,
         Answer::Refused(w) => {
             *counter = at;
@@ -113,7 +125,15 @@ fn whole_once(s: State, ram: &mut [u8], rom: &[u8]) -> Stepped
     let mut bank = b.0;
     let mut flags = s.flags;
     let mut spare = s.spare;
-    let a = once(&mut regs, &mut counter, &mut bank, &mut flags, &mut spare, ram, rom);
+    let a = once(
+        &mut regs,
+        &mut counter,
+        &mut bank,
+        &mut flags,
+        &mut spare,
+        ram,
+        rom,
+    );
     let t = state::whole(regs, counter, bank, level, flags, spare);
     Stepped {
         state: t,

@@ -31,14 +31,7 @@ fn move_end(stored: Answer, bank: u8, regs: &mut [u32; 20], end: u32)
 }
 
 // Stores below the stack's end, and moves the end there where the store is done.
-fn push(
-    bank: u8,
-    regs: &mut [u32; 20],
-    ram: &mut [u8],
-    rom: &[u8],
-    size: Size,
-    v: u32,
-) -> Answer
+fn push(bank: u8, regs: &mut [u32; 20], ram: &mut [u8], rom: &[u8], size: Size, v: u32) -> Answer
     ensures { λ a. ⌜ ((counter level flags spare : ℕ) → after a (stateOf (now (regs .exit)) counter bank level flags spare) (now (ram .exit)) ≡ leaves (stateOf (now (regs .entry)) counter bank level flags spare) (now (ram .entry)) (pushOf (stateOf (now (regs .entry)) counter bank level flags spare) (now (ram .entry)) (now (rom .entry)) size v)) ⌝ }
 {
     let n = little::bytes(size) as u32;

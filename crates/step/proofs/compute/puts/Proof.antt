@@ -22,7 +22,7 @@ same-length : tie.Need-same-length
 same-length c = search needs
 
 returns : tie.Need-returns
-returns c counter level spare = 
+returns c counter level spare =
     rw (sym (c .before .before .before .before .before .before .before .before .before .before .before .before .source .ensures counter level (c .before .before .before .before .before .before .before .before .before .before .before .before .before .before .before .before .before .args .flags .now) spare) ∙ c .before .before .before .before .before .before .before .before .before .before .v .given .1)
     (c .before .before .put .ensures counter level spare ∙ rw (c .before .before .before .before .before .before .made .ensures counter level spare) refl)
 

@@ -1,14 +1,17 @@
-use Prim.Native.Nat.{ℕ, _%_, _^_}
-use mathlib.Core.Path.{_≡_, sym, _∙_}
+use Prim.Native.Nat.{ℕ}
+use mathlib.Core.Path.{_≡_, ap, _∙_}
 use native.Mathlib.Omega.{arith}
 use Rattle.little.specs.Width.{bytesOf}
 use Rattle.little.specs.declared.Size.the-variants.{Long}
 use Rattle.memory.proofs.Laws.{bytes-le}
 use Rattle.state.specs.State.{stateOf}
 use Rattle.state.specs.Register.{getRegister}
+use Rattle.state.specs.declared.State.{State}
 use Rattle.state.proofs.Laws.{register-lt}
-use Rattle.step.specs.Stack.{less, withStack, pushOf}
+use Rattle.step.specs.Stack.{less, pushOf}
 use Rattle.step.proofs.Laws.{less-is}
+use Rattle.step.specs.Try.{after}
+use Rattle.step.specs.Kind.{endAfter}
 use Rattle.step.proofs.Division.{end-after}
 use borrow.Author.Needs.{needs}
 use Rattle.step.proofs.stack.push.Statement.{statement}
@@ -55,9 +58,10 @@ returns c counter level flags spare =
     let s = stateOf (a .regs .now) counter (a .bank) level flags spare in
     let x = less 32 (getRegister s Long 7) (bytesOf (a .size)) in
     let e = end-is (c .before .before .before .before .before .before) counter level flags spare in
-    rw (c .move-end .ensures counter level flags spare, e)
-    (end-after s x (a .ram .now) (a .rom .now) (a .size) (a .v) (c .before .before .before .before .store .last .0) (c .before .before .before .before .store .result)
-    (rw e at (c .before .before .before .before .store .ensures .1)) (rw e at (c .before .before .before .before .store .ensures .0)))
+    let stored = c .before .before .before .before .store .result in
+    let m = c .before .before .before .before .store .last .0 in
+    ap (λ (t : State). after stored t m) (c .move-end .ensures counter level flags spare ∙ ap (endAfter stored s) e)
+    ∙ end-after s x (a .ram .now) (a .rom .now) (a .size) (a .v) m stored (rw e at (c .before .before .before .before .store .ensures .1)) (rw e at (c .before .before .before .before .store .ensures .0))
 
 pub push-spec : {M : Type 1} → statement M
 push-spec =
