@@ -1,3 +1,6 @@
+use mathlib.Core.Path.{ap, _∙_}
+use Rattle.state.specs.declared.State.{State}
+use Rattle.step.specs.Try.{after}
 use borrow.Author.Needs.{needs}
 use Rattle.step.proofs.whole_once.Statement.{statement}
 use Rattle.step.proofs.whole_once.Tie as tie
@@ -12,7 +15,9 @@ same-length : tie.Need-same-length
 same-length c = search needs
 
 returns : tie.Need-returns
-returns c = rw (c .whole .ensures) (c .before .before .before .once .ensures (c .before .before .before .before .before .before .before .before .before .before .before .before .before .before .before .args .s .level .0))
+returns c =
+    let o = c .before .before .before .once in
+    ap (λ (t : State). after (o .result) t (o .last .1 .1 .1 .1 .1 .0)) (c .whole .ensures) ∙ o .ensures (c .before .before .before .before .before .before .before .before .before .before .before .before .before .before .before .args .s .level .0)
 
 pub whole-once-spec : {M : Type 1} → statement M
 whole-once-spec = tie.close (tie.spec once-requires whole-requires same-length returns)
