@@ -18,6 +18,7 @@ use Rattle.code.specs.Registers.{registerRows, placesRows}
 use Rattle.code.specs.Memory.{form, memoryRows, storeRows, copies, compares, blocks, indirectRows}
 use Rattle.code.specs.Listed.{absoluteRows, bankNumberRows, bankRows, flagRows, constantRows, stackRows, jumpRows, relativeRows, registerFormRows, memoryFormRows, memoryAtRows, storeFormRows, firstRows, decodeOf}
 
+-- bytes, and what they are
 pub record Example : Type 0 where
   pub code : List ℕ
   pub means : Decoded
@@ -26,6 +27,7 @@ infix 20 _is_
 abbrev pub _is_ : List ℕ → Decoded → Example
 s is d = record { code = s; means = d }
 
+-- codes of every bullet of the list, and some that are not listed
 abbrev pub examples : List Example
 examples =
     -- NOP, INCF, DECF, LDF
@@ -113,6 +115,7 @@ examples =
     ((0xC3 ∷ []) is Unlisted) ∷
     []
 
+-- all of them are so, by computation
 pub decoded : map (λ e. decodeOf (e .code)) examples ≡ map (λ e. e .means) examples
 unfolding decodeOf firstRows bankRows bankNumberRows flagRows constantRows stackRows jumpRows relativeRows registerFormRows memoryFormRows memoryAtRows storeFormRows absoluteRows registerRows placesRows memoryRows storeRows copies compares blocks indirectRows judge numberAt lookup valueOf
 decoded = refl

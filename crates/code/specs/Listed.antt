@@ -101,7 +101,7 @@ registerFormRows =
 abbrev pub formWith : Base → ℕ → (Operand → List Row) → Said
 formWith base n rows = number n (λ v. byRows (rows (form base v)))
 
--- n8, n16, n24 at three bytes in a row
+-- n8, n16, n24, at a first byte and the two after it
 unfoldable pub absoluteRows : ℕ → (Operand → List Row) → List Row
 absoluteRows a rows =
     (one a ⇒ λ b. formWith Absolute8 1 rows)

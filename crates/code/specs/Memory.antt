@@ -39,9 +39,11 @@ form base v = Memory (record { base = base; number = v })
 abbrev pub block : Form → Said
 block f = whole (Block f) (f .size) (form (Indirect (f .from)) 0)
 
+-- LDI, LDIR, LDD, LDDR: to where `to` points, from where `from` points
 abbrev pub copy : Size → Bool → Bool → ℕ → ℕ → Said
 copy z up again to from = block (record { copies = true; size = z; up = up; again = again; to = to; from = from })
 
+-- CPI, CPIR, CPD, CPDR: with where r points
 abbrev pub compare : Size → Bool → Bool → ℕ → Said
 compare z up again r = block (record { copies = false; size = z; up = up; again = again; to = r; from = r })
 

@@ -25,6 +25,7 @@ ConstantIn n (Register r) = ⊥
 ConstantIn n (Constant v) = v < n
 ConstantIn n (Memory m) = ⊥
 
+-- the register of a base is 0 to 7, and its number fits its bytes
 abbrev pub BaseIn : Base → ℕ → Type 0
 BaseIn (Indirect r) v = (r < 8) × (v ≡ 0)
 BaseIn (Displaced r) v = (r < 8) × (v < 256)
@@ -44,11 +45,13 @@ PlaceIn (Register r) = r < 8
 PlaceIn (Constant v) = ⊥
 PlaceIn (Memory m) = BaseIn (m .base) (m .number)
 
+-- a size that is not a byte
 abbrev pub NotByte : Size → Type 0
 NotByte Byte = ⊥
 NotByte Word = Unit {0}
 NotByte Long = Unit {0}
 
+-- a size that is not a long
 abbrev pub NotLong : Size → Type 0
 NotLong Byte = Unit {0}
 NotLong Word = Unit {0}
@@ -65,6 +68,7 @@ BlockOperand r (Register n) = ⊥
 BlockOperand r (Constant v) = ⊥
 BlockOperand r (Memory m) = (m .base ≡ Indirect r) × (m .number ≡ 0)
 
+-- what the operand, the size and the numbers of each operation can be
 abbrev pub InRange : Op → Size → Operand → Type 0
 InRange Nop z o = ConstantIn 1 o
 InRange Incf z o = ConstantIn 1 o

@@ -11,16 +11,19 @@ pub data Bytes : Type 0 where
   run : ℕ → ℕ → Bytes  -- from the first to the second
   columns : ℕ → Bytes  -- 8 bytes from here, and again every 16 bytes up to FFH
 
+-- whether the bytes of a row have b among them
 abbrev pub has : Bytes → ℕ → Bool
 has (one a) b = eqb b a
 has (run lo hi) b = leb lo b && leb b hi
 has (columns lo) b = leb lo b && leb b 0xFF && eqb (b / 8 % 2) (lo / 8 % 2)
 
+-- a row: some bytes, and what each of them says
 pub record Row : Type 0 where
   pub bytes : Bytes
   pub says : ℕ → Said
 
 infix 20 _⇒_
+-- a row written out
 abbrev pub _⇒_ : Bytes → (ℕ → Said) → Row
 b ⇒ f = record { bytes = b; says = f }
 

@@ -24,6 +24,7 @@ pub data Said : Type 0 where
 unfoldable pub numberAt : List ℕ → ℕ → ℕ → Found
 numberAt s i n = cond (leb (i + n) (length s)) (Value (valueOf (take n (drop i s)))) Missing
 
+-- what is made of a number that was found; without it the code is short
 abbrev pub withFound : Found → (ℕ → Decoded) → Decoded
 withFound (Value v) k = k v
 withFound Missing k = Short
@@ -33,6 +34,7 @@ abbrev pub valueIn : Found → ℕ
 valueIn (Value v) = v
 valueIn Missing = 0
 
+-- a whole instruction from its parts
 abbrev pub wholeOf : Op → Size → Operand → ℕ → Decoded
 wholeOf op size operand length = Whole (record { op = op; size = size; operand = operand; length = length })
 

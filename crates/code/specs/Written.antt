@@ -17,12 +17,13 @@ use Rattle.code.specs.declared.Base.the-variants.{Indirect, Displaced, A
 use Rattle.code.specs.declared.Operand.{Operand}
 use Rattle.code.specs.declared.Operand.the-variants.{Register, Constant, Memory}
 
--- 10 in a code's first byte for each step of the size
+-- 10H in a code's first byte for each step of the size
 abbrev pub sizeStep : Size → ℕ
 sizeStep Byte = 0
 sizeStep Word = 16
 sizeStep Long = 32
 
+-- the number of an operation in its code
 abbrev pub arithNumber : Arith → ℕ
 arithNumber Add = 0
 arithNumber Adc = 1
@@ -33,17 +34,20 @@ arithNumber Xor = 5
 arithNumber Or = 6
 arithNumber Cp = 7
 
+-- the number of a shift in its code
 abbrev pub shiftNumber : Shift → ℕ
 shiftNumber Sla = 0
 shiftNumber Sra = 1
 shiftNumber Sll = 2
 shiftNumber Srl = 3
 
+-- the code of the register that an operand is; 0 where it is none
 abbrev pub registerIn : Operand → ℕ
 registerIn (Register r) = r
 registerIn (Constant v) = 0
 registerIn (Memory m) = 0
 
+-- the number that an operand is; 0 where it is none
 abbrev pub constantIn : Operand → ℕ
 constantIn (Register r) = 0
 constantIn (Constant v) = v
@@ -57,6 +61,7 @@ baseCode g Absolute8 v = (0xC0 + g) ∷ bytesFrom 1 v
 baseCode g Absolute16 v = (0xC1 + g) ∷ bytesFrom 2 v
 baseCode g Absolute24 v = (0xC2 + g) ∷ bytesFrom 3 v
 
+-- the first byte of an operand's form, and the bytes of its number; g says the group of the size
 abbrev pub placeCode : ℕ → Operand → List ℕ
 placeCode g (Register r) = (0xC8 + g + r) ∷ []
 placeCode g (Constant v) = []
@@ -68,9 +73,11 @@ loadCode (Register r) = 0x88
 loadCode (Constant v) = 0
 loadCode (Memory m) = 0x20
 
+-- the second byte of a copy or a compare
 abbrev pub blockCode : Bool → Bool → Bool → ℕ
 blockCode copies up again = 0x10 + cond copies 0 4 + cond up 0 2 + cond again 1 0
 
+-- the bytes of an instruction
 unfoldable pub codeOf : Op → Size → Operand → List ℕ
 codeOf Nop z o = 0x00 ∷ []
 codeOf Incf z o = 0x0C ∷ []

@@ -20,7 +20,7 @@ use Rattle.state.specs.State.{validOf, zeroState}
 use Rattle.state.specs.declared.State.{State}
 use Rattle.state.proofs.Valid.{Valid, valid-says, valid-from, valid-reset, and-true}
 use Rattle.saved.specs.declared.Restored.{Restored}
-use Rattle.saved.specs.Record.{recordOf, saveAnswer, saveBytes, stateAt, fixedAt, isRecord, loadOf, refused}
+use Rattle.saved.specs.Record.{recordOf, saveAnswer, saveBytes, stateAt, fixedAt, isRecord, loadOf, refusedRecord}
 use Rattle.step.specs.declared.Stepped.{Stepped}
 use Rattle.step.specs.Try.{Try, did, no, Outcome, leaves}
 use Rattle.step.specs.Step.{tooLong, guarded, onceOf, tryOf, stepOf}
@@ -30,7 +30,7 @@ use Rattle.run.specs.declared.Ran.{Ran}
 use Rattle.run.specs.Run.{Result, result, ends, afterChecks, goOf, runOf}
 use Rattle.run.proofs.Laws.{go-did, go-no}
 use Rattle.run.proofs.Joins.{one-step-run}
-use Rattle.module.specs.Calls.{left, roomAnswer, whereDone, resetAnswer, resetBytes, refusedRecord, openedOf, stepLeft, runLeft, runDone}
+use Rattle.module.specs.Calls.{left, roomAnswer, whereDone, resetAnswer, resetBytes, openedOf, stepLeft, runLeft, runDone}
 
 -- ---- the states that are written are valid
 zero-valid : Valid zeroState
@@ -88,8 +88,8 @@ load-done : (b : List ℕ) → loadOf b .answer ≡ Done → Valid (loadOf b .st
 unfolding loadOf
 load-done b h = go (isRecord b) refl h
   where
-    go : (x : Bool) → isRecord b ≡ x → cond x (record { answer = Done; state = stateAt b }) refused .answer ≡ Done →
-        Valid (cond x (record { answer = Done; state = stateAt b }) refused .state) × (length b ≡ 88)
+    go : (x : Bool) → isRecord b ≡ x → cond x (record { answer = Done; state = stateAt b }) (refusedRecord Invalid) .answer ≡ Done →
+        Valid (cond x (record { answer = Done; state = stateAt b }) (refusedRecord Invalid) .state) × (length b ≡ 88)
     go true e f =
         let a = and-true (eqb (length b) 88) _ e in
         (valid-says (stateAt b) (and-true (validOf (stateAt b)) (fixedAt b) (a .1) .0), eqb-true _ _ (a .0))

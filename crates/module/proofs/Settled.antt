@@ -8,16 +8,16 @@ use lib.ListN.{length}
 use lib.Dec.{ltb}
 use Rattle.answer.specs.declared.Answer.{Answer}
 use Rattle.answer.specs.declared.Answer.the-variants.{Done, Refused}
-use Rattle.answer.specs.declared.Why.the-variants.{TooMany, TooLong}
+use Rattle.answer.specs.declared.Why.the-variants.{TooMany, TooLong, Invalid}
 use Rattle.state.specs.declared.State.{State}
-use Rattle.saved.specs.Record.{recordOf, stateAt, isRecord, loadOf, refused}
+use Rattle.saved.specs.Record.{recordOf, stateAt, isRecord, loadOf, refusedRecord}
 use Rattle.little.specs.Bytes.{Bytes}
 use Rattle.saved.proofs.RoundTrip.{read-saves-back}
 use Rattle.step.specs.Try.{Try, did, no, leaves}
 use Rattle.step.specs.Step.{tooLong, guarded, tryOf, stepOf}
 use Rattle.run.specs.Run.{Result, ends, afterChecks, goOf, runOf}
 use Rattle.run.proofs.Laws.{go-none, go-did, go-no}
-use Rattle.module.specs.Calls.{Left, refusedRecord, openedOf, unless, doneWhere, ranLeft, stepped, stepLeft, runOpened, runLeft, runDone}
+use Rattle.module.specs.Calls.{Left, openedOf, unless, doneWhere, ranLeft, stepped, stepLeft, runOpened, runLeft, runDone}
 use Rattle.module.specs.Statements.{Settled, StepRefusedKeeps, RunNothingKeeps}
 
 pub settled : Settled
@@ -79,8 +79,8 @@ unfolding openedOf loadOf
 opened-back n b ram rom bytes h = go (ltb 1000000 n) (tooLong (length ram) (length rom)) (isRecord b) refl h
   where
     go : (x y z : Bool) → isRecord b ≡ z →
-        cond x (refusedRecord TooMany) (cond y (refusedRecord TooLong) (cond z (record { answer = Done; state = stateAt b }) refused)) .answer ≡ Done →
-        recordOf (cond x (refusedRecord TooMany) (cond y (refusedRecord TooLong) (cond z (record { answer = Done; state = stateAt b }) refused)) .state) ≡ b
+        cond x (refusedRecord TooMany) (cond y (refusedRecord TooLong) (cond z (record { answer = Done; state = stateAt b }) (refusedRecord Invalid))) .answer ≡ Done →
+        recordOf (cond x (refusedRecord TooMany) (cond y (refusedRecord TooLong) (cond z (record { answer = Done; state = stateAt b }) (refusedRecord Invalid))) .state) ≡ b
     go false false true e f = read-saves-back b bytes e
     go false false false e f = let k : _≡_ {A = ℕ} 0 1 = cc in absurd (omega arith)
     go false true z e f = let k : _≡_ {A = ℕ} 0 1 = cc in absurd (omega arith)

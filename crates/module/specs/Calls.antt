@@ -9,9 +9,8 @@ use Rattle.answer.specs.declared.Answer.the-variants.{Done, Refused}
 use Rattle.answer.specs.declared.Why.{Why}
 use Rattle.answer.specs.declared.Why.the-variants.{TooMany, TooLong, Invalid}
 use Rattle.answer.specs.Number.{whyNumber, numberOf}
-use Rattle.state.specs.State.{zeroState}
 use Rattle.saved.specs.declared.Restored.{Restored}
-use Rattle.saved.specs.Record.{recordOf, loadOf}
+use Rattle.saved.specs.Record.{recordOf, refusedRecord, loadOf}
 use Rattle.step.specs.Try.{Outcome}
 use Rattle.step.specs.Step.{tooLong, stepOf}
 use Rattle.step.specs.Reset.{resetOf}
@@ -60,10 +59,6 @@ unfoldable pub resetBytes : List ℕ → List ℕ → List ℕ → List ℕ
 resetBytes bytes ram rom = whereDone (resetAnswer (length bytes) ram rom) (recordOf (resetOf ram rom .state)) bytes
 
 -- ---- the state that a call's record holds: 1 of the memories, then 2 of the record
--- a refusal, with the all-zero state in the place of one
-abbrev pub refusedRecord : Why → Restored
-refusedRecord w = record { answer = Refused w; state = zeroState }
-
 -- what the record holds, or why it is not opened
 unfoldable pub openedOf : List ℕ → ℕ → ℕ → Restored
 openedOf bytes ramLength romLength = cond (tooLong ramLength romLength) (refusedRecord TooLong) (loadOf bytes)

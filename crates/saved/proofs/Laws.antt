@@ -13,7 +13,7 @@ use Rattle.little.specs.Bytes.{valueOf, bytesFrom}
 use Rattle.state.specs.State.{validOf}
 use Rattle.state.specs.declared.State.{State}
 use Rattle.saved.specs.Sr.{srOf, flagsIn, bankIn, levelIn}
-use Rattle.saved.specs.Record.{longsBytes, longsAt, recordOf, saveAnswer, saveBytes, srAt, stateAt, fixedAt, loadOf, refused}
+use Rattle.saved.specs.Record.{longsBytes, longsAt, recordOf, saveAnswer, saveBytes, srAt, stateAt, fixedAt, loadOf, refusedRecord}
 use Rattle.saved.proofs.Numbers.{lent-length, lent-take, read-part}
 
 -- ---- saving
@@ -77,15 +77,15 @@ unfolding stateAt
 state-made l e f g = rw (e, f, g, read-part 4 (drop 80 l) (omega arith))
 
 module _ (l : List ℕ) where
-  pub load-length : (length l ≡ 88 → ⊥) → loadOf l ≡ refused
+  pub load-length : (length l ≡ 88 → ⊥) → loadOf l ≡ refusedRecord Invalid
   unfolding loadOf
   load-length e = simp (ne-eqb (length l) 88 e)
 
-  pub load-invalid : length l ≡ 88 → validOf (stateAt l) ≡ false → loadOf l ≡ refused
+  pub load-invalid : length l ≡ 88 → validOf (stateAt l) ≡ false → loadOf l ≡ refusedRecord Invalid
   unfolding loadOf
   load-invalid e v = simp (eq-eqb (length l) 88 e, v)
 
-  pub load-fixed : length l ≡ 88 → validOf (stateAt l) ≡ true → fixedAt l ≡ false → loadOf l ≡ refused
+  pub load-fixed : length l ≡ 88 → validOf (stateAt l) ≡ true → fixedAt l ≡ false → loadOf l ≡ refusedRecord Invalid
   unfolding loadOf
   load-fixed e v m = simp (eq-eqb (length l) 88 e, v, m)
 

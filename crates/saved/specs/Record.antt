@@ -6,6 +6,7 @@ use lib.ListN.{length, getD, take, drop}
 use lib.Dec.{eqb}
 use Rattle.answer.specs.declared.Answer.{Answer}
 use Rattle.answer.specs.declared.Answer.the-variants.{Done, Refused}
+use Rattle.answer.specs.declared.Why.{Why}
 use Rattle.answer.specs.declared.Why.the-variants.{Invalid}
 use Rattle.little.specs.Bytes.{valueOf, bytesFrom}
 use Rattle.state.specs.State.{validOf, zeroState}
@@ -64,10 +65,10 @@ fixedAt l = onesIn (srAt l) && eqb (getD l 87 0) 0
 abbrev pub isRecord : List ℕ → Bool
 isRecord l = eqb (length l) 88 && (validOf (stateAt l) && fixedAt l)
 
--- what a bad record gives: 2 and the all-zero state
-abbrev pub refused : Restored
-refused = record { answer = Refused Invalid; state = zeroState }
+-- a refusal, with the all-zero state in the place of one; of a bad record it is 2
+abbrev pub refusedRecord : Why → Restored
+refusedRecord w = record { answer = Refused w; state = zeroState }
 
 -- what a load gives
 unfoldable pub loadOf : List ℕ → Restored
-loadOf l = cond (isRecord l) (record { answer = Done; state = stateAt l }) refused
+loadOf l = cond (isRecord l) (record { answer = Done; state = stateAt l }) (refusedRecord Invalid)

@@ -3,7 +3,7 @@ ghost use mathlib.Core.Path.{_≡_};
 ghost use lib.ListN.{length, take};
 ghost use Prim.Native.Nat.{_≤_};
 ghost use Rattle.saved.specs.Sr.{srOf};
-ghost use Rattle.saved.specs.Record.{longsBytes, longsAt, saveAnswer, saveBytes, srAt, stateAt, fixedAt, loadOf, refused};
+ghost use Rattle.saved.specs.Record.{longsBytes, longsAt, saveAnswer, saveBytes, srAt, stateAt, fixedAt, loadOf, refusedRecord};
 use answer::Answer;
 use answer::Why;
 use state::Bank;
@@ -24,7 +24,7 @@ pub fn sr(s: State) -> u32
     s.flags as u32 + 256 * (b as u32) + 2048 + 4096 * (l as u32) + 32768
 }
 
-// The twenty registers, at the front of a bytes.
+// The twenty registers, at the front of a record.
 fn save_longs(s: State, out: &mut [u8])
     requires { ⌜ length (now out) ≡ 88 ⌝ }
     ensures { λ _. ⌜ take 80 (now (out .exit)) ≡ longsBytes (s .registers) ⌝ }
@@ -112,7 +112,7 @@ fn fixed_at(bytes: &[u8]) -> bool
 }
 
 fn refuse() -> Restored
-    ensures { λ r. ⌜ r ≡ refused ⌝ }
+    ensures { λ r. ⌜ r ≡ refusedRecord Why.Invalid ⌝ }
 {
     Restored {
         answer: Answer::Refused(Why::Invalid),

@@ -28,6 +28,7 @@ startOf Half0 = 0
 startOf Half1 = 16
 startOf Whole = 0
 
+-- how many bits it has
 abbrev pub widthOf : Part → ℕ
 widthOf Byte0 = 8
 widthOf Byte1 = 8
@@ -41,6 +42,7 @@ widthOf Whole = 32
 unfoldable pub getSlot : State → Slot → ℕ
 getSlot s t = getBits (startOf (t .part)) (widthOf (t .part)) (longOf s (t .index))
 
+-- the state with v written there
 unfoldable pub setSlot : State → Slot → ℕ → State
 setSlot s t v = withLong s (t .index) (setBits (startOf (t .part)) (widthOf (t .part)) (longOf s (t .index)) v)
 
@@ -62,8 +64,10 @@ slotOf bank Long code = record { index = indexOf bank code; part = Whole }
 abbrev pub namedIn : State → Size → ℕ → Slot
 namedIn s size code = slotOf (s .bank .0 % 4) size (code % 8)
 
+-- what that register holds
 unfoldable pub getRegister : State → Size → ℕ → ℕ
 getRegister s size code = getSlot s (namedIn s size code)
 
+-- the state with v written to it
 unfoldable pub setRegister : State → Size → ℕ → ℕ → State
 setRegister s size code v = setSlot s (namedIn s size code) v

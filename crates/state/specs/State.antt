@@ -56,7 +56,7 @@ validOf s =
 unfoldable pub longOf : State → ℕ → ℕ
 longOf s i = getD (s .registers) i 0
 
--- ---- a state with one thing changed; nothing else in the specifications writes a state out
+-- ---- a state with one thing changed
 unfoldable pub withLong : State → ℕ → ℕ → State
 withLong s i v = record {
   registers = set (s .registers) i v;
@@ -100,6 +100,7 @@ withBothFlags s f f' = record {
   level = s .level;
 }
 
+-- F alone
 unfoldable pub withFlags : State → ℕ → State
 unfolding withBothFlags
 withFlags s f = withBothFlags s f (s .spare)

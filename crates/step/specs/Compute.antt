@@ -34,6 +34,7 @@ storesOf Xor = true
 storesOf Or = true
 storesOf Cp = false
 
+-- the result and the flags of an operation, or of CP the flags alone
 abbrev pub answerIn : Arith → State → List ℕ → List ℕ → Size → Operand → Computed → Try
 answerIn op s ram rom z o r = cond (storesOf op) (resultIn s ram rom z o r) (did (flagged s (r .flags)) ram)
 

@@ -55,6 +55,7 @@ pub record Machine : Type 0 where
   pub state : State
   pub ram : List ℕ
 
+-- a machine with one thing given
 abbrev pub having : Given → Machine → Machine
 having (register z r v) m = record { state = setRegister (m .state) z r v; ram = m .ram }
 having (f v) m = record { state = withFlags (m .state) v; ram = m .ram }
@@ -62,6 +63,7 @@ having (bank v) m = record { state = withBank (m .state) v; ram = m .ram }
 having (counter v) m = record { state = withCounter (m .state) v; ram = m .ram }
 having (byte i v) m = record { state = m .state; ram = set (m .ram) i v }
 
+-- and with several
 unfoldable pub given : List Given → Machine → Machine
 given [] m = m
 given (g ∷ gs) m = given gs (having g m)
@@ -74,6 +76,7 @@ pub record Example : Type 0 where
   pub before : List Given
   pub after : List Given
 
+-- whether two lists are the same
 unfoldable pub sameBytes : List ℕ → List ℕ → Bool
 sameBytes [] [] = true
 sameBytes [] (y ∷ ys) = false
@@ -98,11 +101,13 @@ reaches (suc n) s ram rom m =
     let o = stepOf s ram rom in
     eqb (numberOf (o .answer)) 0 && reaches n (o .state) (o .ram) rom m
 
+-- whether an example comes out as it says
 unfoldable pub right : Example → Bool
 right e =
     let start = given (e .before) (record { state = zeroState; ram = e .ram }) in
     reaches (e .steps) (start .state) (start .ram) (e .rom) (given (e .after) start)
 
+-- and all of them
 unfoldable pub every : List Example → Bool
 every [] = true
 every (e ∷ es) = right e && every es
@@ -118,6 +123,7 @@ steps n code before after =
       after = counter 0xFFFFF0 ∷ after;
     }
 
+-- an example of one step
 abbrev step : List ℕ → List Given → List Given → Example
 step code before after = steps 1 code before after
 
@@ -126,6 +132,7 @@ abbrev stepAt : ℕ → List ℕ → List Given → Example
 stepAt o code after =
     record { steps = 1; rom = []; ram = replicate o 0 ++ code; before = counter o ∷ []; after = after }
 
+-- 000's execution examples
 unfoldable pub examples : List Example
 examples =
     -- the addressing modes (1), (2), (3) and (9): LD HL,IX; LD HL,5678 by both codes; LD HL,(XIX); JR 2034

@@ -12,11 +12,12 @@ use Rattle.code.specs.declared.Operand.the-variants.{Register}
 use Rattle.code.specs.declared.Instruction.{Instruction}
 use Rattle.code.specs.declared.Op.{Op}
 use Rattle.code.specs.declared.Op.the-variants.{Nop, Incf, Decf, Ldf, Rcf, Scf, Ccf, Zcf, Exf, PushF, PopF, Set, Push, Pop, Jp16, Jp24, Call16, Call24, Calr, Ret, Jr, Jrl, LoadConstant, Load, Into, Compute, ComputeInto, ComputeConstant, Inc, Dec, Shifted, Extz, Exts, Store, Block}
+use Rattle.code.specs.Written.{constantIn, registerIn}
 use Rattle.state.specs.State.{withCounter, withBank}
 use Rattle.state.specs.Register.{getRegister, setRegister}
 use Rattle.state.specs.declared.State.{State}
 use Rattle.step.specs.Try.{Try, did, andThen, withLoaded}
-use Rattle.step.specs.Operand.{displaced, valueAt, putAt, numberIn, registerIn}
+use Rattle.step.specs.Operand.{displaced, valueAt, putAt}
 use Rattle.step.specs.Stack.{pushOf, popOf, callOf, retOf, pushFOf, popFOf}
 use Rattle.step.specs.Jump.{jumpOf}
 use Rattle.step.specs.Flag.{flagsIn, flagged, exchanged}
@@ -33,7 +34,7 @@ unfoldable pub effectOf : Op → Size → Operand → ℕ → State → List ℕ
 effectOf Nop z o at s ram rom = did s ram
 effectOf Incf z o at s ram rom = did (withBank s (s .bank .0 + 1)) ram
 effectOf Decf z o at s ram rom = did (withBank s (s .bank .0 + 3)) ram
-effectOf Ldf z o at s ram rom = did (withBank s (numberIn o)) ram
+effectOf Ldf z o at s ram rom = did (withBank s (constantIn o)) ram
 effectOf Rcf z o at s ram rom = did (flagged s (rcfOf (flagsIn s))) ram
 effectOf Scf z o at s ram rom = did (flagged s (scfOf (flagsIn s))) ram
 effectOf Ccf z o at s ram rom = did (flagged s (ccfOf (flagsIn s))) ram
@@ -41,17 +42,17 @@ effectOf Zcf z o at s ram rom = did (flagged s (zcfOf (flagsIn s))) ram
 effectOf Exf z o at s ram rom = did (exchanged s) ram
 effectOf PushF z o at s ram rom = pushFOf s ram rom
 effectOf PopF z o at s ram rom = popFOf s ram rom
-effectOf (Set r) z o at s ram rom = did (setRegister s z r (numberIn o)) ram
+effectOf (Set r) z o at s ram rom = did (setRegister s z r (constantIn o)) ram
 effectOf Push z o at s ram rom = pushOf s ram rom z (getRegister s z (registerIn o))
 effectOf Pop z o at s ram rom = popOf s ram rom z (λ t v. setRegister t z (registerIn o) v)
-effectOf Jp16 z o at s ram rom = did (withCounter s (numberIn o)) ram
-effectOf Jp24 z o at s ram rom = did (withCounter s (numberIn o)) ram
-effectOf Call16 z o at s ram rom = callOf s ram rom (numberIn o)
-effectOf Call24 z o at s ram rom = callOf s ram rom (numberIn o)
-effectOf Calr z o at s ram rom = callOf s ram rom (displaced 16 (s .counter) (numberIn o))
+effectOf Jp16 z o at s ram rom = did (withCounter s (constantIn o)) ram
+effectOf Jp24 z o at s ram rom = did (withCounter s (constantIn o)) ram
+effectOf Call16 z o at s ram rom = callOf s ram rom (constantIn o)
+effectOf Call24 z o at s ram rom = callOf s ram rom (constantIn o)
+effectOf Calr z o at s ram rom = callOf s ram rom (displaced 16 (s .counter) (constantIn o))
 effectOf Ret z o at s ram rom = retOf s ram rom
-effectOf (Jr cc) z o at s ram rom = did (jumpOf s cc (displaced 8 (s .counter) (numberIn o))) ram
-effectOf (Jrl cc) z o at s ram rom = did (jumpOf s cc (displaced 16 (s .counter) (numberIn o))) ram
+effectOf (Jr cc) z o at s ram rom = did (jumpOf s cc (displaced 8 (s .counter) (constantIn o))) ram
+effectOf (Jrl cc) z o at s ram rom = did (jumpOf s cc (displaced 16 (s .counter) (constantIn o))) ram
 effectOf (LoadConstant n) z o at s ram rom = putAt s ram rom z o n
 effectOf (Load r) z o at s ram rom = withLoaded (valueAt s ram rom z o) (λ v. did (setRegister s z r v) ram)
 effectOf (Into r) z o at s ram rom = putAt s ram rom z o (getRegister s z r)
@@ -72,5 +73,6 @@ effectOf Exts z o at s ram rom = withLoaded (valueAt s ram rom z o) (λ v. putAt
 effectOf (Store r) z o at s ram rom = putAt s ram rom z o (getRegister s z r)
 effectOf (Block f) z o at s ram rom = andThen (roundOf f s ram rom) (endsAt f at)
 
+-- an instruction at the counter of a state
 unfoldable pub executedOf : Instruction → State → List ℕ → List ℕ → Try
 executedOf i s ram rom = effectOf (i .op) (i .size) (i .operand) (s .counter) (pastOf (i .length) s) ram rom

@@ -4,9 +4,11 @@ use Rattle.alu.specs.declared.Flags.{Flags}
 use Rattle.state.specs.State.{withFlags, withBothFlags}
 use Rattle.state.specs.declared.State.{State}
 
+-- the six flags of a state
 abbrev pub flagsIn : State → Flags
 flagsIn s = flagsOf (s .flags)
 
+-- the state with six flags, packed
 unfoldable pub flagged : State → Flags → State
 flagged s f = withFlags s (byteOf f)
 

@@ -18,6 +18,7 @@ use Rattle.code.specs.declared.Operand.{Operand}
 use Rattle.code.specs.declared.Operand.the-variants as operand
 use Rattle.code.specs.declared.Op.{Op}
 use Rattle.code.specs.declared.Op.the-variants.{Nop, Incf, Decf, Ldf, Rcf, Scf, Ccf, Zcf, Exf, PushF, PopF, Set, Push, Pop, Jp16, Jp24, Call16, Call24, Calr, Ret, Jr, Jrl, LoadConstant, Load, Into, Compute, ComputeInto, ComputeConstant, Inc, Dec, Shifted, Extz, Exts, Store, Block}
+use Rattle.code.specs.Written.{constantIn, registerIn}
 use Rattle.memory.specs.declared.Loaded.{Loaded}
 use Rattle.memory.specs.declared.Loaded.the-variants.{Value}
 use Rattle.state.specs.State.{withBank, withCounter, withFlags}
@@ -35,7 +36,7 @@ use Rattle.step.specs.declared.kind.Stack.{Stack}
 use Rattle.step.specs.declared.kind.Stack.the-variants as stack
 use Rattle.step.specs.declared.compute.Work.{Work}
 use Rattle.step.specs.Try.{Try, did, andThen, withLoaded}
-use Rattle.step.specs.Operand.{displaced, valueAt, putAt, numberIn, registerIn}
+use Rattle.step.specs.Operand.{displaced, valueAt, putAt}
 use Rattle.step.specs.Flag.{flagsIn, flagged, exchanged}
 use Rattle.step.specs.Jump.{jumpOf}
 use Rattle.step.specs.Stack.{withStack, pushOf, popOf, callOf, retOf, pushFOf, popFOf}
@@ -105,6 +106,7 @@ givenOf (uses.Shift shift n) s z = 0
 givenOf uses.Extz s z = 0
 givenOf uses.Exts s z = 0
 
+-- the one or the other
 abbrev pub sourceOf : Use → State → List ℕ → List ℕ → Size → Operand → Loaded
 sourceOf how s ram rom z o = cond (readsOf how) (valueAt s ram rom z o) (Value (givenOf how s z))
 
@@ -134,6 +136,7 @@ intoOf (side.With n) o = o
 abbrev pub targetOf : Arith → Operand → Operand
 targetOf a o = cond (storesOf a) o (operand.Constant 0)
 
+-- an operation on two operands
 abbrev pub arithmeticOf : Arith → Side → State → Size → Operand → ℕ → Work
 arithmeticOf a other s z o v = resultOf (computed s a z (firstOf other s z v) (secondOf other s z v)) (targetOf a (intoOf other o))
 
@@ -153,6 +156,7 @@ workOf uses.Exts s z o v = keptOf (s .flags) (extsOf (bitsOf z) v) o
 abbrev pub putWork : State → List ℕ → List ℕ → Size → Work → Try
 putWork s ram rom z w = putAt (withFlags s (w .flags)) ram rom z (w .into) (w .value)
 
+-- the three together
 abbrev pub putsOf : Use → State → List ℕ → List ℕ → Size → Operand → Try
 putsOf how s ram rom z o = withLoaded (sourceOf how s ram rom z o) (λ v. putWork s ram rom z (workOf how s z o v))
 
@@ -175,19 +179,20 @@ abbrev pub endAfter : Answer → State → ℕ → State
 endAfter Done s x = withStack s x
 endAfter (Refused w) s x = s
 
+-- what each of them does
 abbrev pub stackOf : Stack → Size → Operand → State → List ℕ → List ℕ → Try
 stackOf stack.PushF z o s ram rom = pushFOf s ram rom
 stackOf stack.PopF z o s ram rom = popFOf s ram rom
 stackOf stack.Push z o s ram rom = pushOf s ram rom z (getRegister s z (registerIn o))
 stackOf stack.Pop z o s ram rom = popOf s ram rom z (λ t v. setRegister t z (registerIn o) v)
-stackOf stack.Call z o s ram rom = callOf s ram rom (numberIn o)
-stackOf stack.Calr z o s ram rom = callOf s ram rom (displaced 16 (s .counter) (numberIn o))
+stackOf stack.Call z o s ram rom = callOf s ram rom (constantIn o)
+stackOf stack.Calr z o s ram rom = callOf s ram rom (displaced 16 (s .counter) (constantIn o))
 stackOf stack.Ret z o s ram rom = retOf s ram rom
 
 -- ---- the work of a kind
 abbrev pub kindDone : Kind → Size → Operand → ℕ → State → List ℕ → List ℕ → Try
 kindDone (Puts how) z o at s ram rom = putsOf how s ram rom z o
-kindDone (Sets r) z o at s ram rom = did (setRegister s z r (numberIn o)) ram
-kindDone (Controls what) z o at s ram rom = did (controlOf what (numberIn o) s) ram
+kindDone (Sets r) z o at s ram rom = did (setRegister s z r (constantIn o)) ram
+kindDone (Controls what) z o at s ram rom = did (controlOf what (constantIn o) s) ram
 kindDone (Stacks what) z o at s ram rom = stackOf what z o s ram rom
 kindDone (Blocks f) z o at s ram rom = andThen (roundOf f s ram rom) (endsAt f at)

@@ -35,6 +35,7 @@ addressFrom s Absolute8 n = n % 2 ^ 24
 addressFrom s Absolute16 n = n % 2 ^ 24
 addressFrom s Absolute24 n = n % 2 ^ 24
 
+-- the address of a memory form
 unfoldable pub addressOf : State → MemoryForm → ℕ
 addressOf s m = addressFrom s (m .base) (m .number)
 
@@ -49,6 +50,7 @@ abbrev pub storedBy : Answer → State → List ℕ → Try
 storedBy Done t ram = did t ram
 storedBy (Refused w) t ram = no w
 
+-- a value stored at an address a
 unfoldable pub storing : State → List ℕ → List ℕ → ℕ → Size → ℕ → Try
 storing t ram rom a z v = storedBy (storeOf ram rom a z) t (ramAfter ram rom a z v)
 
@@ -57,15 +59,3 @@ abbrev pub putAt : State → List ℕ → List ℕ → Size → Operand → ℕ 
 putAt s ram rom z (Register r) v = did (setRegister s z r v) ram
 putAt s ram rom z (Constant n) v = did s ram
 putAt s ram rom z (Memory m) v = storing s ram rom (addressOf s m) z v
-
--- the number that an operand is; 0 where it is none
-abbrev pub numberIn : Operand → ℕ
-numberIn (Register r) = 0
-numberIn (Constant n) = n
-numberIn (Memory m) = 0
-
--- the code of the register that an operand is; 0 where it is none
-abbrev pub registerIn : Operand → ℕ
-registerIn (Register r) = r
-registerIn (Constant n) = 0
-registerIn (Memory m) = 0

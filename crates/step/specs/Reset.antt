@@ -18,6 +18,7 @@ use Rattle.step.specs.Step.{tooLong}
 abbrev pub notReset : Why → Stepped
 notReset w = record { state = zeroState; answer = Refused w }
 
+-- from the vector that was loaded, or not
 abbrev pub resetFrom : Loaded → Stepped
 resetFrom (loaded.Value v) = record { state = resetState v; answer = Done }
 resetFrom (loaded.Refused w) = notReset w

@@ -13,6 +13,7 @@ use Rattle.code.specs.declared.Decoded.{Decoded}
 use Rattle.code.specs.declared.Decoded.the-variants as decoded
 use Rattle.step.specs.Step.{tooLong}
 
+-- 3 where the bytes are short, 4 where they are not listed
 abbrev pub judgedOf : Decoded → Answer
 judgedOf decoded.Short = Refused NoCode
 judgedOf decoded.Unlisted = Refused Unlisted

@@ -31,6 +31,7 @@ use Rattle.step.specs.Reset.{resetOf, notReset}
 use Rattle.step.specs.Touched.{readOf, targetOf, answerBy, Spares}
 
 infix 5 _⇔_
+-- each of two follows from the other
 abbrev pub _⇔_ : Type 0 → Type 0 → Type 0
 a ⇔ b = (a → b) × (b → a)
 

@@ -32,8 +32,10 @@ done (decoded.Whole i) s ram rom = executedOf i s ram rom
 unfoldable pub onceOf : State → List ℕ → List ℕ → Try
 onceOf s ram rom = done (decodeOf (codeAt ram rom (s .counter))) s ram rom
 
+-- a step that is tried, with its checks
 unfoldable pub tryOf : State → List ℕ → List ℕ → Try
 tryOf s ram rom = guarded s ram rom (onceOf s ram rom)
 
+-- what a step leaves
 unfoldable pub stepOf : State → List ℕ → List ℕ → Outcome
 stepOf s ram rom = leaves s ram (tryOf s ram rom)

@@ -40,6 +40,7 @@ operandSpan s z (Memory m) = bytes (addressOf s m) (bytesOf z)
 abbrev pub onStack : State → ℕ → Span
 onStack s n = bytes (pointerOf s 7) n
 
+-- the n bytes below the stack's end
 abbrev pub belowStack : State → ℕ → Span
 belowStack s n = bytes (less 32 (getRegister s Long 7) n % 2 ^ 24) n
 
@@ -126,6 +127,7 @@ loadTo (Ram o) = Done
 loadTo (Rom o) = Done
 loadTo Missing = Refused why.Missing
 
+-- 5 where the bytes to be read are not all there
 abbrev pub readAnswer : List ℕ → List ℕ → Span → Answer
 readAnswer ram rom none = Done
 readAnswer ram rom (bytes a n) = loadTo (placeOf (length ram) (length rom) a n)
@@ -135,6 +137,7 @@ abbrev pub storeAnswer : List ℕ → List ℕ → Span → Answer
 storeAnswer ram rom none = Done
 storeAnswer ram rom (bytes a n) = storeTo (placeOf (length ram) (length rom) a n)
 
+-- the first refusal of two
 abbrev pub unless : Answer → Answer → Answer
 unless Done b = b
 unless (Refused w) b = Refused w

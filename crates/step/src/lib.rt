@@ -141,7 +141,7 @@ fn whole_once(s: State, ram: &mut [u8], rom: &[u8]) -> Stepped
     }
 }
 
-// Whether a memory is longer than the address space has room for.
+// Whether a memory is longer than 65,536 bytes.
 pub fn too_long(ram_len: usize, rom_len: usize) -> bool
     ensures { λ r. ⌜ r ≡ tooLong «ram_len» «rom_len» ⌝ }
 {

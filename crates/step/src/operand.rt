@@ -4,7 +4,8 @@ ghost use Prim.Native.Nat.{ℕ, _-_, _^_};
 ghost use Rattle.little.specs.Width.{bitsOf};
 ghost use Rattle.state.specs.State.{stateOf, withFlags};
 ghost use Rattle.step.specs.Try.{after, leaves};
-ghost use Rattle.step.specs.Operand.{displaced, pointerOf, addressOf, valueAt, putAt, numberIn, registerIn};
+ghost use Rattle.step.specs.Operand.{displaced, pointerOf, addressOf, valueAt, putAt};
+ghost use Rattle.code.specs.Written.{registerIn, constantIn};
 use answer::Answer;
 use code::Base;
 use code::MemoryForm;
@@ -108,7 +109,7 @@ pub fn put(
 
 // The number that an operand is; 0 where it is none.
 pub fn number_in(operand: Operand) -> u32
-    ensures { λ r. ⌜ r ≡ numberIn operand ⌝ }
+    ensures { λ r. ⌜ r ≡ constantIn operand ⌝ }
 {
     match operand {
         Operand::Register(_) => 0,
