@@ -11,6 +11,6 @@ use Rattle.alu.specs.Count.{incOf, decOf}
 use Rattle.alu.specs.Extend.{extzOf, extsOf}
 use Rattle.alu.specs.Cases.{right, every, holding, cases}
 
-pub cases-hold : T (every cases)
+pub cases-hold : T (every right cases)
 unfolding cases every right holding basic holdsOf operated placesOf byteOf flagsOf onesOf parityOf computedOf sumOf differenceOf andOf orOf xorOf shiftOf shiftBy incOf decOf extzOf extsOf
 cases-hold = tt

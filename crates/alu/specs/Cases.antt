@@ -25,10 +25,10 @@ pub record Case : Type 0 where
 unfoldable pub right : Case → Bool
 right p = eqb (p .got .value) (p .value) && eqb (byteOf (p .got .flags)) (p .f)
 
--- all rows are right
-unfoldable pub every : List Case → Bool
-every [] = true
-every (p ∷ ps) = right p && every ps
+-- all rows of a table are right
+unfoldable pub every : {A : Type 0} → (A → Bool) → List A → Bool
+every right [] = true
+every right (x ∷ xs) = right x && every right xs
 
 -- a row of the table
 abbrev is : Computed → ℕ → ℕ → Case

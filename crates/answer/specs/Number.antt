@@ -19,3 +19,8 @@ whyNumber ToRom = 6
 abbrev pub numberOf : Answer → ℕ
 numberOf Done = 0
 numberOf (Refused w) = whyNumber w
+
+-- the first refusal of two answers; done where neither is one
+abbrev pub firstRefusal : Answer → Answer → Answer
+firstRefusal Done b = b
+firstRefusal (Refused w) b = Refused w

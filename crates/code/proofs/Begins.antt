@@ -9,7 +9,7 @@ use lib.ListN.{length, getD, take, drop, length-append, replicate, length-replic
 use lib.Seq.{getD-append-seam}
 use lib.Dec.{ltb, leb, eqb}
 use borrow.Author.Tests.{ltb-true, ltb-false, leb-true, leb-false}
-use Rattle.little.specs.Bytes.{valueOf}
+use Rattle.little.specs.Bytes.{Bytes, valueOf}
 use Rattle.little.specs.declared.Size.{Size}
 use Rattle.little.specs.declared.Size.the-variants.{Byte, Word, Long}
 use Rattle.code.specs.declared.Instruction.{Instruction}
@@ -27,7 +27,7 @@ use Rattle.code.specs.Rows.{Row, has, lookup, byRows}
 use Rattle.code.specs.Registers.{registerRows, placesRows, notByte, shiftOf}
 use Rattle.code.specs.Memory.{form, memoryRows, storeRows, copies, compares, blocks, blockRows, indirectRows}
 use Rattle.code.specs.Listed.{formWith, absoluteRows, bankNumberRows, bankRows, flagRows, constantRows, stackRows, jumpRows, relativeRows, registerFormRows, memoryFormRows, memoryAtRows, storeFormRows, firstRows, decodeOf}
-use Rattle.code.specs.Laws.{AllBytes, ShortBegins}
+use Rattle.code.specs.Laws.{ShortBegins}
 use Rattle.code.proofs.AllRows.{AllRows, in-rows, both-rows}
 use Rattle.code.proofs.Prefix.{step-next, step-number, byte-in, value-in, longer}
 
@@ -47,23 +47,23 @@ Open (number n f) = ((v : ℕ) → Can (f v)) × ((v : ℕ) → Open (f v))
 
 -- ---- more bytes, all of them bytes
 abbrev Ends : Said → List ℕ → ℕ → Type 0
-Ends j s i = (t : List ℕ) × (x : Instruction) × (AllBytes t) × (judge j (s ++ t) i ≡ Whole x)
+Ends j s i = (t : List ℕ) × (x : Instruction) × (Bytes t) × (judge j (s ++ t) i ≡ Whole x)
 
-bytes-append : (p q : List ℕ) → AllBytes p → AllBytes q → AllBytes (p ++ q)
+bytes-append : (p q : List ℕ) → Bytes p → Bytes q → Bytes (p ++ q)
 bytes-append [] q g h k = h k
 bytes-append (b ∷ p) q g h zero = g 0
 bytes-append (b ∷ p) q g h (suc k) = bytes-append p q (λ j. g (suc j)) h k
 
-no-bytes : AllBytes []
+no-bytes : Bytes []
 no-bytes k = omega arith
 
-zero-bytes : (n : ℕ) → AllBytes (replicate n 0)
+zero-bytes : (n : ℕ) → Bytes (replicate n 0)
 zero-bytes zero k = omega arith
 zero-bytes (suc n) zero = omega arith
 zero-bytes (suc n) (suc k) = zero-bytes n k
 
 -- what ends after p is added ends
-add : (j : Said) (s p : List ℕ) (i : ℕ) → AllBytes p → Ends j (s ++ p) i → Ends j s i
+add : (j : Said) (s p : List ℕ) (i : ℕ) → Bytes p → Ends j (s ++ p) i → Ends j s i
 add j s p i g e = (p ++ e .0, e .1, bytes-append p (e .0) g (e .2), rw (← append-assoc s p (e .0)) (e .3))
 
 -- a number of which some bytes are there, and then what follows it
@@ -88,7 +88,7 @@ ends (next f) c s =
     let p = s ++ (b ∷ []) in
     let l : length p ≡ length s + 1 = length-append s (b ∷ []) in
     let h : length s < length p = rw l (omega arith) in
-    let one : AllBytes (b ∷ []) = λ k. elim k [ zero ↦ c .1 | suc k ↦ omega arith ] in
+    let one : Bytes (b ∷ []) = λ k. elim k [ zero ↦ c .1 | suc k ↦ omega arith ] in
     let r : Ends (f b) p (length s + 1) = subst (λ (n : ℕ). Ends (f b) p n) l (ends (f b) (c .2) p) in
     add (next f) s (b ∷ []) (length s) one
     (r .0, r .1, r .2, step-next f (p ++ r .0) (length s) b (longer p (r .0) (length s) (suc (length s)) h) (byte-in p (r .0) (length s) h ∙ getD-append-seam s b [] 0) ∙ r .3)

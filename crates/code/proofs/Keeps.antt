@@ -10,7 +10,7 @@ use lib.ListN.{length, getD, take, drop, length-drop}
 use lib.Seq.{length-take-le, take-suc, take-add}
 use lib.Dec.{leb, eqb}
 use borrow.Author.Tests.{eqb-true}
-use Rattle.little.specs.Bytes.{valueOf, bytesFrom}
+use Rattle.little.specs.Bytes.{Bytes, valueOf, bytesFrom}
 use Rattle.little.proofs.Laws.{bytes-value}
 use Rattle.code.specs.declared.Instruction.{Instruction}
 use Rattle.code.specs.declared.Decoded.{Decoded}
@@ -19,7 +19,6 @@ use Rattle.code.specs.Said.{Said, whole, unlisted, next, number, judge}
 use Rattle.code.specs.Rows.{Row, lookup}
 use Rattle.code.specs.Registers.{arithOf, shiftOf}
 use Rattle.code.specs.Written.{codeOf, arithNumber, shiftNumber}
-use Rattle.code.specs.Laws.{AllBytes}
 use Rattle.code.proofs.AllRows.{AllRows, in-rows as in-all, both-rows as join}
 use Rattle.code.proofs.Prefix.{after-next, after-number}
 use Rattle.code.proofs.Ranges.{run-in, bytes-take, bytes-drop}
@@ -46,7 +45,7 @@ CodeIs s (Whole x) = take (x .length) s ≡ codeOf (x .op) (x .size) (x .operand
 CodeIs s Short = Unit {0}
 CodeIs s Unlisted = Unit {0}
 
-module _ (s : List ℕ) (y : AllBytes s) (x : Instruction) where
+module _ (s : List ℕ) (y : Bytes s) (x : Instruction) where
   one-more : (i : ℕ) → i < length s → take i s ++ (getD s i 0 ∷ []) ≡ take (i + 1) s
   one-more i h = rw add-one (sym (take-suc s i 0 h))
 

@@ -10,7 +10,7 @@ use lib.ListN.{length, getD, take, drop, length-drop}
 use lib.Seq.{length-take-le, getD-drop}
 use lib.Dec.{leb, eqb}
 use borrow.Author.Tests.{leb-true}
-use Rattle.little.specs.Bytes.{valueOf}
+use Rattle.little.specs.Bytes.{Bytes, valueOf}
 use Rattle.little.proofs.Laws.{value-lt}
 use Rattle.little.specs.Width.{bytesOf}
 use Rattle.little.specs.declared.Size.{Size}
@@ -26,7 +26,7 @@ use Rattle.code.specs.Registers.{registerRows, placesRows, notByte, shif
 use Rattle.code.specs.Memory.{form, memoryRows, storeRows, copies, compares, blocks, blockRows, indirectRows}
 use Rattle.code.specs.Listed.{formWith, absoluteRows, bankNumberRows, bankRows, flagRows, constantRows, stackRows, jumpRows, relativeRows, registerFormRows, memoryFormRows, memoryAtRows, storeFormRows, firstRows, decodeOf}
 use Rattle.code.specs.Range.{InRange, MemoryIn, PlaceIn, NotByte, NotLong, PointersIn, placeBytes, lengthOf}
-use Rattle.code.specs.Laws.{AllBytes, LengthFits, LengthIs, Ranges, BlockLength}
+use Rattle.code.specs.Laws.{LengthFits, LengthIs, Ranges, BlockLength}
 use Rattle.code.specs.declared.Instruction.{Instruction}
 use Rattle.code.specs.declared.Decoded.the-variants.{Whole}
 use Rattle.alu.specs.declared.Shift.{Shift}
@@ -314,27 +314,27 @@ module _ (Y : Type 0) where
       (both-rows Fit Fine memoryAtRows _ 1 memory-at-rows store-form-rows)))))))))
 
 -- ---- a part of bytes is of bytes, and a number in n of them is below 256 to the n
-pub bytes-take : (n : ℕ) (l : List ℕ) → AllBytes l → AllBytes (take n l)
+pub bytes-take : (n : ℕ) (l : List ℕ) → Bytes l → Bytes (take n l)
 bytes-take zero l y k = omega arith
 bytes-take (suc n) [] y k = y k
 bytes-take (suc n) (b ∷ l) y zero = y 0
 bytes-take (suc n) (b ∷ l) y (suc k) = bytes-take n l (λ j. y (suc j)) k
 
-pub bytes-drop : (i : ℕ) (l : List ℕ) → AllBytes l → AllBytes (drop i l)
+pub bytes-drop : (i : ℕ) (l : List ℕ) → Bytes l → Bytes (drop i l)
 bytes-drop i l y k = rw getD-drop (y (i + k))
 
-value-below : (s : List ℕ) (i n : ℕ) → i + n ≤ length s → AllBytes s → valueOf (take n (drop i s)) < 256 ^ n
+value-below : (s : List ℕ) (i n : ℕ) → i + n ≤ length s → Bytes s → valueOf (take n (drop i s)) < 256 ^ n
 value-below s i n h y =
     let l : n ≤ length (drop i s) = rw length-drop (omega arith) in
     rw (length-take-le n (drop i s) l) at (value-lt (take n (drop i s)) (bytes-take n (drop i s) (bytes-drop i s y)))
 
 -- ---- the statements
 module _ (s : List ℕ) (x : Instruction) (e : decodeOf s ≡ Whole x) where
-  fine : Fine (AllBytes s) (x .length) (x .op) (x .size) (x .operand)
+  fine : Fine (Bytes s) (x .length) (x .op) (x .size) (x .operand)
   unfolding decodeOf
   fine =
-      met (Fit (AllBytes s)) (Fine (AllBytes s)) s x (λ i h y. y i) (value-below s)
-      (byRows firstRows) 0 (first-rows (AllBytes s)) e
+      met (Fit (Bytes s)) (Fine (Bytes s)) s x (λ i h y. y i) (value-below s)
+      (byRows firstRows) 0 (first-rows (Bytes s)) e
 
 pub length-fits : LengthFits
 unfolding decodeOf

@@ -7,13 +7,10 @@ use Rattle.code.specs.declared.Form.{Form}
 use Rattle.code.specs.declared.Op.the-variants.{Block}
 use Rattle.code.specs.declared.Instruction.{Instruction}
 use Rattle.code.specs.declared.Decoded.the-variants.{Whole, Short, Unlisted}
+use Rattle.little.specs.Bytes.{Bytes}
 use Rattle.code.specs.Listed.{decodeOf}
 use Rattle.code.specs.Range.{InRange, lengthOf}
 use Rattle.code.specs.Written.{codeOf}
-
--- all are bytes
-abbrev pub AllBytes : List ℕ → Type 0
-AllBytes s = (k : ℕ) → getD s k 0 < 256
 
 -- an instruction has 1 to 6 bytes, and they are all there
 abbrev pub LengthFits : Type 0
@@ -41,11 +38,11 @@ UnlistedStays = (s t : List ℕ) → decodeOf s ≡ Unlisted → decodeOf (s ++ 
 
 -- bytes that are refused as short do begin a listed instruction
 abbrev pub ShortBegins : Type 0
-ShortBegins = (s : List ℕ) → decodeOf s ≡ Short → (t : List ℕ) × (i : Instruction) × (AllBytes t) × (decodeOf (s ++ t) ≡ Whole i)
+ShortBegins = (s : List ℕ) → decodeOf s ≡ Short → (t : List ℕ) × (i : Instruction) × (Bytes t) × (decodeOf (s ++ t) ≡ Whole i)
 
 -- each code and number is within its range
 abbrev pub Ranges : Type 0
-Ranges = (s : List ℕ) (i : Instruction) → AllBytes s → decodeOf s ≡ Whole i → InRange (i .op) (i .size) (i .operand)
+Ranges = (s : List ℕ) (i : Instruction) → Bytes s → decodeOf s ≡ Whole i → InRange (i .op) (i .size) (i .operand)
 
 -- the length is that of the operation and its operand
 abbrev pub LengthIs : Type 0
@@ -53,12 +50,12 @@ LengthIs = (s : List ℕ) (i : Instruction) → decodeOf s ≡ Whole i → i .le
 
 -- an instruction keeps all that its bytes said
 abbrev pub KeepsBytes : Type 0
-KeepsBytes = (s : List ℕ) (i : Instruction) → AllBytes s → decodeOf s ≡ Whole i → take (i .length) s ≡ codeOf (i .op) (i .size) (i .operand)
+KeepsBytes = (s : List ℕ) (i : Instruction) → Bytes s → decodeOf s ≡ Whole i → take (i .length) s ≡ codeOf (i .op) (i .size) (i .operand)
 
 -- no two codes are the same instruction
 abbrev pub NoTwins : Type 0
 NoTwins =
-    (s t : List ℕ) (i : Instruction) → AllBytes s → AllBytes t → decodeOf s ≡ Whole i → decodeOf t ≡ Whole i →
+    (s t : List ℕ) (i : Instruction) → Bytes s → Bytes t → decodeOf s ≡ Whole i → decodeOf t ≡ Whole i →
     take (i .length) s ≡ take (i .length) t
 
 -- a copy or a compare has two bytes

@@ -22,9 +22,9 @@ use Rattle.state.proofs.Valid.{Valid, valid-says, valid-from, valid-reset, and-
 use Rattle.saved.specs.declared.Restored.{Restored}
 use Rattle.saved.specs.Record.{recordOf, saveAnswer, saveBytes, stateAt, fixedAt, isRecord, loadOf, refusedRecord}
 use Rattle.step.specs.declared.Stepped.{Stepped}
-use Rattle.step.specs.Try.{Try, did, no, Outcome, leaves}
+use Rattle.step.specs.Try.{Try, did, no, Outcome, leaves, refusedWith}
 use Rattle.step.specs.Step.{tooLong, guarded, onceOf, tryOf, stepOf}
-use Rattle.step.specs.Reset.{notReset, resetFrom, resetOf}
+use Rattle.step.specs.Reset.{resetFrom, resetOf}
 use Rattle.step.proofs.Kept.{Keeps, keeps-once}
 use Rattle.run.specs.declared.Ran.{Ran}
 use Rattle.run.specs.Run.{Result, result, ends, afterChecks, goOf, runOf}
@@ -41,7 +41,7 @@ reset-valid : (ram rom : List ℕ) → Valid (resetOf ram rom .state)
 unfolding resetOf
 reset-valid ram rom = go (tooLong (length ram) (length rom)) (access.loadOf ram rom 0xFFFF00 Long)
   where
-    go : (b : Bool) (l : Loaded) → Valid (cond b (notReset TooLong) (resetFrom l) .state)
+    go : (b : Bool) (l : Loaded) → Valid (cond b (refusedWith zeroState TooLong) (resetFrom l) .state)
     go true l = zero-valid
     go false (loaded.Value v) = valid-reset v
     go false (loaded.Refused w) = zero-valid

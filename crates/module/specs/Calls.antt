@@ -8,13 +8,13 @@ use Rattle.answer.specs.declared.Answer.{Answer}
 use Rattle.answer.specs.declared.Answer.the-variants.{Done, Refused}
 use Rattle.answer.specs.declared.Why.{Why}
 use Rattle.answer.specs.declared.Why.the-variants.{TooMany, TooLong, Invalid}
-use Rattle.answer.specs.Number.{whyNumber, numberOf}
+use Rattle.answer.specs.Number.{whyNumber, numberOf, firstRefusal}
 use Rattle.saved.specs.declared.Restored.{Restored}
 use Rattle.saved.specs.Record.{recordOf, refusedRecord, loadOf}
 use Rattle.step.specs.Try.{Outcome}
 use Rattle.step.specs.Step.{tooLong, stepOf}
 use Rattle.step.specs.Reset.{resetOf}
-use Rattle.run.specs.Run.{Result, runOf}
+use Rattle.run.specs.Run.{mostSteps, Result, runOf}
 
 -- what a call leaves: its number, the bytes of the record, and those of RAM
 pub record Left : Type 0 where
@@ -40,14 +40,9 @@ unless Done bytes ram l = l
 abbrev pub roomAnswer : ℕ → Answer
 roomAnswer room = cond (eqb room 88) Done (Refused Invalid)
 
--- the first answer where it is a refusal, else the second
-abbrev pub answerThen : Answer → Answer → Answer
-answerThen (Refused w) then = Refused w
-answerThen Done then = then
-
 -- the answer of a reset with so much room for the record
 unfoldable pub resetAnswer : ℕ → List ℕ → List ℕ → Answer
-resetAnswer room ram rom = answerThen (resetOf ram rom .answer) (roomAnswer room)
+resetAnswer room ram rom = firstRefusal (resetOf ram rom .answer) (roomAnswer room)
 
 -- the record of the reset state; a refusal leaves what was there
 abbrev pub whereDone : Answer → List ℕ → List ℕ → List ℕ
@@ -79,7 +74,7 @@ stepLeft bytes ram rom = stepFrom (openedOf bytes (length ram) (length rom)) byt
 -- ---- many steps: 7 before 1 and 2; then the state so far, whether all steps were done or not
 -- the state that a run starts from, or why it does not start
 abbrev pub runOpened : ℕ → List ℕ → List ℕ → List ℕ → Restored
-runOpened n bytes ram rom = cond (ltb 1000000 n) (refusedRecord TooMany) (openedOf bytes (length ram) (length rom))
+runOpened n bytes ram rom = cond (ltb mostSteps n) (refusedRecord TooMany) (openedOf bytes (length ram) (length rom))
 
 -- what a run leaves, with the record of the state so far
 abbrev pub ranLeft : Result → Left

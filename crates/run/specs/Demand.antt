@@ -12,7 +12,7 @@ use Rattle.code.specs.declared.Form.{Form}
 use Rattle.step.specs.Try.{did, no}
 use Rattle.step.specs.Block.{roundOf}
 use Rattle.step.specs.Exec.{pastOf}
-use Rattle.run.specs.Run.{ends, runOf}
+use Rattle.run.specs.Run.{mostSteps, ends, runOf}
 use Rattle.run.specs.Repeat.{At, ElementsThere, TargetsInRam, Spares, EqualAt, NoneEqual, countOf, roundsOf}
 
 -- n rounds are done, and n steps end there: registers, flags and memory are those of n rounds, the counter is past it
@@ -57,7 +57,7 @@ NotBefore =
 abbrev pub StopsAtRefusal : Type 0
 StopsAtRefusal =
     (f : Form) (s : State) (ram rom : List ℕ) (n steps : ℕ) (t : State) (m : List ℕ) (w : Why) → At f s ram rom → n < countOf s →
-    n < steps → steps ≤ 1000000 →
+    n < steps → steps ≤ mostSteps →
     ElementsThere n f s ram rom → TargetsInRam n f s ram → Spares n f s → NoneEqual n f s ram rom →
     roundsOf n f s ram rom ≡ did t m → roundOf f t m rom ≡ no w →
     (runOf steps s ram rom ≡ ends n t m (Refused w)) × ((w ≡ Missing) ⊎ (w ≡ ToRom))

@@ -44,8 +44,12 @@ abbrev pub afterChecks : Try → State → List ℕ → Result → Result
 afterChecks (did t m) s ram r = r
 afterChecks (no w) s ram r = ends 0 s ram (Refused w)
 
+-- the most steps that a run may be asked for
+abbrev pub mostSteps : ℕ
+mostSteps = 1000000
+
 -- a run checks 7, 1 and 2 even for 0 steps
 unfoldable pub runOf : ℕ → State → List ℕ → List ℕ → Result
 runOf n s ram rom =
-    cond (ltb 1000000 n) (ends 0 s ram (Refused TooMany))
+    cond (ltb mostSteps n) (ends 0 s ram (Refused TooMany))
     (afterChecks (guarded s ram rom (did s ram)) s ram (goOf n 0 s ram rom))

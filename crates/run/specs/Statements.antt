@@ -10,7 +10,7 @@ use Rattle.state.specs.declared.State.{State}
 use Rattle.step.specs.Try.{Outcome, no}
 use Rattle.step.specs.Step.{tryOf, stepOf}
 use Rattle.run.specs.declared.Ran.{Ran}
-use Rattle.run.specs.Run.{Result, result, ends, runOf}
+use Rattle.run.specs.Run.{mostSteps, Result, result, ends, runOf}
 
 -- the statement of the call settles its full result: two answers that meet it, with the RAM after them, are the same
 abbrev pub RunSettled : Type 0
@@ -25,13 +25,13 @@ later n r = record { state = r .state; ram = r .ram; done = n + r .done; answer 
 -- n steps and then m steps are n plus m steps
 abbrev pub RunsJoin : Type 0
 RunsJoin =
-    (n m : ℕ) (s : State) (ram rom : List ℕ) → n + m ≤ 1000000 → runOf n s ram rom .answer ≡ Done →
+    (n m : ℕ) (s : State) (ram rom : List ℕ) → n + m ≤ mostSteps → runOf n s ram rom .answer ≡ Done →
     runOf (n + m) s ram rom ≡ later n (runOf m (runOf n s ram rom .state) (runOf n s ram rom .ram) rom)
 
 -- a run that was refused is not changed by asking for more
 abbrev pub RunStops : Type 0
 RunStops =
-    (n m : ℕ) (s : State) (ram rom : List ℕ) (w : Why) → n + m ≤ 1000000 → runOf n s ram rom .answer ≡ Refused w →
+    (n m : ℕ) (s : State) (ram rom : List ℕ) (w : Why) → n + m ≤ mostSteps → runOf n s ram rom .answer ≡ Refused w →
     runOf (n + m) s ram rom ≡ runOf n s ram rom
 
 -- a step as a run: one step done, or none

@@ -26,8 +26,9 @@ use Rattle.step.specs.Jump.{jumpOf}
 use Rattle.step.specs.Block.{counted, moved, copied, compared, roundOf, goesOn, endsAt}
 use Rattle.step.specs.Exec.{pastOf, effectOf, executedOf}
 use Rattle.step.specs.Step.{guarded, onceOf, tryOf, stepOf}
-use Rattle.step.specs.Examples.{given, sameBytes, reaches, right, every, examples}
+use Rattle.alu.specs.Cases.{every}
+use Rattle.step.specs.Examples.{given, sameBytes, reaches, right, examples}
 
-pub examples-hold : T (every examples)
+pub examples-hold : T (every right examples)
 unfolding valueOf bytesFrom replaced placeOf loadOf storeOf ramAfter codeAt zeroState validOf longOf withLong withCounter withBank withBothFlags withFlags getBits setBits getSlot setSlot slotOf getRegister setRegister byteOf flagsOf basic holdsOf onesOf evenOnes parityOf computedOf sumOf differenceOf plain andOf orOf xorOf operated placesOf shiftBy shiftOf incOf decOf extzOf extsOf numberAt judge lookup placesRows registerRows memoryRows storeRows copies compares blocks indirectRows bankNumberRows bankRows flagRows constantRows stackRows jumpRows relativeRows registerFormRows absoluteRows memoryFormRows memoryAtRows storeFormRows firstRows decodeOf addressOf valueAt storing pushOf popOf flagged jumpOf counted moved copied compared roundOf goesOn endsAt pastOf effectOf executedOf guarded onceOf tryOf stepOf given sameBytes reaches right every examples
 examples-hold = tt

@@ -12,7 +12,7 @@ use Rattle.answer.specs.declared.Why.{Why}
 use Rattle.answer.specs.declared.Why.the-variants.{TooMany, TooLong, Invalid, NoCode, Unlisted, Missing, ToRom}
 use Rattle.answer.specs.declared.Answer.{Answer}
 use Rattle.answer.specs.declared.Answer.the-variants.{Done, Refused}
-use Rattle.answer.specs.Number.{whyNumber, numberOf}
+use Rattle.answer.specs.Number.{whyNumber, numberOf, firstRefusal}
 use Rattle.little.specs.declared.Size.the-variants.{Long}
 use Rattle.memory.specs.Access.{codeAt, loadFrom, storeTo}
 use Rattle.memory.specs.Place.{placeOf}
@@ -33,7 +33,7 @@ use Rattle.step.specs.Block.{moved, copied, compared, roundOf, goesOn, e
 use Rattle.step.specs.Exec.{pastOf, effectOf, executedOf}
 use Rattle.step.specs.Step.{tooLong, guarded, done, onceOf, tryOf, stepOf}
 use Rattle.step.specs.Reset.{resetOf, resetFrom}
-use Rattle.step.specs.Touched.{Span, none, bytes, readOf, targetOf, loadTo, readAnswer, storeAnswer, unless, answerBy, Spares}
+use Rattle.step.specs.Touched.{Span, none, bytes, readOf, targetOf, loadTo, readAnswer, storeAnswer, answerBy, Spares}
 use Rattle.step.specs.Statements.{_⇔_, RefusedChangesNothing, Within, Passed, RefusedWhen, KeepsValid, StoresOnlyThere, Settled, ResetMissing, single, RoundIsSingle}
 use Rattle.step.proofs.Touched.{Kept, Fair}
 use Rattle.step.proofs.Kept.{valid-kept, sound-kept, spares-length, executed-fair}
@@ -106,7 +106,7 @@ by-operands ram rom r g = go (readAnswer ram rom r) (reading r) (storeAnswer ram
     storing none = inl refl
     storing (bytes a n) = by-store (placeOf (length ram) (length rom) a n)
 
-    go : (a : Answer) → ByOperands a → (b : Answer) → ByOperands b → ByOperands (unless a b)
+    go : (a : Answer) → ByOperands a → (b : Answer) → ByOperands b → ByOperands (firstRefusal a b)
     go Done p b q = q
     go (Refused w) p b q = p
 

@@ -5,6 +5,7 @@ use mathlib.Core.List.{List}
 use mathlib.Core.Bool.{Bool, true, false, cond}
 use mathlib.Core.Logic.{_⊎_, ⊎-elim}
 use lib.ListN.{getD, take, drop}
+use Rattle.answer.specs.Number.{firstRefusal}
 use Rattle.answer.specs.declared.Answer.{Answer}
 use Rattle.answer.specs.declared.Answer.the-variants.{Done, Refused}
 use Rattle.little.specs.declared.Size.{Size}
@@ -36,7 +37,7 @@ use Rattle.step.specs.Jump.{jumpOf}
 use Rattle.step.specs.Compute.{computed, resultIn, storesOf, answerIn}
 use Rattle.step.specs.Block.{counted, moved, copied, compared, roundOf, goesOn, endsAt}
 use Rattle.step.specs.Exec.{pastOf, effectOf}
-use Rattle.step.specs.Touched.{Span, none, bytes, operandSpan, onStack, belowStack, readOf, targetOf, loadTo, readAnswer, storeAnswer, unless, answerBy, Spares}
+use Rattle.step.specs.Touched.{Span, none, bytes, operandSpan, onStack, belowStack, readOf, targetOf, loadTo, readAnswer, storeAnswer, answerBy, Spares}
 use Rattle.step.proofs.Laws.{address-flags}
 
 -- what no change of the state breaks
@@ -97,8 +98,8 @@ module _ (P : State → Type 0) (ram rom : List ℕ) where
   -- what is read is there
   read-first : (r g : Span) (t : Try) → readAnswer ram rom r ≡ Done → Fair none g t → Fair r g t
   unfolding Fair answerBy
-  read-first r g (did t m) e (p, (q, a)) = (p, (q, ap (λ (x : Answer). unless x (storeAnswer ram rom g)) e ∙ a))
-  read-first r g (no w) e a = ap (λ (x : Answer). unless x (storeAnswer ram rom g)) e ∙ a
+  read-first r g (did t m) e (p, (q, a)) = (p, (q, ap (λ (x : Answer). firstRefusal x (storeAnswer ram rom g)) e ∙ a))
+  read-first r g (no w) e a = ap (λ (x : Answer). firstRefusal x (storeAnswer ram rom g)) e ∙ a
 
   fair-did : (s : State) → P s → Fair none none (did s ram)
   unfolding Fair answerBy
@@ -130,7 +131,7 @@ module _ (P : State → Type 0) (ram rom : List ℕ) where
       go : (p : Place) → operandAt ram rom a z ≡ p → Fair (bytes a (bytesOf z)) g (withLoaded (loadFrom p ram rom (bytesOf z)) f)
       go (Ram o) e = there (valueOf (take (bytesOf z) (drop o ram))) (ap loadTo e)
       go (Rom o) e = there (valueOf (take (bytesOf z) (drop o rom))) (ap loadTo e)
-      go Missing e = ap (λ (p : Place). unless (loadTo p) (storeAnswer ram rom g)) e
+      go Missing e = ap (λ (p : Place). firstRefusal (loadTo p) (storeAnswer ram rom g)) e
 
   fair-value : (s : State) (z : Size) (o : Operand) (g : Span) (f : ℕ → Try) → ((v : ℕ) → Fair none g (f v)) → Fair (operandSpan s z o) g (withLoaded (valueAt s ram rom z o) f)
   unfolding valueAt

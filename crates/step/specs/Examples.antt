@@ -107,11 +107,6 @@ right e =
     let start = given (e .before) (record { state = zeroState; ram = e .ram }) in
     reaches (e .steps) (start .state) (start .ram) (e .rom) (given (e .after) start)
 
--- and all of them
-unfoldable pub every : List Example → Bool
-every [] = true
-every (e ∷ es) = right e && every es
-
 -- n steps of a code that ends at FFFFEFH, in ROM: the counter is FFFFF0H after them, where `after` gives no other
 abbrev steps : ℕ → List ℕ → List Given → List Given → Example
 steps n code before after =

@@ -3,26 +3,22 @@ use Prim.Native.Nat.{ℕ}
 use mathlib.Core.List.{List}
 use mathlib.Core.Bool.{cond}
 use lib.ListN.{length}
-use Rattle.answer.specs.declared.Why.{Why}
 use Rattle.answer.specs.declared.Why.the-variants.{TooLong}
-use Rattle.answer.specs.declared.Answer.the-variants.{Done, Refused}
+use Rattle.answer.specs.declared.Answer.the-variants.{Done}
 use Rattle.little.specs.declared.Size.the-variants.{Long}
 use Rattle.memory.specs.Access.{loadOf}
 use Rattle.memory.specs.declared.Loaded.{Loaded}
 use Rattle.memory.specs.declared.Loaded.the-variants as loaded
 use Rattle.state.specs.State.{zeroState, resetState}
 use Rattle.step.specs.declared.Stepped.{Stepped}
+use Rattle.step.specs.Try.{refusedWith}
 use Rattle.step.specs.Step.{tooLong}
 
--- a refusal returns the all-zero state
-abbrev pub notReset : Why → Stepped
-notReset w = record { state = zeroState; answer = Refused w }
-
--- from the vector that was loaded, or not
+-- from the vector that was loaded, or not: a refusal returns the all-zero state
 abbrev pub resetFrom : Loaded → Stepped
 resetFrom (loaded.Value v) = record { state = resetState v; answer = Done }
-resetFrom (loaded.Refused w) = notReset w
+resetFrom (loaded.Refused w) = refusedWith zeroState w
 
 -- 1; then the vector, the four bytes at FFFF00H: 5 where they are missing, which is where ROM is shorter than 256 bytes
 unfoldable pub resetOf : List ℕ → List ℕ → Stepped
-resetOf ram rom = cond (tooLong (length ram) (length rom)) (notReset TooLong) (resetFrom (loadOf ram rom 0xFFFF00 Long))
+resetOf ram rom = cond (tooLong (length ram) (length rom)) (refusedWith zeroState TooLong) (resetFrom (loadOf ram rom 0xFFFF00 Long))

@@ -12,7 +12,7 @@ use Rattle.answer.specs.declared.Answer.the-variants.{Done, Refused}
 use Rattle.answer.specs.Number.{whyNumber}
 use Rattle.little.specs.declared.Size.{Size}
 use Rattle.memory.specs.Access.{codeAt}
-use Rattle.state.specs.State.{validOf}
+use Rattle.state.specs.State.{validOf, zeroState}
 use Rattle.state.specs.Sound.{Sound}
 use Rattle.state.specs.declared.State.{State}
 use Rattle.code.specs.declared.Form.{Form}
@@ -22,12 +22,12 @@ use Rattle.code.specs.declared.Instruction.{Instruction}
 use Rattle.code.specs.declared.Decoded.the-variants as decoded
 use Rattle.code.specs.Listed.{decodeOf}
 use Rattle.step.specs.declared.Stepped.{Stepped}
-use Rattle.step.specs.Try.{outcome, andThen}
+use Rattle.step.specs.Try.{outcome, andThen, refusedWith}
 use Rattle.step.specs.Block.{roundOf, endsAt}
 use Rattle.step.specs.Exec.{pastOf, effectOf}
 use Rattle.step.specs.Step.{stepOf}
 use Rattle.step.specs.Show.{shownOf, showAnswerOf}
-use Rattle.step.specs.Reset.{resetOf, notReset}
+use Rattle.step.specs.Reset.{resetOf}
 use Rattle.step.specs.Touched.{readOf, targetOf, answerBy, Spares}
 
 infix 5 _⇔_
@@ -84,7 +84,7 @@ pub record Settled (s : State) (ram rom : List ℕ) (at : ℕ) : Type 0 where
 abbrev pub ResetMissing : Type 0
 ResetMissing =
     (ram rom : List ℕ) → Within ram rom →
-    (length rom < 256 → resetOf ram rom ≡ notReset Missing) × (256 ≤ length rom → resetOf ram rom .answer ≡ Done)
+    (length rom < 256 → resetOf ram rom ≡ refusedWith zeroState Missing) × (256 ≤ length rom → resetOf ram rom .answer ≡ Done)
 
 -- the single form of a repeating one: LDI of LDIR, LDD of LDDR, CPI of CPIR, CPD of CPDR
 unfoldable pub single : Form → Form

@@ -5,6 +5,7 @@ use mathlib.Core.List.{List}
 use mathlib.Core.Bool.{cond}
 use mathlib.Core.Logic.{_⊎_}
 use lib.ListN.{length, getD}
+use Rattle.answer.specs.Number.{firstRefusal}
 use Rattle.answer.specs.declared.Answer.{Answer}
 use Rattle.answer.specs.declared.Answer.the-variants.{Done, Refused}
 use Rattle.answer.specs.declared.Why.the-variants as why
@@ -137,14 +138,9 @@ abbrev pub storeAnswer : List ℕ → List ℕ → Span → Answer
 storeAnswer ram rom none = Done
 storeAnswer ram rom (bytes a n) = storeTo (placeOf (length ram) (length rom) a n)
 
--- the first refusal of two
-abbrev pub unless : Answer → Answer → Answer
-unless Done b = b
-unless (Refused w) b = Refused w
-
 -- 5 for the read comes first, then 5 for the store, then 6
 unfoldable pub answerBy : List ℕ → List ℕ → Span → Span → Answer
-answerBy ram rom read target = unless (readAnswer ram rom read) (storeAnswer ram rom target)
+answerBy ram rom read target = firstRefusal (readAnswer ram rom read) (storeAnswer ram rom target)
 
 -- two memories of one length that differ at most in a span
 abbrev pub Spares : Span → List ℕ → List ℕ → Type 0
