@@ -1,6 +1,7 @@
-//! Worked examples as data: the books' execution examples ([`BOOK`]), the
-//! cases P1 to P12 of document 01 ([`CASES`]), and more of our own, worked by
-//! hand from document 01 for the codes that those leave out ([`HAND`]).
+//! Worked examples as data: the books' execution examples ([`book`]), the
+//! cases P1 to P12 of document 01 ([`cases`]), and more of our own, worked by
+//! hand from document 01 for the codes that those leave out ([`hand`]). They
+//! stand in three tables of plain text, to be held beside the books.
 //!
 //! They are public so that any implementation that speaks in records and
 //! memories can be run over them: [`Example::start`] gives what to begin
@@ -17,13 +18,27 @@
 //! Nothing here uses the interpreter: the places of registers in a record
 //! are written out again.
 
-mod book;
-mod cases;
-mod hand;
+mod table;
 
-pub use book::BOOK;
-pub use cases::CASES;
-pub use hand::HAND;
+/// The books' execution examples.
+pub fn book() -> Vec<Example> {
+    table::read("book.txt", include_str!("examples/book.txt"))
+}
+
+/// The cases P1 to P12 of document 01.
+pub fn cases() -> Vec<Example> {
+    table::read("cases.txt", include_str!("examples/cases.txt"))
+}
+
+/// Examples worked by hand.
+pub fn hand() -> Vec<Example> {
+    table::read("hand.txt", include_str!("examples/hand.txt"))
+}
+
+/// Every example: the books', then the cases, then those worked by hand.
+pub fn all() -> Vec<Example> {
+    [book(), cases(), hand()].concat()
+}
 
 /// One thing that a state or RAM holds.
 #[derive(Clone, Copy, Debug, PartialEq, Eq)]
@@ -43,7 +58,7 @@ pub enum Part {
 }
 
 /// A worked example.
-#[derive(Clone, Copy, Debug)]
+#[derive(Clone, Debug)]
 pub struct Example {
     /// The case's name, or the instruction as the book writes it.
     pub name: &'static str,
@@ -52,13 +67,13 @@ pub struct Example {
     /// The address of the first code byte.
     pub at: u16,
     /// The code bytes.
-    pub code: &'static [u8],
+    pub code: Vec<u8>,
     /// What is given before.
-    pub before: &'static [Part],
+    pub before: Vec<Part>,
     /// How many steps are done.
     pub steps: u32,
     /// What is different or stated after.
-    pub after: &'static [Part],
+    pub after: Vec<Part>,
 }
 
 /// A saved state and the two memories.
@@ -83,16 +98,16 @@ impl Example {
         // Bits 11 and 15 of SR are always one.
         scene.record[85] = 0x88;
         let first = usize::from(self.at);
-        scene.ram[first..first + self.code.len()].copy_from_slice(self.code);
+        scene.ram[first..first + self.code.len()].copy_from_slice(&self.code);
         scene.put(Part::Counter(u32::from(self.at)));
-        scene.put_all(self.before);
+        scene.put_all(&self.before);
         scene
     }
 
     /// What must be found after the steps.
     pub fn end(&self) -> Scene {
         let mut scene = self.start();
-        scene.put_all(self.after);
+        scene.put_all(&self.after);
         scene
     }
 }
@@ -107,7 +122,7 @@ impl Scene {
     fn put(&mut self, part: Part) {
         match part {
             Part::Register(name, value) => {
-                let (first, size) = register_place(name);
+                let (first, size) = register_place(name).expect(name);
                 let bytes = value.to_le_bytes();
                 self.record[first..first + size].copy_from_slice(&bytes[..size]);
             }
@@ -121,8 +136,8 @@ impl Scene {
 }
 
 /// Where a register of bank 0, or a shared one, lies in a record, and its
-/// size.
-fn register_place(name: &str) -> (usize, usize) {
+/// size. `None` if no register is called so.
+fn register_place(name: &str) -> Option<(usize, usize)> {
     let long = ["XWA", "XBC", "XDE", "XHL"];
     let word = ["WA", "BC", "DE", "HL"];
     let high = ["W", "B", "D", "H"];
@@ -139,24 +154,8 @@ fn register_place(name: &str) -> (usize, usize) {
     ];
     for (names, offset, size) in tables {
         if let Some(place) = names.iter().position(|&known| known == name) {
-            return (offset + 4 * place, size);
+            return Some((offset + 4 * place, size));
         }
     }
-    panic!("no register is called {name}")
-}
-
-/// Where the code lies if the example does not say.
-const AT: u16 = 0x8000;
-
-/// The counter after so many bytes of code at [`AT`].
-const fn past(bytes: u32) -> Part {
-    Part::Counter(AT as u32 + bytes)
-}
-
-const fn reg(name: &'static str, value: u32) -> Part {
-    Part::Register(name, value)
-}
-
-const fn mem(address: u16, value: u8) -> Part {
-    Part::Memory(address, value)
+    None
 }

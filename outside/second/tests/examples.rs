@@ -1,6 +1,6 @@
 //! Runs every worked example through records and memories alone.
 
-use second::examples::{Example, BOOK, CASES, HAND};
+use second::examples::{all, book, cases, hand, Example};
 use second::{run, show, step, Machine};
 
 fn check(example: &Example) {
@@ -21,35 +21,37 @@ fn check(example: &Example) {
 
 #[test]
 fn the_books_examples() {
-    assert_eq!(BOOK.len(), 43);
-    BOOK.iter().for_each(check);
+    assert_eq!(book().len(), 43);
+    book().iter().for_each(check);
 }
 
 #[test]
 fn the_cases_of_document_01() {
-    assert_eq!(CASES.len(), 13);
-    CASES.iter().for_each(check);
+    let cases = cases();
+    assert_eq!(cases.len(), 13);
+    cases.iter().for_each(check);
     for number in 1..=12 {
         let name = format!("P{number}");
         let named = |case: &&Example| case.name.split(',').next() == Some(name.as_str());
-        assert!(CASES.iter().any(|case| named(&case)), "{name} is missing");
+        assert!(cases.iter().any(|case| named(&case)), "{name} is missing");
     }
 }
 
 #[test]
 fn our_own_examples() {
-    HAND.iter().for_each(check);
+    assert_eq!(hand().len(), 211);
+    hand().iter().for_each(check);
 }
 
 /// An example of one step has exactly one instruction as its code.
 #[test]
 fn the_code_is_shown_whole() {
-    for example in BOOK.iter().chain(CASES).chain(HAND) {
+    for example in all() {
         if example.steps == 1 {
             let scene = example.start();
             let at = u32::from(example.at);
             let (bytes, number) = show(&scene.ram, &scene.rom, at);
-            assert_eq!((bytes, number), (example.code, 0), "{}", example.name);
+            assert_eq!((bytes, number), (&example.code[..], 0), "{}", example.name);
         }
     }
 }
@@ -58,14 +60,14 @@ fn the_code_is_shown_whole() {
 /// nothing else differs but the counter.
 #[test]
 fn the_code_may_lie_in_rom() {
-    for example in BOOK.iter().chain(CASES).chain(HAND) {
+    for example in all() {
         let mut scene = example.start();
         let mut in_ram = Machine::from_record(&scene.record).unwrap();
         let mut in_rom = in_ram.clone();
         let mut ram = scene.ram.clone();
         let mut rom = vec![0; 65_536];
         let first = usize::from(example.at);
-        rom[first..first + example.code.len()].copy_from_slice(example.code);
+        rom[first..first + example.code.len()].copy_from_slice(&example.code);
         in_rom.counter += 0xFF_0000;
         for _ in 0..example.steps {
             assert_eq!(step(&mut in_ram, &mut scene.ram, &scene.rom), 0);

@@ -4,11 +4,11 @@
 use super::Bench;
 use crate::case::{Call, Case};
 use crate::image::Image;
-use second::examples::{Example, BOOK, CASES, HAND};
+use second::examples::{self, Example};
 
 pub fn all(bench: &mut Bench) {
-    for example in BOOK.iter().chain(CASES).chain(HAND) {
-        example_holds(bench, example);
+    for example in examples::all() {
+        example_holds(bench, &example);
     }
 }
 

@@ -1,0 +1,217 @@
+//! Reads a table of worked examples, one example a line:
+//!
+//! ```text
+//! # name   | source        | code        | before                | after
+//! CP HL,IX | 000 line 1786 | DC F3       | HL=1234 IX=1234       | F=42 +2
+//! POP IX   | 000 line 1133 | 4C          | XSP=0100 [0100]=56,78 | IX=7856 XSP=0102 +1
+//! P10      | 01            | @2000 68 32 |                       | PC=002034
+//! P12      | 01            | 84 15 x3    | A=33 XIX=3456 BC=0200 | XIX=3459 BC=01FD F=46 +2
+//!          |               |             | [3456]=11,22,33       |
+//! ```
+//!
+//! Every number is hexadecimal. The code lies at 8000 and one step is done;
+//! `@2000` before the code is another address, `x3` after it another number
+//! of steps. Before and after stand:
+//!
+//! - `HL=1234`: a register by its book name, `F=42` and `F'=42` the flags,
+//!   `BANK=3` the current bank;
+//! - `PC=002034`: the counter, and `+2` the counter two past the first byte of
+//!   the code;
+//! - `[0100]=56,78`: bytes of RAM, one after another from the address on.
+//!
+//! A line whose first three columns are empty goes on with the example above
+//! it. Empty lines, and those that begin with `#`, are for the reader only.
+
+use super::{register_place, Example, Part};
+
+/// The examples of a table, in its order. A line that is none stops
+/// everything: a slip in a table must not pass for a smaller table.
+pub fn read(file: &str, text: &'static str) -> Vec<Example> {
+    let mut examples = Vec::new();
+    for (above, line) in text.lines().enumerate() {
+        let remark = line.starts_with('#') || line.is_empty();
+        if !remark && add(&mut examples, line).is_none() {
+            panic!("{file}, line {} is malformed: {line}", above + 1);
+        }
+    }
+    examples
+}
+
+/// Begins an example, or goes on with the last; `None` if the line is
+/// malformed.
+fn add(examples: &mut Vec<Example>, line: &'static str) -> Option<()> {
+    let columns: Vec<&'static str> = line.split('|').map(str::trim).collect();
+    let [name, source, code, before, after] = <[&'static str; 5]>::try_from(columns).ok()?;
+    if !(name.is_empty() && source.is_empty() && code.is_empty()) {
+        examples.push(begin(name, source, code)?);
+    }
+    let example = examples.last_mut()?;
+    example.before.append(&mut parts(before, example.at)?);
+    example.after.append(&mut parts(after, example.at)?);
+    Some(())
+}
+
+/// An example with nothing before and after it yet.
+fn begin(name: &'static str, source: &'static str, code: &str) -> Option<Example> {
+    let mut words: Vec<&str> = code.split_whitespace().collect();
+    let mut at = 0x8000;
+    if let Some(other) = words.first()?.strip_prefix('@') {
+        at = number(other, 4)?;
+        words.remove(0);
+    }
+    let mut steps = 1;
+    if let Some(other) = words.last()?.strip_prefix('x') {
+        steps = number(other, 8)?;
+        words.pop();
+    }
+    if name.is_empty() || source.is_empty() || words.is_empty() {
+        return None;
+    }
+    Some(Example {
+        name,
+        source,
+        at,
+        code: words.into_iter().map(byte).collect::<Option<_>>()?,
+        before: Vec::new(),
+        steps,
+        after: Vec::new(),
+    })
+}
+
+/// What a column before or after says of an example whose code begins there.
+fn parts(column: &'static str, at: u16) -> Option<Vec<Part>> {
+    let mut parts = Vec::new();
+    for word in column.split_whitespace() {
+        if let Some(past) = word.strip_prefix('+') {
+            parts.push(Part::Counter(u32::from(at) + number::<u32>(past, 2)?));
+            continue;
+        }
+        let (name, value) = word.split_once('=')?;
+        match name.strip_prefix('[') {
+            Some(rest) => parts.append(&mut memory(rest.strip_suffix(']')?, value)?),
+            None => parts.push(named(name, value)?),
+        }
+    }
+    Some(parts)
+}
+
+/// Bytes of RAM, one after another.
+fn memory(first: &str, values: &str) -> Option<Vec<Part>> {
+    let first: u32 = number(first, 4)?;
+    let places = (first..).zip(values.split(','));
+    places
+        .map(|(address, value)| Some(Part::Memory(u16::try_from(address).ok()?, byte(value)?)))
+        .collect()
+}
+
+/// Anything else that has a name. A value must fit where it goes, since a
+/// scene would cut it.
+fn named(name: &'static str, value: &str) -> Option<Part> {
+    Some(match name {
+        "F" => Part::F(byte(value)?),
+        "F'" => Part::SpareF(byte(value)?),
+        "BANK" => Part::Bank(number(value, 1).filter(|&bank| bank < 4)?),
+        "PC" => Part::Counter(number(value, 6)?),
+        _ => {
+            let (_, size) = register_place(name)?;
+            Part::Register(name, number(value, 2 * size)?)
+        }
+    })
+}
+
+/// A byte has two digits, no fewer, so that none is lost unseen.
+fn byte(digits: &str) -> Option<u8> {
+    number(digits, 2).filter(|_| digits.len() == 2)
+}
+
+/// A number of at most so many digits.
+fn number<T: TryFrom<u32>>(digits: &str, most: usize) -> Option<T> {
+    // The library's reader would let a sign pass.
+    let plain = digits.len() <= most && digits.bytes().all(|digit| digit.is_ascii_hexdigit());
+    let value = u32::from_str_radix(digits, 16).ok().filter(|_| plain)?;
+    T::try_from(value).ok()
+}
+
+#[cfg(test)]
+mod tests {
+    use super::*;
+
+    #[test]
+    fn every_kind_of_word() {
+        let text = "# A remark.\n\n\
+            one   | here  | @2000 68 32 x3 | A=33 XIX=3456 F=01 F'=02 BANK=3 | PC=002034\n\
+                  |       |                | [3456]=11,22                    | +2\n\
+            EX #2 | there | 16             |                                 | +1\n";
+        let [one, two] = <[Example; 2]>::try_from(read("table", text)).unwrap();
+        assert_eq!((one.name, one.source), ("one", "here"));
+        assert_eq!((one.at, one.steps), (0x2000, 3));
+        assert_eq!(one.code, [0x68, 0x32]);
+        let before = [
+            Part::Register("A", 0x33),
+            Part::Register("XIX", 0x3456),
+            Part::F(1),
+            Part::SpareF(2),
+            Part::Bank(3),
+            Part::Memory(0x3456, 0x11),
+            Part::Memory(0x3457, 0x22),
+        ];
+        assert_eq!(one.before, before);
+        assert_eq!(one.after, [Part::Counter(0x2034), Part::Counter(0x2002)]);
+        assert_eq!((two.name, two.at, two.steps), ("EX #2", 0x8000, 1));
+        assert!(two.before.is_empty());
+        assert_eq!(two.after, [Part::Counter(0x8001)]);
+    }
+
+    #[test]
+    #[should_panic(expected = "table, line 3 is malformed: CP HL,IX | DC F3 | | F=42 +2")]
+    fn a_malformed_line_is_named() {
+        let text = "# A remark.\nNOP | 01 | 00 | | +1\nCP HL,IX | DC F3 | | F=42 +2\n";
+        read("table", text);
+    }
+
+    #[test]
+    #[should_panic(expected = "table, line 1 is malformed:  | | | F=42 | +2")]
+    fn nothing_goes_on_before_the_first() {
+        read("table", " | | | F=42 | +2\nNOP | 01 | 00 | | +1\n");
+    }
+
+    /// Each line has one slip, after a line that has none.
+    #[test]
+    fn slips_are_seen() {
+        let slips = [
+            "NOP | 01 | 00 | | +1 |",
+            " | 01 | 00 | | +1",
+            "NOP | | 00 | | +1",
+            "NOP | 01 | | | +1",
+            "NOP | 01 | @2000 | | +1",
+            "NOP | 01 | x2 | | +1",
+            "NOP | 01 | 00 @2000 | | +1",
+            "NOP | 01 | x2 00 | | +1",
+            "NOP | 01 | 0 | | +1",
+            "NOP | 01 | 000 | | +1",
+            "NOP | 01 | 0G | | +1",
+            "NOP | 01 | +1 | | +1",
+            "NOP | 01 | @12000 00 | | +1",
+            "NOP | 01 | 00 x | | +1",
+            "NOP | 01 | 00 | Q=00 | +1",
+            "NOP | 01 | 00 | A | +1",
+            "NOP | 01 | 00 | A= | +1",
+            "NOP | 01 | 00 | A=100 | +1",
+            "NOP | 01 | 00 | HL=-1 | +1",
+            "NOP | 01 | 00 | HL=12345 | +1",
+            "NOP | 01 | 00 | XHL=123456789 | +1",
+            "NOP | 01 | 00 | F=100 | +1",
+            "NOP | 01 | 00 | BANK=4 | +1",
+            "NOP | 01 | 00 | [1000=00 | +1",
+            "NOP | 01 | 00 | [10000]=00 | +1",
+            "NOP | 01 | 00 | [1000]=00, | +1",
+            "NOP | 01 | 00 | [FFFF]=00,00 | +1",
+            "NOP | 01 | 00 | | PC=1000000",
+            "NOP | 01 | 00 | | +",
+        ];
+        for slip in slips {
+            let mut examples = read("table", "NOP | 01 | 00 | | +1");
+            assert!(add(&mut examples, slip).is_none(), "{slip}");
+        }
+    }
+}
