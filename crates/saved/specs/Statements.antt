@@ -1,14 +1,19 @@
--- What is proved of saving and loading, beside what each call promises. Each statement is proved in proofs/RoundTrip.antt.
+-- What is proved of saving and loading, beside what each call promises. Each statement is proved in proofs/RoundTrip.antt or proofs/Refusals.antt.
 use Prim.Native.Nat.{ℕ}
 use mathlib.Core.Path.{_≡_}
-use mathlib.Core.Bool.{true}
-use mathlib.Core.List.{List}
-use Rattle.answer.specs.declared.Answer.the-variants.{Done}
+use mathlib.Core.Bool.{true, false}
+use mathlib.Core.Logic.{_⊎_}
+use mathlib.Core.List.{List, [], _∷_, _++_}
+use lib.ListN.{length, replicate}
+use Rattle.answer.specs.declared.Answer.{Answer}
+use Rattle.answer.specs.declared.Answer.the-variants.{Done, Refused}
+use Rattle.answer.specs.declared.Why.the-variants.{Invalid}
 use Rattle.little.specs.Bytes.{Bytes}
-use Rattle.state.specs.State.{validOf}
+use Rattle.state.specs.State.{zeroState, validOf}
 use Rattle.state.specs.Sound.{Sound}
 use Rattle.state.specs.declared.State.{State}
-use Rattle.saved.specs.Record.{recordOf, stateAt, isRecord, loadOf}
+use Rattle.saved.specs.declared.Restored.{Restored}
+use Rattle.saved.specs.Record.{recordOf, saveAnswer, saveBytes, stateAt, isRecord, loadOf}
 
 -- a saved state reads back as itself
 abbrev pub SavedReadsBack : Type 0
@@ -23,3 +28,24 @@ abbrev pub RecordsAreOfStates : Type 0
 RecordsAreOfStates =
     ((s : State) → Sound s → validOf s ≡ true → isRecord (recordOf s) ≡ true)
     × ((l : List ℕ) → Bytes l → isRecord l ≡ true → (validOf (stateAt l) ≡ true) × (recordOf (stateAt l) ≡ l))
+
+-- the record of the all-zero state has no bit but the two ones of SR
+abbrev pub ZeroRecord : Type 0
+ZeroRecord = recordOf zeroState ≡ replicate 85 0 ++ (0x88 ∷ 0 ∷ 0 ∷ [])
+
+-- a save is done for a valid state and 88 bytes, and leaves the record; any other is 2 and leaves the buffer
+abbrev pub Saves : Type 0
+Saves =
+    (s : State) (b : List ℕ) →
+    ((validOf s ≡ true) → (length b ≡ 88) → (saveAnswer s (length b) ≡ Done) × (saveBytes s b ≡ recordOf s))
+    × (((validOf s ≡ false) ⊎ (length b ≡ 88 → ⊥)) → (saveAnswer s (length b) ≡ Refused Invalid) × (saveBytes s b ≡ b))
+
+-- what is no good record is 2, and gives the all-zero state
+abbrev pub BadRecords : Type 0
+BadRecords = (l : List ℕ) → isRecord l ≡ false → loadOf l ≡ record { answer = Refused Invalid; state = zeroState }
+
+-- two outcomes of a save, or of a load, that meet what it promises are the same
+abbrev pub Settled : Type 0
+Settled =
+    ((s : State) (b c d : List ℕ) (a e : Answer) → (a ≡ saveAnswer s (length b)) × (c ≡ saveBytes s b) → (e ≡ saveAnswer s (length b)) × (d ≡ saveBytes s b) → (a ≡ e) × (c ≡ d))
+    × ((l : List ℕ) (r q : Restored) → r ≡ loadOf l → q ≡ loadOf l → r ≡ q)

@@ -1,7 +1,7 @@
 -- What a user may hold each call to. Each statement is proved in proofs/Statements.antt.
 use Prim.Native.Nat.{ℕ, _<_, _≤_, _^_}
 use mathlib.Core.Path.{_≡_}
-use mathlib.Core.List.{List}
+use mathlib.Core.List.{List, _++_}
 use mathlib.Core.Bool.{true, false}
 use mathlib.Core.Logic.{_⊎_}
 use lib.ListN.{length}
@@ -79,6 +79,11 @@ pub record Settled (s : State) (ram rom : List ℕ) (at : ℕ) : Type 0 where
   pub show : (a b : List ℕ) → a ≡ shownOf ram rom at → b ≡ shownOf ram rom at → a ≡ b
   pub showAnswer : (a b : Answer) → a ≡ showAnswerOf ram rom at → b ≡ showAnswerOf ram rom at → a ≡ b
   pub reset : (r q : Stepped) → r ≡ resetOf ram rom → q ≡ resetOf ram rom → r ≡ q
+
+-- what is shown stands at the address: the code there begins with it
+abbrev pub ShownStands : Type 0
+ShownStands =
+    (ram rom : List ℕ) (at : ℕ) → showAnswerOf ram rom at ≡ Done → (rest : List ℕ) × (shownOf ram rom at ++ rest ≡ codeAt ram rom at)
 
 -- within the limits, reset is refused with 5 and the all-zero state exactly where ROM is shorter than 256 bytes; else it is done
 abbrev pub ResetMissing : Type 0
