@@ -58,7 +58,8 @@ pub fn load(ram: &[u8], rom: &[u8], address: u32, size: Size) -> Loaded
     }
 }
 
-// Stores a value at an address: the part of RAM that it goes to is lent to the writer.
+// Stores a value at an address: the part of RAM that it goes to is lent to the writer. Its length is written out for each size,
+// so that the compiler makes one store of the writer's loop.
 pub fn store(ram: &mut [u8], rom: &[u8], address: u32, size: Size, v: u32) -> Answer
     ensures { λ r. ⌜ r ≡ storeOf (now (ram .entry)) (now (rom .entry)) address size ⌝ }
     ensures { λ _. ⌜ now (ram .exit) ≡ ramAfter (now (ram .entry)) (now (rom .entry)) address size v ⌝ }

@@ -18,7 +18,7 @@ getBits o k x = x / 2 ^ o % 2 ^ k
 unfoldable pub setBits : ℕ → ℕ → ℕ → ℕ → ℕ
 setBits o k x v = (x / 2 ^ o / 2 ^ k * 2 ^ k + v % 2 ^ k) * 2 ^ o + x % 2 ^ o
 
--- where a part starts, and how many bits it has
+-- where a part starts
 abbrev pub startOf : Part → ℕ
 startOf Byte0 = 0
 startOf Byte1 = 8
@@ -38,7 +38,7 @@ widthOf Half0 = 16
 widthOf Half1 = 16
 widthOf Whole = 32
 
--- what a slot holds, and the state with v written there
+-- what a slot holds
 unfoldable pub getSlot : State → Slot → ℕ
 getSlot s t = getBits (startOf (t .part)) (widthOf (t .part)) (longOf s (t .index))
 

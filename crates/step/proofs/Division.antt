@@ -2,15 +2,15 @@
 use Prim.Native.Nat.{ℕ, _%_, _^_}
 use mathlib.Core.Path.{_≡_, refl, sym}
 use mathlib.Core.List.{List}
+use mathlib.Core.Bool.{Bool, true, false, cond}
 use Rattle.answer.specs.declared.Answer.{Answer}
 use Rattle.answer.specs.declared.Answer.the-variants as answer
 use Rattle.answer.specs.declared.Answer.the-variants.{Done}
 use Rattle.little.specs.declared.Size.{Size}
 use Rattle.alu.specs.declared.Computed.{Computed}
 use Rattle.alu.specs.declared.Arith.{Arith}
-use Rattle.alu.specs.declared.Arith.the-variants.{Add, Adc, Sub, Sbc, And, Xor, Or, Cp}
 use Rattle.code.specs.declared.Operand.{Operand}
-use Rattle.code.specs.declared.Operand.the-variants.{Register}
+use Rattle.code.specs.declared.Operand.the-variants.{Register, Constant}
 use Rattle.code.specs.declared.Op.{Op}
 use Rattle.code.specs.declared.Op.the-variants.{Nop, Incf, Decf, Ldf, Rcf, Scf, Ccf, Zcf, Exf, PushF, PopF, Set, Push, Pop, Jp16, Jp24, Call16, Call24, Calr, Ret, Jr, Jrl, LoadConstant, Load, Into, Compute, ComputeInto, ComputeConstant, Inc, Dec, Shifted, Extz, Exts, Store, Block}
 use Rattle.memory.specs.Access.{storeOf, ramAfter}
@@ -20,10 +20,10 @@ use Rattle.state.specs.State.{withFlags, withBothFlags}
 use Rattle.state.specs.Register.{getRegister}
 use Rattle.state.specs.declared.State.{State}
 use Rattle.step.specs.declared.kind.Kind.{Kind}
-use Rattle.step.specs.Try.{after, leaves, withLoaded}
+use Rattle.step.specs.Try.{did, after, leaves, withLoaded}
 use Rattle.step.specs.Operand.{valueAt, putAt, storing}
 use Rattle.step.specs.Flag.{flagged}
-use Rattle.step.specs.Compute.{computed, answerIn}
+use Rattle.step.specs.Compute.{computed, resultIn, storesOf, answerIn}
 use Rattle.step.specs.Exec.{effectOf}
 use Rattle.step.specs.Kind.{kindOf, kindDone, targetOf, endAfter}
 use Rattle.step.specs.Stack.{withStack}
@@ -31,14 +31,11 @@ use Rattle.step.proofs.Laws.{stored, not-stored}
 
 -- CP puts its result nowhere
 answered : (a : Arith) (s : State) (ram rom : List ℕ) (z : Size) (o : Operand) (r : Computed) → answerIn a s ram rom z o r ≡ putAt (flagged s (r .flags)) ram rom z (targetOf a o) (r .value)
-answered Add s ram rom z o r = refl
-answered Adc s ram rom z o r = refl
-answered Sub s ram rom z o r = refl
-answered Sbc s ram rom z o r = refl
-answered And s ram rom z o r = refl
-answered Xor s ram rom z o r = refl
-answered Or s ram rom z o r = refl
-answered Cp s ram rom z o r = refl
+answered a s ram rom z o r = go (storesOf a)
+  where
+    go : (b : Bool) → cond b (resultIn s ram rom z o r) (did (flagged s (r .flags)) ram) ≡ putAt (flagged s (r .flags)) ram rom z (cond b o (Constant 0)) (r .value)
+    go true = refl
+    go false = refl
 
 -- the same of a value that was loaded
 answers :
