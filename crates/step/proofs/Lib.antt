@@ -1,5 +1,6 @@
 pub mod Laws
 pub mod Division
+pub mod Times
 pub mod Rounds
 pub mod Kept
 pub mod Touched

@@ -1,15 +1,18 @@
-// Copies and compares: one round a step.
+// Copies and compares: each round is a step.
 ghost use mathlib.Core.Path.{_≡_};
-ghost use Prim.Native.Nat.{ℕ};
+ghost use Prim.Native.Nat.{ℕ, suc, _-_};
 ghost use Rattle.state.specs.State.{stateOf};
 ghost use Rattle.step.specs.Try.{after, leaves, andThen};
 ghost use Rattle.step.specs.Operand.{pointerOf, storing};
+ghost use Rattle.memory.specs.Place.{placeOf};
+ghost use Rattle.step.specs.Times.{timesOf, Fewer, Stands, inRom, againOf};
 ghost use Rattle.step.specs.Block.{moreIn, counted, steppedOf, moved, copied, accumulator, compared, roundOf, goesOn, endsAt};
 use crate::operand::pointer;
 use answer::Answer;
 use code::Form;
 use little::Size;
 use memory::Loaded;
+use memory::Place;
 
 // Whether BC is not 0.
 fn more(bank: u8, regs: &[u32; 20]) -> bool
@@ -150,7 +153,26 @@ fn ended(f: Form, at: u32, bank: u8, flags: u8, regs: &[u32; 20], counter: u32) 
     counter
 }
 
-// A round of the form that stands at an address; the counter is past it.
+// Whether an address is in ROM, which no step changes.
+fn in_rom(ram_len: usize, rom_len: usize, at: u32) -> bool
+    ensures { λ r. ⌜ r ≡ inRom (placeOf «ram_len» «rom_len» at 1) ⌝ }
+{
+    match memory::find(ram_len, rom_len, at, 1) {
+        Place::Ram(_) => false,
+        Place::Rom(_) => true,
+        Place::Missing => false,
+    }
+}
+
+// Whether another round is done in the same call.
+fn again(f: Form, stays: bool, left: u32, bank: u8, flags: u8, regs: &[u32; 20]) -> bool
+    ensures { λ r. ⌜ ((counter level spare : ℕ) → r ≡ againOf f stays left (stateOf (now (regs .entry)) counter bank level flags spare)) ⌝ }
+{
+    stays & ((0 < left) & goes_on(f, bank, flags, regs))
+}
+
+// A round of the form that stands at an address, and as many more as there are steps for and the form goes on; the counter is
+// past it. In ROM the form stays what it is, so that it is not read again for each round.
 pub fn block(
     f: Form,
     at: u32,
@@ -160,14 +182,34 @@ pub fn block(
     counter: &mut u32,
     ram: &mut [u8],
     rom: &[u8],
+    more: &mut u32,
 ) -> Answer
-    ensures { λ a. ⌜ ((level spare : ℕ) → after a (stateOf (now (regs .exit)) (now (counter .exit)) bank level (now (flags .exit)) spare) (now (ram .exit)) ≡ leaves (stateOf (now (regs .entry)) (now (counter .entry)) bank level (now (flags .entry)) spare) (now (ram .entry)) (andThen (roundOf f (stateOf (now (regs .entry)) (now (counter .entry)) bank level (now (flags .entry)) spare) (now (ram .entry)) (now (rom .entry))) (endsAt f at))) ⌝ }
+    requires { ⌜ Stands at (now counter) (now ram) (now rom) (λ s m. andThen (roundOf f s m (now rom)) (endsAt f at)) ⌝ }
+    ensures { λ a. ⌜ Fewer a (now (more .entry)) (now (more .exit)) ⌝ }
+    ensures { λ a. ⌜ ((level spare : ℕ) → after a (stateOf (now (regs .exit)) (now (counter .exit)) bank level (now (flags .exit)) spare) (now (ram .exit)) ≡ leaves (stateOf (now (regs .entry)) (now (counter .entry)) bank level (now (flags .entry)) spare) (now (ram .entry)) (timesOf (suc (now (more .entry) - now (more .exit))) (stateOf (now (regs .entry)) at bank level (now (flags .entry)) spare) (now (ram .entry)) (now (rom .entry)))) ⌝ }
 {
-    match round(f, bank, &mut *flags, &mut *regs, ram, rom) {
-        Answer::Done => {
-            *counter = ended(f, at, bank, *flags, &*regs, *counter);
-            Answer::Done
+    let stays = in_rom(ram.len(), rom.len(), at);
+    let mut left = *more;
+    loop {
+        match round(f, bank, &mut *flags, &mut *regs, &mut *ram, rom) {
+            Answer::Done => {
+                if again(f, stays, left, bank, *flags, &*regs) {
+                    left -= 1;
+                } else {
+                    *counter = ended(f, at, bank, *flags, &*regs, *counter);
+                    *more = left;
+                    return Answer::Done;
+                }
+            }
+            Answer::Refused(w) => {
+                if left == *more {
+                    return Answer::Refused(w);
+                }
+                // The rounds before it are done; the refused one is for the next call.
+                *counter = at;
+                *more = left + 1;
+                return Answer::Done;
+            }
         }
-        Answer::Refused(w) => Answer::Refused(w),
     }
 }

@@ -1,9 +1,10 @@
 // What an instruction does, by the kind of its work.
 ghost use mathlib.Core.Path.{_≡_};
-ghost use Prim.Native.Nat.{ℕ};
+ghost use Prim.Native.Nat.{ℕ, suc, _-_};
 ghost use Rattle.state.specs.State.{stateOf};
 ghost use Rattle.step.specs.Try.{after, leaves};
 ghost use Rattle.step.specs.Exec.{effectOf};
+ghost use Rattle.step.specs.Times.{timesOf, Fewer, Stands};
 use crate::block::block;
 use crate::compute::puts;
 use crate::control::control;
@@ -30,8 +31,11 @@ pub fn effect(
     spare: &mut u8,
     ram: &mut [u8],
     rom: &[u8],
+    more: &mut u32,
 ) -> Answer
-    ensures { λ a. ⌜ ((level : ℕ) → after a (stateOf (now (regs .exit)) (now (counter .exit)) (now (bank .exit)) level (now (flags .exit)) (now (spare .exit))) (now (ram .exit)) ≡ leaves (stateOf (now (regs .entry)) (now (counter .entry)) (now (bank .entry)) level (now (flags .entry)) (now (spare .entry))) (now (ram .entry)) (effectOf op size operand at (stateOf (now (regs .entry)) (now (counter .entry)) (now (bank .entry)) level (now (flags .entry)) (now (spare .entry))) (now (ram .entry)) (now (rom .entry)))) ⌝ }
+    requires { ⌜ Stands at (now counter) (now ram) (now rom) (λ s m. effectOf op size operand at s m (now rom)) ⌝ }
+    ensures { λ a. ⌜ Fewer a (now (more .entry)) (now (more .exit)) ⌝ }
+    ensures { λ a. ⌜ ((level : ℕ) → after a (stateOf (now (regs .exit)) (now (counter .exit)) (now (bank .exit)) level (now (flags .exit)) (now (spare .exit))) (now (ram .exit)) ≡ leaves (stateOf (now (regs .entry)) (now (counter .entry)) (now (bank .entry)) level (now (flags .entry)) (now (spare .entry))) (now (ram .entry)) (timesOf (suc (now (more .entry) - now (more .exit))) (stateOf (now (regs .entry)) at (now (bank .entry)) level (now (flags .entry)) (now (spare .entry))) (now (ram .entry)) (now (rom .entry)))) ⌝ }
 {
     let b = *bank;
     match kind_of(op) {
@@ -45,6 +49,6 @@ pub fn effect(
             Answer::Done
         }
         Kind::Stacks(what) => stack(what, size, operand, b, flags, regs, counter, ram, rom),
-        Kind::Blocks(f) => block(f, at, b, flags, regs, counter, ram, rom),
+        Kind::Blocks(f) => block(f, at, b, flags, regs, counter, ram, rom, more),
     }
 }

@@ -1,12 +1,13 @@
 // One step: the instruction at the counter is done as the book says, or refused and nothing changes.
 ghost use mathlib.Core.Path.{_≡_};
-ghost use Prim.Native.Nat.{ℕ};
+ghost use Prim.Native.Nat.{ℕ, suc, _-_};
 ghost use Rattle.memory.specs.Access.{codeAt};
 ghost use Rattle.state.specs.State.{stateOf};
 ghost use Rattle.code.specs.Listed.{decodeOf};
 ghost use Rattle.step.specs.Try.{doneWith, refusedWith, outcome, after, leaves};
 ghost use Rattle.step.specs.Exec.{executedOf};
 ghost use Rattle.step.specs.Step.{tooLong, onceOf, stepOf};
+ghost use Rattle.step.specs.Times.{timesOf, Fewer};
 ghost use Rattle.step.specs.Show.{judgedOf, lengthIn, showAnswerOf, shownOf};
 ghost use Rattle.step.specs.Reset.{resetOf};
 use answer::Answer;
@@ -58,8 +59,11 @@ fn execute(
     spare: &mut u8,
     ram: &mut [u8],
     rom: &[u8],
+    more: &mut u32,
 ) -> Answer
-    ensures { λ a. ⌜ ((level : ℕ) → after a (stateOf (now (regs .exit)) (now (counter .exit)) (now (bank .exit)) level (now (flags .exit)) (now (spare .exit))) (now (ram .exit)) ≡ leaves (stateOf (now (regs .entry)) (now (counter .entry)) (now (bank .entry)) level (now (flags .entry)) (now (spare .entry))) (now (ram .entry)) (executedOf i (stateOf (now (regs .entry)) (now (counter .entry)) (now (bank .entry)) level (now (flags .entry)) (now (spare .entry))) (now (ram .entry)) (now (rom .entry)))) ⌝ }
+    requires { ⌜ decodeOf (codeAt (now ram) (now rom) (now counter)) ≡ Decoded.Whole i ⌝ }
+    ensures { λ a. ⌜ Fewer a (now (more .entry)) (now (more .exit)) ⌝ }
+    ensures { λ a. ⌜ ((level : ℕ) → after a (stateOf (now (regs .exit)) (now (counter .exit)) (now (bank .exit)) level (now (flags .exit)) (now (spare .exit))) (now (ram .exit)) ≡ leaves (stateOf (now (regs .entry)) (now (counter .entry)) (now (bank .entry)) level (now (flags .entry)) (now (spare .entry))) (now (ram .entry)) (timesOf (suc (now (more .entry) - now (more .exit))) (stateOf (now (regs .entry)) (now (counter .entry)) (now (bank .entry)) level (now (flags .entry)) (now (spare .entry))) (now (ram .entry)) (now (rom .entry)))) ⌝ }
 {
     let at = *counter;
     let n = (i.length % 16777216) as u32;
@@ -79,6 +83,7 @@ fn execute(
         spare,
         ram,
         rom,
+        more,
     ) {
         Answer::Done => Answer::Done,
         Answer::Refused(w) => {
@@ -94,8 +99,8 @@ fn decode_at<'a>(ram: &'a [u8], rom: &'a [u8], at: u32) -> Decoded
     code::decode(memory::fetch(ram, rom, at))
 }
 
-// What stands at the counter, done or refused, whatever the state is: the checks before it are the caller's. The state's parts
-// lie apart and are changed where they lie.
+// What stands at the counter, done or refused, whatever the state is: the checks before it are the caller's. A form that goes on
+// may use some of the `more` steps that the caller has left. The state's parts lie apart and are changed where they lie.
 pub fn once(
     regs: &mut [u32; 20],
     counter: &mut u32,
@@ -104,11 +109,13 @@ pub fn once(
     spare: &mut u8,
     ram: &mut [u8],
     rom: &[u8],
+    more: &mut u32,
 ) -> Answer
-    ensures { λ a. ⌜ ((level : ℕ) → after a (stateOf (now (regs .exit)) (now (counter .exit)) (now (bank .exit)) level (now (flags .exit)) (now (spare .exit))) (now (ram .exit)) ≡ leaves (stateOf (now (regs .entry)) (now (counter .entry)) (now (bank .entry)) level (now (flags .entry)) (now (spare .entry))) (now (ram .entry)) (onceOf (stateOf (now (regs .entry)) (now (counter .entry)) (now (bank .entry)) level (now (flags .entry)) (now (spare .entry))) (now (ram .entry)) (now (rom .entry)))) ⌝ }
+    ensures { λ a. ⌜ Fewer a (now (more .entry)) (now (more .exit)) ⌝ }
+    ensures { λ a. ⌜ ((level : ℕ) → after a (stateOf (now (regs .exit)) (now (counter .exit)) (now (bank .exit)) level (now (flags .exit)) (now (spare .exit))) (now (ram .exit)) ≡ leaves (stateOf (now (regs .entry)) (now (counter .entry)) (now (bank .entry)) level (now (flags .entry)) (now (spare .entry))) (now (ram .entry)) (timesOf (suc (now (more .entry) - now (more .exit))) (stateOf (now (regs .entry)) (now (counter .entry)) (now (bank .entry)) level (now (flags .entry)) (now (spare .entry))) (now (ram .entry)) (now (rom .entry)))) ⌝ }
 {
     match decode_at(&*ram, rom, *counter) {
-        Decoded::Whole(i) => execute(i, regs, counter, bank, flags, spare, ram, rom),
+        Decoded::Whole(i) => execute(i, regs, counter, bank, flags, spare, ram, rom, more),
         Decoded::Short => Answer::Refused(Why::NoCode),
         Decoded::Unlisted => Answer::Refused(Why::Unlisted),
     }
@@ -125,6 +132,7 @@ fn whole_once(s: State, ram: &mut [u8], rom: &[u8]) -> Stepped
     let mut bank = b.0;
     let mut flags = s.flags;
     let mut spare = s.spare;
+    let mut none: u32 = 0;
     let a = once(
         &mut regs,
         &mut counter,
@@ -133,6 +141,7 @@ fn whole_once(s: State, ram: &mut [u8], rom: &[u8]) -> Stepped
         &mut spare,
         ram,
         rom,
+        &mut none,
     );
     let t = state::whole(regs, counter, bank, level, flags, spare);
     Stepped {

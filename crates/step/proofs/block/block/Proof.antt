@@ -1,52 +1,172 @@
-use Rattle.state.specs.State.{stateOf}
-use Rattle.step.specs.Block.{roundOf, endsAt}
-use Rattle.step.proofs.Laws.{then-done, then-refused}
+use Prim.Native.Nat.{ℕ, suc, _≤_, _<_, _-_, _+_, _^_}
+use mathlib.Core.Path.{_≡_, refl, ap, sym, _∙_}
+use mathlib.Core.Bool.{Bool, true}
+use mathlib.Core.List.{List}
+use native.Mathlib.Omega.{arith}
+use native.Mathlib.Nat.{sub-self}
+use lib.ListN.{length}
 use borrow.Author.Needs.{needs}
+use Rattle.memory.specs.Access.{codeAt}
+use Rattle.state.specs.State.{stateOf}
+use Rattle.state.specs.declared.State.{State}
+use Rattle.answer.specs.declared.Answer.the-variants.{Done, Refused}
+use Rattle.step.specs.Block.{goesOn, endsAt}
+use Rattle.step.specs.Try.{did, after, leaves}
+use Rattle.step.specs.Times.{timesOf}
+use Rattle.step.proofs.Times.{again-says, rom-below, rom-same, round-done, round-again, first-not, later-not}
 use Rattle.step.proofs.block.block.Statement.{statement}
 use Rattle.step.proofs.block.block.Tie as tie
 
-round-requires : tie.Need-round-requires
+abbrev Inv-loop : tie.InvT-loop
+Inv-loop f at bank flags₀ regs₀ counter₀ ram₀ rom more₀ stays left₀ flags regs counter ram more left =
+    (left ≤ more₀)
+    × (more ≡ more₀)
+    × (counter ≡ counter₀)
+    × (length ram ≡ length ram₀)
+    × (codeAt ram rom at ≡ codeAt ram₀ rom at)
+    × ((level spare : ℕ) → timesOf (more₀ - left) (stateOf regs₀ at bank level flags₀ spare) ram₀ rom ≡ did (stateOf regs at bank level flags spare) ram)
+
+abbrev μ-loop : tie.MeasureT-loop
+μ-loop f at bank flags₀ regs₀ counter₀ ram₀ rom more₀ stays left₀ flags regs counter ram more left =
+    left
+
+-- what the rounds before a round have left, and this one
+done-of :
+    (c : tie.After-round Inv-loop μ-loop) (level spare : ℕ) → c .round .result ≡ Done →
+    timesOf (suc (c .before .before .before .before .before .before .before .before .before .args .more .now - c .before .before .before .before .loop .left)) (stateOf (c .before .before .before .before .before .before .before .before .before .args .regs .now) (c .before .before .before .before .before .before .before .before .before .args .at) (c .before .before .before .before .before .before .before .before .before .args .bank) level (c .before .before .before .before .before .before .before .before .before .args .flags .now) spare) (c .before .before .before .before .before .before .before .before .before .args .ram .now) (c .before .before .before .before .before .before .before .before .before .args .rom .now)
+    ≡ did (endsAt (c .before .before .before .before .before .before .before .before .before .args .f) (c .before .before .before .before .before .before .before .before .before .args .at) (stateOf (c .round .last .1 .1 .1 .0) (c .before .before .before .before .before .before .before .before .before .args .counter .now) (c .before .before .before .before .before .before .before .before .before .args .bank) level (c .round .last .1 .1 .0) spare)) (c .round .last .1 .1 .1 .1 .0)
+done-of c level spare d =
+    let a = c .before .before .before .before .before .before .before .before .before .args in
+    let l = c .before .before .before .before .loop in
+    round-done (a .f) (a .at) (a .counter .now) (a .bank) level spare (a .ram .now) (a .rom .now) (stateOf (a .regs .now) (a .at) (a .bank) level (a .flags .now) spare) (c .before .before .before .before .before .before .before .before .before .pre) (a .more .now - l .left) (l .regs) (l .flags) (l .ram) (l .inv .4) (l .inv .5 level spare) (c .round .result) (c .round .last .1 .1 .1 .0) (c .round .last .1 .1 .0) (c .round .last .1 .1 .1 .1 .0) (c .round .ensures (a .counter .now) level spare) d
+
+-- another round is done in the same call
+goes :
+    (c : tie.Then1 Inv-loop μ-loop) (counter level spare : ℕ) →
+    (c .before .before .before .before .before .before .before .before .before .before .before .before .before .before .in-rom .result ≡ true) × (0 < c .before .before .before .before .before .before .before .before .before .before .before .before .loop .left) × (goesOn (c .before .before .before .before .before .before .before .before .before .before .before .before .before .before .before .before .before .args .f) (stateOf (c .before .before .before .before .before .before .before .before .round .last .1 .1 .1 .0) counter (c .before .before .before .before .before .before .before .before .before .before .before .before .before .before .before .before .before .args .bank) level (c .before .before .before .before .before .before .before .before .round .last .1 .1 .0) spare) ≡ true)
+goes c counter level spare =
+    again-says (c .before .before .before .before .before .before .before .before .before .before .before .before .before .before .before .before .before .args .f) (c .before .before .before .before .before .before .before .before .before .before .before .before .before .before .in-rom .result) (c .before .before .before .before .before .before .before .before .before .before .before .before .loop .left) (stateOf (c .before .before .before .before .before .before .before .before .round .last .1 .1 .1 .0) counter (c .before .before .before .before .before .before .before .before .before .before .before .before .before .before .before .before .before .args .bank) level (c .before .before .before .before .before .before .before .before .round .last .1 .1 .0) spare)
+    (sym (c .before .again .ensures counter level spare) ∙ c .if1 .taken)
+
+in-rom-requires : tie.Need-in-rom-requires Inv-loop μ-loop
+in-rom-requires c κs = search needs
+
+loop-holds : tie.Need-loop-holds Inv-loop μ-loop
+unfolding timesOf
+loop-holds c = (omega arith, refl, refl, refl, refl, λ level spare. rw (sub-self (c .before .before .before .before .args .more .now)) refl)
+
+round-requires : tie.Need-round-requires Inv-loop μ-loop
 round-requires c κs = search needs
 
-enum-told : tie.Need-enum-told
+enum-told : tie.Need-enum-told Inv-loop μ-loop
 enum-told c = search needs
 
-ended-requires : tie.Need-ended-requires
+again-requires : tie.Need-again-requires Inv-loop μ-loop
+again-requires c κs = search needs
+
+sub-left : tie.Need-sub-left Inv-loop μ-loop
+sub-left c = goes c 0 0 0 .1
+
+loop-less : tie.Need-loop-less Inv-loop μ-loop
+loop-less c = let h = goes c 0 0 0 .1 in omega (arith, h)
+
+loop-again : tie.Need-loop-again Inv-loop μ-loop
+loop-again c =
+    let a = c .before .before .before .before .before .before .before .before .before .before .before .before .before .before .before .before .before .args in
+    let l = c .before .before .before .before .before .before .before .before .before .before .before .before .loop in
+    let r = c .before .before .before .before .before .before .before .before .round in
+    let h = goes c 0 0 0 .1 in
+    let k-rom = sym (c .before .before .before .before .before .before .before .before .before .before .before .before .before .before .in-rom .ensures) ∙ goes c 0 0 0 .0 in
+    let n : length (r .last .1 .1 .1 .1 .0) ≡ length (a .ram .now) = r .kept .1 .1 .1 .1 .0 ∙ l .inv .3 in
+    let k : a .more .now - (l .left - 1) ≡ suc (a .more .now - l .left) = let i = l .inv .0 in omega (arith, h, i) in (
+      omega arith,
+      l .inv .1,
+      l .inv .2,
+      n,
+      rom-same (a .ram .now) (a .rom .now) (a .at) (r .last .1 .1 .1 .1 .0) k-rom n,
+      λ level spare.
+      let s = stateOf (a .regs .now) (a .at) (a .bank) level (a .flags .now) spare in
+      ap (λ (x : ℕ). timesOf x s (a .ram .now) (a .rom .now)) k
+      ∙ round-again (a .f) (a .at) (a .counter .now) (a .bank) level spare (a .ram .now) (a .rom .now) s (c .before .before .before .before .before .before .before .before .before .before .before .before .before .before .before .before .before .pre) (a .more .now - l .left) (l .regs) (l .flags) (l .ram) (l .inv .4) (l .inv .5 level spare) (r .result) (r .last .1 .1 .1 .0) (r .last .1 .1 .0) (r .last .1 .1 .1 .1 .0) (r .ensures (a .counter .now) level spare) (c .before .before .before .before .enum-told .given .1)
+      (goes c (a .counter .now) level spare .2) (rom-below (a .ram .now) (a .rom .now) (a .at) k-rom),
+    )
+
+ended-requires : tie.Need-ended-requires Inv-loop μ-loop
 ended-requires c κs = search needs
 
-enum-known-w : tie.Need-enum-known-w
+same-length : tie.Need-same-length Inv-loop μ-loop
+same-length c = c .before .before .before .before .before .before .before .before .before .before .before .round .kept .1 .1 .1 .1 .0 ∙ c .before .before .before .before .before .before .before .before .before .before .before .before .before .before .before .loop .inv .3
+
+returns : tie.Need-returns Inv-loop μ-loop
+returns c = (c .before .before .before .before .before .before .before .before .before .before .before .before .before .before .before .loop .inv .0, λ level spare.
+    let a = c .before .before .before .before .before .before .before .before .before .before .before .before .before .before .before .before .before .before .before .before .args in
+    let r = c .before .before .before .before .before .before .before .before .before .before .before .round in
+    ap (λ (s : State). after Done s (r .last .1 .1 .1 .1 .0)) (c .ended .ensures level spare ∙ ap (λ (x : ℕ). endsAt (a .f) (a .at) (stateOf (r .last .1 .1 .1 .0) x (a .bank) level (r .last .1 .1 .0) spare)) (c .before .before .before .before .before .before .before .before .before .before .before .before .before .before .before .loop .inv .2))
+    ∙ ap (leaves (stateOf (a .regs .now) (a .counter .now) (a .bank) level (a .flags .now) spare) (a .ram .now)) (sym (done-of (c .before .before .before .before .before .before .before .before .before .before .before) level spare (c .before .before .before .before .before .before .before .enum-told .given .1))))
+
+enum-known-w : tie.Need-enum-known-w Inv-loop μ-loop
 enum-known-w c = search needs
 
-same-length : tie.Need-same-length
-same-length c = search needs
+same-length-2 : tie.Need-same-length-2 Inv-loop μ-loop
+same-length-2 c = c .before .before .before .before .before .before .before .round .kept .1 .1 .1 .1 .0 ∙ c .before .before .before .before .before .before .before .before .before .before .before .loop .inv .3
 
-returns : tie.Need-returns
-returns c level spare =
-    let a = c .before .before .before .before .before .before .before .before .before .before .before .before .before .before .args in
+returns-2 : tie.Need-returns-2 Inv-loop μ-loop
+returns-2 c = (c .before .before .before .before .before .before .before .before .before .before .before .loop .inv .1, λ level spare.
+    let a = c .before .before .before .before .before .before .before .before .before .before .before .before .before .before .before .before .args in
+    let l = c .before .before .before .before .before .before .before .before .before .before .before .loop in
+    let r = c .before .before .before .before .before .before .before .round in
+    let z : a .more .now - l .left ≡ 0 = let t = c .if2 .taken in let i = l .inv .1 in omega (arith, t, i) in
+    let y : a .more .now - l .left ≡ a .more .now - l .more = let t = c .if2 .taken in omega (arith, t) in
     let s = stateOf (a .regs .now) (a .counter .now) (a .bank) level (a .flags .now) spare in
-    rw (c .ended .ensures level spare)
-    (then-done s (a .ram .now) (c .before .before .before .before .before .before .before .before .round .result) _ _ (endsAt (a .f) (a .at)) (roundOf (a .f) s (a .ram .now) (a .rom .now))
-    (c .before .before .before .before .before .before .before .before .round .ensures (a .counter .now) level spare) (c .before .before .before .before .enum-told .given .1))
+    ap (λ (x : ℕ). after (Refused (c .before .before .before .w .given .0 .0)) (stateOf (r .last .1 .1 .1 .0) x (a .bank) level (r .last .1 .1 .0) spare) (r .last .1 .1 .1 .1 .0)) (l .inv .2)
+    ∙ first-not (a .f) (a .at) (a .counter .now) (a .bank) level spare (a .ram .now) (a .rom .now) (stateOf (a .regs .now) (a .at) (a .bank) level (a .flags .now) spare) (c .before .before .before .before .before .before .before .before .before .before .before .before .before .before .before .before .pre) (a .more .now - l .left) (l .regs) (l .flags) (l .ram) (l .inv .4) (l .inv .5 level spare) (r .result) (r .last .1 .1 .1 .0) (r .last .1 .1 .0) (r .last .1 .1 .1 .1 .0) (r .ensures (a .counter .now) level spare)
+    (c .before .before .before .w .given .0 .0) (c .before .before .before .w .given .1) (a .regs .now) (a .flags .now) refl z
+    ∙ ap (λ (x : ℕ). leaves s (a .ram .now) (timesOf (suc x) (stateOf (a .regs .now) (a .at) (a .bank) level (a .flags .now) spare) (a .ram .now) (a .rom .now))) y)
 
-same-length-2 : tie.Need-same-length-2
-same-length-2 c = search needs
+add-more : tie.Need-add-more Inv-loop μ-loop
+add-more c = let h = c .before .before .before .before .before .before .before .before .before .before .before .loop .inv .0 in let i = c .before .before .before .before .before .before .before .before .before .before .before .loop .inv .1 in let f = c .if2 .left in omega (arith, h, i, f)
 
-returns-2 : tie.Need-returns-2
-returns-2 c level spare =
-    let a = c .before .before .before .before .before .before .before .before .before .before .before .args in
-    let s = stateOf (a .regs .now) (a .counter .now) (a .bank) level (a .flags .now) spare in
-    then-refused s (a .ram .now) (c .before .before .before .before .before .round .result) _ _ (endsAt (a .f) (a .at)) (c .before .w .given .0 .0) (roundOf (a .f) s (a .ram .now) (a .rom .now))
-    (c .before .before .before .before .before .round .ensures (a .counter .now) level spare) (c .before .w .given .1)
+same-length-3 : tie.Need-same-length-3 Inv-loop μ-loop
+same-length-3 c = c .before .before .before .before .before .before .before .round .kept .1 .1 .1 .1 .0 ∙ c .before .before .before .before .before .before .before .before .before .before .before .loop .inv .3
+
+returns-3 : tie.Need-returns-3 Inv-loop μ-loop
+returns-3 c =
+    let a = c .before .before .before .before .before .before .before .before .before .before .before .before .before .before .before .before .args in
+    let l = c .before .before .before .before .before .before .before .before .before .before .before .loop in
+    let r = c .before .before .before .before .before .before .before .round in
+    let h = l .inv .0 in
+    let i = l .inv .1 in
+    let n = c .if2 .left in
+    let k : a .more .now - l .left ≡ suc (a .more .now - (l .left + 1)) = omega (arith, h, i, n) in (
+      omega (arith, h, i, n),
+      λ level spare.
+      let s = stateOf (a .regs .now) (a .at) (a .bank) level (a .flags .now) spare in
+      let p = stateOf (a .regs .now) (a .counter .now) (a .bank) level (a .flags .now) spare in
+      later-not (a .f) (a .at) (a .counter .now) (a .bank) level spare (a .ram .now) (a .rom .now) s (c .before .before .before .before .before .before .before .before .before .before .before .before .before .before .before .before .pre) (a .more .now - l .left) (l .regs) (l .flags) (l .ram) (l .inv .4) (l .inv .5 level spare) (r .result) (r .last .1 .1 .1 .0) (r .last .1 .1 .0) (r .last .1 .1 .1 .1 .0) (r .ensures (a .counter .now) level spare)
+      (c .before .before .before .w .given .0 .0) (c .before .before .before .w .given .1) p
+      ∙ ap (λ (x : ℕ). leaves p (a .ram .now) (timesOf x s (a .ram .now) (a .rom .now))) k,
+    )
 
 pub block-spec : {M : Type 1} → statement M
 block-spec =
     tie.close
     (tie.spec
+    Inv-loop
+    μ-loop
+    in-rom-requires
+    loop-holds
     round-requires
     enum-told
+    again-requires
+    sub-left
+    loop-less
+    loop-again
     ended-requires
-    enum-known-w
     same-length
     returns
+    enum-known-w
     same-length-2
-    returns-2)
+    returns-2
+    add-more
+    same-length-3
+    returns-3)

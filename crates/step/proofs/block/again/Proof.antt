@@ -1,0 +1,13 @@
+use mathlib.Core.Path.{refl}
+use borrow.Author.Needs.{needs}
+use Rattle.step.proofs.block.again.Statement.{statement}
+use Rattle.step.proofs.block.again.Tie as tie
+
+goes-on-requires : tie.Need-goes-on-requires
+goes-on-requires c κs = search needs
+
+returns : tie.Need-returns
+returns c counter level spare = rw (c .goes-on .ensures counter level spare) refl
+
+pub again-spec : {M : Type 1} → statement M
+again-spec = tie.close (tie.spec goes-on-requires returns)

@@ -1,0 +1,49 @@
+-- Several steps in one call.
+use Prim.Native.Nat.{ℕ, zero, suc, _≤_}
+use mathlib.Core.Path.{_≡_}
+use mathlib.Core.Bool.{Bool, true, false, _&&_}
+use mathlib.Core.List.{List}
+use lib.Dec.{ltb}
+use Rattle.answer.specs.declared.Answer.{Answer}
+use Rattle.answer.specs.declared.Answer.the-variants.{Done, Refused}
+use Rattle.memory.specs.Access.{codeAt}
+use Rattle.memory.specs.declared.Place.{Place}
+use Rattle.memory.specs.declared.Place.the-variants.{Ram, Rom, Missing}
+use Rattle.code.specs.declared.Form.{Form}
+use Rattle.state.specs.State.{stateOf}
+use Rattle.state.specs.declared.State.{State}
+use Rattle.step.specs.Try.{Try, did, no}
+use Rattle.step.specs.Block.{goesOn}
+use Rattle.step.specs.Step.{onceOf}
+
+-- what is tried after a step that is done
+abbrev pub onward : Try → (State → List ℕ → Try) → Try
+onward (did s ram) f = f s ram
+onward (no w) f = no w
+
+-- k steps, all of them done
+unfoldable pub timesOf : ℕ → State → List ℕ → List ℕ → Try
+timesOf zero s ram rom = did s ram
+timesOf (suc k) s ram rom = onward (timesOf k s ram rom) (λ t m. onceOf t m rom)
+
+-- A call may do m steps more than the one it is asked for, and leaves n of them: no more than there were, and where it is
+-- refused, all.
+abbrev pub Fewer : Answer → ℕ → ℕ → Type 0
+Fewer Done m n = n ≤ m
+Fewer (Refused w) m n = n ≡ m
+
+-- What stands at the address `at`, and will while the bytes there are the same, does this to a state whose counter is past it.
+abbrev pub Stands : ℕ → ℕ → List ℕ → List ℕ → (State → List ℕ → Try) → Type 0
+Stands at past ram rom does =
+    (m : List ℕ) → codeAt m rom at ≡ codeAt ram rom at → (registers : List ℕ) (bank level flags spare : ℕ)
+    → onceOf (stateOf registers at bank level flags spare) m rom ≡ does (stateOf registers past bank level flags spare) m
+
+-- whether a place is in ROM
+abbrev pub inRom : Place → Bool
+inRom (Ram o) = false
+inRom (Rom o) = true
+inRom Missing = false
+
+-- a form goes on, its code stays as it is, and there are steps left for it
+abbrev pub againOf : Form → Bool → ℕ → State → Bool
+againOf f stays left s = stays && (ltb 0 left && goesOn f s)
