@@ -32,7 +32,7 @@ fn refuse(s: State, w: Why) -> Ran
     stop(s, 0, Answer::Refused(w))
 }
 
-// A step keeps a valid state valid, so that its checks are made once for all steps.
+// A step keeps a valid state valid, so that its checks are made once for all steps. A call may do several of those left.
 fn go(s: State, ram: &mut [u8], rom: &[u8], steps: u32) -> Ran
     requires { ⌜ (validOf s ≡ true) × (tooLong (length (now ram)) (length (now rom)) ≡ false) ⌝ }
     ensures { λ r. ⌜ result r (now (ram .exit)) ≡ goOf steps 0 s (now (ram .entry)) (now (rom .entry)) ⌝ }
@@ -44,8 +44,9 @@ fn go(s: State, ram: &mut [u8], rom: &[u8], steps: u32) -> Ran
     let mut bank = b.0;
     let mut flags = s.flags;
     let mut spare = s.spare;
-    let mut i: u32 = 0;
-    while i < steps {
+    let mut left = steps;
+    while 0 < left {
+        left -= 1;
         let a = step::once(
             &mut regs,
             &mut counter,
@@ -54,15 +55,15 @@ fn go(s: State, ram: &mut [u8], rom: &[u8], steps: u32) -> Ran
             &mut spare,
             &mut *ram,
             rom,
+            &mut left,
         );
         if let Answer::Refused(w) = a {
             let t = state::whole(regs, counter, bank, level, flags, spare);
-            return stop(t, i, Answer::Refused(w));
+            return stop(t, steps - 1 - left, Answer::Refused(w));
         }
-        i += 1;
     }
     let t = state::whole(regs, counter, bank, level, flags, spare);
-    stop(t, i, Answer::Done)
+    stop(t, steps, Answer::Done)
 }
 
 // All the steps asked for, or those before the first one refused.

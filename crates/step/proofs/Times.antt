@@ -56,11 +56,11 @@ module _ (s : State) (ram : List ℕ) (a : Answer) (u : State) (m : List ℕ) wh
       (cc, ap (λ (o : Outcome). o .state) e, ap (λ (o : Outcome). o .ram) e)
 
 -- the state and RAM of a step that is done
-abbrev stateOr : State → Try → State
+abbrev pub stateOr : State → Try → State
 stateOr d (did s m) = s
 stateOr d (no w) = d
 
-abbrev ramOr : List ℕ → Try → List ℕ
+abbrev pub ramOr : List ℕ → Try → List ℕ
 ramOr d (did s m) = m
 ramOr d (no w) = d
 

@@ -1,48 +1,45 @@
-use Prim.Native.Nat.{ℕ, _≤_, _-_}
+use Prim.Native.Nat.{ℕ, _≤_, _-_, suc, _+_}
 use mathlib.Core.Path.{_≡_, refl, ap, sym, _∙_}
 use mathlib.Core.Bool.{true, false}
 use native.Mathlib.Omega.{arith}
-use native.Mathlib.Nat.{sub-zero}
+use native.Mathlib.Nat.{sub-self}
 use borrow.Author.Needs.{needs}
 use lib.ListN.{length}
 use Rattle.state.specs.State.{stateOf, validOf}
 use Rattle.state.specs.declared.State.{State}
+use Rattle.answer.specs.declared.Answer.the-variants.{Refused}
 use Rattle.step.specs.Step.{tooLong}
-use Rattle.step.specs.declared.Stepped.{Stepped}
-use Rattle.run.specs.Run.{goOf}
-use Rattle.run.proofs.Laws.{turn-on, turn-off, turn-valid, turn-end}
+use Rattle.run.specs.Run.{Result, ends, goOf}
+use Rattle.run.proofs.Laws.{turn-on, turn-off, turn-less, turn-same, turn-valid, turn-end}
 use Rattle.run.proofs.go.Statement.{statement}
 use Rattle.run.proofs.go.Tie as tie
 
 abbrev Inv-loop : tie.InvT-loop
-Inv-loop ram₀ rom steps regs₀ counter₀ level bank₀ flags₀ spare₀ i₀ ram regs counter bank flags spare i =
-    (i ≤ steps)
+Inv-loop ram₀ rom steps regs₀ counter₀ level bank₀ flags₀ spare₀ left₀ ram regs counter bank flags spare left =
+    (left ≤ steps)
     × (length ram ≡ length ram₀)
     × (validOf (stateOf regs counter bank (level .0) flags spare) ≡ true)
-    × (goOf (steps - i) i (stateOf regs counter bank (level .0) flags spare) ram rom ≡ goOf steps 0 (stateOf regs₀ counter₀ bank₀ (level .0) flags₀ spare₀) ram₀ rom)
+    × (goOf left (steps - left) (stateOf regs counter bank (level .0) flags spare) ram rom ≡ goOf steps 0 (stateOf regs₀ counter₀ bank₀ (level .0) flags₀ spare₀) ram₀ rom)
 
 abbrev μ-loop : tie.MeasureT-loop
-μ-loop ram₀ rom steps regs₀ counter₀ level bank₀ flags₀ spare₀ i₀ ram regs counter bank flags spare i = steps - i
+μ-loop ram₀ rom steps regs₀ counter₀ level bank₀ flags₀ spare₀ left₀ ram regs counter bank flags spare left = left
 
 -- RAM has the length that it had, so that it is within the limits still
 within : (c : tie.At-loop Inv-loop μ-loop) → tooLong (length (c .loop .ram)) (length (c .before .before .before .before .before .before .args .rom .now)) ≡ false
 within c = ap (λ (n : ℕ). tooLong n (length (c .before .before .before .before .before .before .args .rom .now))) (c .loop .inv .1) ∙ c .before .before .before .before .before .before .pre .1
 
--- the state that the loop has
+-- the state that the loop has, and what a call leaves of it
 here : tie.At-loop Inv-loop μ-loop → State
 here c = let l = c .loop in stateOf (l .regs) (l .counter) (l .bank) (c .before .before .before .before .before .before .args .s .level .0) (l .flags) (l .spare)
 
--- what a step leaves of it
-next : tie.After-once Inv-loop μ-loop → Stepped
-next c =
-    let l = c .once .last in
-    record {
-      state = stateOf (l .0) (l .1 .0) (l .1 .1 .0) (c .before .before .before .before .before .before .before .before .before .before .before .before .before .before .args .s .level .0) (l .1 .1 .1 .0) (l .1 .1 .1 .1 .0);
-      answer = c .once .result;
-    }
+next : tie.After-once Inv-loop μ-loop → State
+next c = let l = c .once .last in stateOf (l .0) (l .1 .0) (l .1 .1 .0) (c .before .before .before .before .before .before .before .before .before .before .before .before .before .before .before .args .s .level .0) (l .1 .1 .1 .0) (l .1 .1 .1 .1 .0)
 
 loop-holds : tie.Need-loop-holds Inv-loop μ-loop
-loop-holds c = (omega arith, refl, c .before .before .before .before .before .pre .0, simp sub-zero)
+loop-holds c = (omega arith, refl, c .before .before .before .before .before .pre .0, ap (λ (d : ℕ). goOf (c .before .before .before .before .before .args .steps) d (c .before .before .before .before .before .args .s) (c .before .before .before .before .before .args .ram .now) (c .before .before .before .before .before .args .rom .now)) (sub-self (c .before .before .before .before .before .args .steps)))
+
+sub-left : tie.Need-sub-left Inv-loop μ-loop
+sub-left c = omega arith
 
 once-requires : tie.Need-once-requires Inv-loop μ-loop
 once-requires c κs = search needs
@@ -53,43 +50,79 @@ enum-known-a c = search needs
 whole-requires : tie.Need-whole-requires Inv-loop μ-loop
 whole-requires c κs = search needs
 
+-- a refused call leaves the steps that it was given
+left-is : (c : tie.After-whole Inv-loop μ-loop) → c .before .before .before .before .before .before .once .last .1 .1 .1 .1 .1 .1 .1 .0 ≡ c .before .before .before .before .before .before .before .before .before .before .before .before .before .before .before .loop .left - 1
+unfolding here next
+left-is c =
+    let l = c .before .before .before .before .before .before .before .before .before .before .before .before .before .before .before .loop in
+    let o = c .before .before .before .before .before .before .once in
+    turn-same (here (c .before .before .before .before .before .before .before .before .before .before .before .before .before .before .before)) (l .ram) (c .before .before .before .before .before .before .before .before .before .before .before .before .before .before .before .before .before .before .before .before .before .args .rom .now) (o .result) (next (c .before .before .before .before .before .before)) (o .last .1 .1 .1 .1 .1 .0) (l .left - 1) (o .last .1 .1 .1 .1 .1 .1 .1 .0) (within (c .before .before .before .before .before .before .before .before .before .before .before .before .before .before .before)) (l .inv .2) (o .ensures .0) (o .ensures .1 (c .before .before .before .before .before .before .before .before .before .before .before .before .before .before .before .before .before .before .before .before .before .args .s .level .0)) (c .before .before .a .given .0 .0) (c .before .before .a .given .1)
+
+sub-stop : tie.Need-sub-stop Inv-loop μ-loop
+sub-stop c = let h = c .before .before .before .before .before .before .before .before .before .before .before .before .before .before .before .loop .inv .0 in let k = c .before .before .before .before .before .before .before .before .before .before .before .before .before .before .loop-test .taken in omega (arith, h, k)
+
+sub-stop-2 : tie.Need-sub-stop-2 Inv-loop μ-loop
+sub-stop-2 c = let h = c .before .before .before .before .before .before .before .before .before .before .before .before .before .before .before .loop .inv .0 in let k = c .before .before .before .before .before .before .before .before .before .before .before .before .before .before .loop-test .taken in let e = left-is c in omega (arith, h, k, e)
+
 stop-requires : tie.Need-stop-requires Inv-loop μ-loop
 stop-requires c κs = search needs
 
 same-length : tie.Need-same-length Inv-loop μ-loop
-same-length c = c .before .before .before .before .before .before .before .once .kept .1 .1 .1 .1 .1 .0 ∙ c .before .before .before .before .before .before .before .before .before .before .before .before .before .before .before .loop .inv .1
+same-length c = c .before .before .before .before .before .before .before .once .kept .1 .1 .1 .1 .1 .0 ∙ c .before .before .before .before .before .before .before .before .before .before .before .before .before .before .before .before .loop .inv .1
 
 returns : tie.Need-returns Inv-loop μ-loop
 unfolding here next
 returns c =
-    let a = c .before .before .before .before .before .before .before .before .before .before .before .before .before .before .before .before .before .before .before .before .before .args in
-    let l = c .before .before .before .before .before .before .before .before .before .before .before .before .before .before .before .loop in
+    let a = c .before .before .before .before .before .before .before .before .before .before .before .before .before .before .before .before .before .before .before .before .before .before .args in
+    let l = c .before .before .before .before .before .before .before .before .before .before .before .before .before .before .before .before .loop in
     let o = c .before .before .before .before .before .before .before .once in
+    let h = l .inv .0 in
+    let t = c .before .before .before .before .before .before .before .before .before .before .before .before .before .before .before .loop-test .taken in
+    let e = left-is (c .before) in
+    let m = o .last .1 .1 .1 .1 .1 .0 in
+    let w = c .before .before .before .a .given .0 .0 in
+    let d : a .steps - 1 - o .last .1 .1 .1 .1 .1 .1 .1 .0 ≡ a .steps - l .left = omega (arith, h, t, e) in
+    let k : suc (l .left - 1) ≡ l .left = omega (arith, t) in
     rw (c .stop .ensures, c .before .whole .ensures)
-    (turn-off (a .steps) (l .i) (here (c .before .before .before .before .before .before .before .before .before .before .before .before .before .before .before)) (l .ram) (a .rom .now) (next (c .before .before .before .before .before .before .before)) (o .last .1 .1 .1 .1 .1 .0) (within (c .before .before .before .before .before .before .before .before .before .before .before .before .before .before .before)) (l .inv .2) (o .ensures (a .s .level .0)) (c .before .before .before .a .given .0 .0) (c .before .before .before .before .before .before .before .before .before .before .before .before .before .before .loop-test .taken) (c .before .before .before .a .given .1)
+    (ap (λ (n : ℕ). ends n (next (c .before .before .before .before .before .before .before)) m (Refused w)) d
+    ∙ turn-off (here (c .before .before .before .before .before .before .before .before .before .before .before .before .before .before .before .before)) (l .ram) (a .rom .now) (o .result) (next (c .before .before .before .before .before .before .before)) m (l .left - 1) (o .last .1 .1 .1 .1 .1 .1 .1 .0) (within (c .before .before .before .before .before .before .before .before .before .before .before .before .before .before .before .before)) (l .inv .2) (o .ensures .0) (o .ensures .1 (a .s .level .0)) (a .steps - l .left) w (c .before .before .before .a .given .1)
+    ∙ ap (λ (n : ℕ). goOf n (a .steps - l .left) (here (c .before .before .before .before .before .before .before .before .before .before .before .before .before .before .before .before)) (l .ram) (a .rom .now)) k
     ∙ l .inv .3)
 
 enum-told : tie.Need-enum-told Inv-loop μ-loop
 enum-told c = search needs
 
-add-i : tie.Need-add-i Inv-loop μ-loop
-add-i c = omega arith
+-- a call that is done leaves fewer
+less : (c : tie.After-enum-told Inv-loop μ-loop) → c .before .before .before .before .once .last .1 .1 .1 .1 .1 .1 .1 .0 ≤ c .before .before .before .before .before .before .before .before .before .before .before .before .before .loop .left - 1
+unfolding here next
+less c =
+    let l = c .before .before .before .before .before .before .before .before .before .before .before .before .before .loop in
+    let o = c .before .before .before .before .once in
+    turn-less (here (c .before .before .before .before .before .before .before .before .before .before .before .before .before)) (l .ram) (c .before .before .before .before .before .before .before .before .before .before .before .before .before .before .before .before .before .before .before .args .rom .now) (o .result) (next (c .before .before .before .before)) (o .last .1 .1 .1 .1 .1 .0) (l .left - 1) (o .last .1 .1 .1 .1 .1 .1 .1 .0) (within (c .before .before .before .before .before .before .before .before .before .before .before .before .before)) (l .inv .2) (o .ensures .0) (o .ensures .1 (c .before .before .before .before .before .before .before .before .before .before .before .before .before .before .before .before .before .before .before .args .s .level .0)) (c .enum-told .given .1)
 
 loop-less : tie.Need-loop-less Inv-loop μ-loop
-loop-less c = omega arith
+loop-less c = let h = less c in let t = c .before .before .before .before .before .before .before .before .before .before .before .before .loop-test .taken in omega (arith, h, t)
 
 loop-again : tie.Need-loop-again Inv-loop μ-loop
 unfolding here next
 loop-again c =
-    let a = c .before .before .before .before .before .before .before .before .before .before .before .before .before .before .before .before .before .before .args in
-    let l = c .before .before .before .before .before .before .before .before .before .before .before .before .loop in
+    let a = c .before .before .before .before .before .before .before .before .before .before .before .before .before .before .before .before .before .before .before .args in
+    let l = c .before .before .before .before .before .before .before .before .before .before .before .before .before .loop in
     let o = c .before .before .before .before .once in
+    let n = o .last .1 .1 .1 .1 .1 .1 .1 .0 in
     let m = o .last .1 .1 .1 .1 .1 .0 in
-    let w = within (c .before .before .before .before .before .before .before .before .before .before .before .before) in (
-      omega arith,
+    let w = within (c .before .before .before .before .before .before .before .before .before .before .before .before .before) in
+    let h = less c in
+    let i = l .inv .0 in
+    let t = c .before .before .before .before .before .before .before .before .before .before .before .before .loop-test .taken in
+    let d : a .steps - l .left + suc (l .left - 1 - n) ≡ a .steps - n = omega (arith, h, i, t) in
+    let k : suc (l .left - 1) ≡ l .left = omega (arith, t) in (
+      omega (arith, h, i),
       o .kept .1 .1 .1 .1 .1 .0 ∙ l .inv .1,
-      turn-valid (a .steps) (l .i) (here (c .before .before .before .before .before .before .before .before .before .before .before .before)) (l .ram) (a .rom .now) (next (c .before .before .before .before)) m w (l .inv .2) (o .ensures (a .s .level .0)) (c .enum-told .given .1),
-      sym (turn-on (a .steps) (l .i) (here (c .before .before .before .before .before .before .before .before .before .before .before .before)) (l .ram) (a .rom .now) (next (c .before .before .before .before)) m w (l .inv .2) (o .ensures (a .s .level .0)) (c .before .before .before .before .before .before .before .before .before .before .before .loop-test .taken) (c .enum-told .given .1))
+      turn-valid (here (c .before .before .before .before .before .before .before .before .before .before .before .before .before)) (l .ram) (a .rom .now) (o .result) (next (c .before .before .before .before)) m (l .left - 1) n w (l .inv .2) (o .ensures .0) (o .ensures .1 (a .s .level .0)) (c .enum-told .given .1),
+      ap (λ (x : ℕ). goOf n x (next (c .before .before .before .before)) m (a .rom .now)) (sym d)
+          ∙ sym (turn-on (here (c .before .before .before .before .before .before .before .before .before .before .before .before .before)) (l .ram) (a .rom .now) (o .result) (next (c .before .before .before .before)) m (l .left - 1) n w (l .inv .2) (o .ensures .0) (o .ensures .1 (a .s .level .0)) (a .steps - l .left) (c .enum-told .given .1))
+          ∙ ap (λ (x : ℕ). goOf x (a .steps - l .left) (here (c .before .before .before .before .before .before .before .before .before .before .before .before .before)) (l .ram) (a .rom .now)) k
           ∙ l .inv .3,
     )
 
@@ -107,8 +140,8 @@ unfolding here
 returns-2 c =
     let a = c .before .before .before .before .before .before .before .before .before .args in
     let l = c .before .before .before .loop in
-    rw (c .stop2 .ensures, c .before .whole2 .ensures)
-    (turn-end (a .steps) (l .i) (here (c .before .before .before)) (l .ram) (a .rom .now) (l .inv .0) (c .before .before .loop-test .left) ∙ l .inv .3)
+    let t = c .before .before .loop-test .left in
+    rw (c .stop2 .ensures, c .before .whole2 .ensures) (turn-end (a .steps) (here (c .before .before .before)) (l .ram) (a .rom .now) (l .left) (omega (arith, t)) ∙ l .inv .3)
 
 pub go-spec : {M : Type 1} → statement M
 go-spec =
@@ -117,14 +150,16 @@ go-spec =
     Inv-loop
     μ-loop
     loop-holds
+    sub-left
     once-requires
     enum-known-a
     whole-requires
+    sub-stop
+    sub-stop-2
     stop-requires
     same-length
     returns
     enum-told
-    add-i
     loop-less
     loop-again
     whole-requires-2
