@@ -1,4 +1,5 @@
 pub mod Laws
+pub mod RegisterForms
 pub mod Division
 pub mod Rounds
 pub mod Kept

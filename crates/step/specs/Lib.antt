@@ -8,6 +8,7 @@ pub mod Block
 pub mod Exec
 pub mod Kind
 pub mod Step
+pub mod Register
 pub mod Show
 pub mod Reset
 pub mod Touched

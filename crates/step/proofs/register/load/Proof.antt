@@ -1,0 +1,23 @@
+use Rattle.step.specs.Operand.{valueAt}
+use Rattle.step.specs.Exec.{effectOf, pastOf}
+use Rattle.state.specs.State.{withCounter}
+use Prim.Native.Nat.{_+_, _%_, _^_}
+use mathlib.Core.Path.{refl, _∙_}
+use borrow.Author.Needs.{needs}
+use Rattle.step.proofs.register.load.Statement.{statement}
+use Rattle.step.proofs.register.load.Tie as tie
+use Rattle.step.proofs.register.load.Reads as reads
+use Rattle.step.proofs.register.load.Lts as lts
+use Rattle.step.proofs.register.set.Reads as set-reads
+
+set-requires : tie.Need-set-requires
+set-requires c κs = search needs
+
+returns : tie.Need-returns
+unfolding effectOf valueAt pastOf withCounter
+returns c level flags spare ram rom =
+    let p = (c .before .before .before .args .counter .now + 2) % 2 ^ 24 in
+    c .set .ensures level flags spare ram ∙ rw (c .before .before .before .pre p level flags spare) refl
+
+pub load-spec : {M : Type 1} → statement M
+load-spec = tie.close (tie.spec set-requires returns)

@@ -1,0 +1,23 @@
+use Rattle.step.specs.Exec.{pastOf}
+use Rattle.state.specs.State.{withCounter}
+use mathlib.Core.Path.{refl}
+use borrow.Author.Needs.{needs}
+use Rattle.step.proofs.register.set.Statement.{statement}
+use Rattle.step.proofs.register.set.Tie as tie
+use Rattle.step.proofs.register.set.Reads as reads
+use Rattle.step.proofs.register.set.Lts as lts
+use Rattle.state.proofs.write.Reads as write-reads
+use Rattle.step.proofs.control.past.Reads as past-reads
+
+write-requires : tie.Need-write-requires
+write-requires c κs = search needs
+
+past-requires : tie.Need-past-requires
+past-requires c κs = search needs
+
+returns : tie.Need-returns
+unfolding pastOf withCounter
+returns c level flags spare ram = rw (c .before .before .write .ensures (c .past .last .0) level flags spare, c .past .ensures) refl
+
+pub set-spec : {M : Type 1} → statement M
+set-spec = tie.close (tie.spec write-requires past-requires returns)
