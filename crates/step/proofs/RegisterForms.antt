@@ -10,6 +10,7 @@ use Rattle.little.specs.declared.Size.{Size}
 use Rattle.little.specs.declared.Size.the-variants.{Byte, Word, Long}
 use Rattle.little.specs.Width.{bytesOf}
 use Rattle.little.specs.Bytes.{valueOf}
+use Rattle.state.specs.declared.State.{State}
 use Rattle.code.specs.declared.Op.{Op}
 use Rattle.code.specs.declared.Operand.{Operand}
 use Rattle.code.specs.declared.Operand.the-variants.{Register}
@@ -19,7 +20,6 @@ use Rattle.code.specs.Rows.{lookup, byRows}
 use Rattle.code.specs.Registers.{registerRows, notByte}
 use Rattle.code.proofs.Groups.{in-group}
 use Rattle.code.proofs.Judge.{next-there, number-read, number-lacks}
-use Rattle.state.specs.declared.State.{State}
 use Rattle.step.specs.Try.{Outcome, after, leaves}
 use Rattle.step.specs.Exec.{executedOf}
 use Rattle.step.specs.Step.{done}

@@ -3,14 +3,14 @@ use Prim.Native.Nat.{ℕ}
 use mathlib.Core.Path.{_≡_}
 use mathlib.Core.List.{List}
 use Rattle.little.specs.declared.Size.{Size}
+use Rattle.state.specs.State.{stateOf}
+use Rattle.state.specs.Register.{getRegister}
+use Rattle.state.specs.declared.State.{State}
 use Rattle.code.specs.declared.Op.{Op}
 use Rattle.code.specs.declared.Operand.the-variants.{Register}
 use Rattle.code.specs.Said.{judge}
 use Rattle.code.specs.Rows.{lookup}
 use Rattle.code.specs.Registers.{registerRows}
-use Rattle.state.specs.State.{stateOf}
-use Rattle.state.specs.Register.{getRegister}
-use Rattle.state.specs.declared.State.{State}
 use Rattle.step.specs.Try.{Outcome, leaves}
 use Rattle.step.specs.Exec.{pastOf, effectOf}
 use Rattle.step.specs.Step.{done}

@@ -1,5 +1,5 @@
-// An instruction whose operand is a register, read and done in one go. Each arm puts its own result: a value that were carried
-// out of the match to one place would be slower.
+// An instruction whose operand is a register, read and done in one go, with no Instruction between. The register is read once,
+// one match tells the second byte, and each arm puts its own result: all three are for speed.
 ghost use mathlib.Core.Path.{_≡_};
 ghost use mathlib.Core.List.{List};
 ghost use Prim.Native.Nat.{ℕ, _+_, _/_, _%_, _<_, _≤_};
@@ -30,7 +30,7 @@ use code::registers::arith_of;
 use code::registers::shift_of;
 use little::Size;
 
-// A value into a register, with n bytes of code behind.
+// Puts a value into a register, and goes past n bytes of code.
 fn set(
     v: u32,
     n: usize,
@@ -47,7 +47,7 @@ fn set(
     Answer::Done
 }
 
-// The same of a result, with its flags.
+// The same of a result, whose flags are set.
 fn result(
     w: Computed,
     n: usize,
@@ -67,7 +67,7 @@ fn result(
     Answer::Done
 }
 
-// An operation on x and y, into a register; CP puts nothing.
+// The same of the operation on x and y; CP puts nothing.
 fn compute(
     op: Arith,
     x: u32,
@@ -87,11 +87,11 @@ fn compute(
     past(counter, n);
     if stores(op) {
         state::write(regs, bank, size, r, w.value);
-        return Answer::Done;
     }
     Answer::Done
 }
 
+// The operand plus n.
 fn inc(
     n: u8,
     v: u32,
@@ -109,6 +109,7 @@ fn inc(
     result(w, 2, size, r, bank, flags, regs, counter)
 }
 
+// The operand less n.
 fn dec(
     n: u8,
     v: u32,
@@ -126,7 +127,7 @@ fn dec(
     result(w, 2, size, r, bank, flags, regs, counter)
 }
 
-// The register n from r.
+// The operand into the register n.
 fn load(
     n: u8,
     v: u32,
@@ -142,7 +143,7 @@ fn load(
     set(v, 2, size, n, bank, regs, counter)
 }
 
-// The register r from n.
+// The register n into the operand.
 fn into(n: u8, size: Size, r: u8, bank: u8, regs: &mut [u32; 20], counter: &mut u32) -> Answer
     ensures { λ a. ⌜ ((level flags spare : ℕ) (ram rom : List ℕ) → after a (stateOf (now (regs .exit)) (now (counter .exit)) bank level flags spare) ram ≡ onRegister (Into n) 2 size r (stateOf (now (regs .entry)) (now (counter .entry)) bank level flags spare) ram rom) ⌝ }
 {
@@ -150,7 +151,7 @@ fn into(n: u8, size: Size, r: u8, bank: u8, regs: &mut [u32; 20], counter: &mut 
     set(x, 2, size, r, bank, regs, counter)
 }
 
-// The register n with r.
+// The register n and the operand, into the register n.
 fn compute_with(
     op: Arith,
     n: u8,

@@ -2,13 +2,6 @@ use mathlib.Core.Path.{refl}
 use borrow.Author.Needs.{needs}
 use Rattle.step.proofs.compute.arithmetic.Statement.{statement}
 use Rattle.step.proofs.compute.arithmetic.Tie as tie
-use Rattle.step.proofs.compute.arithmetic.Reads as reads
-use Rattle.step.proofs.compute.arithmetic.Lts as lts
-use Rattle.step.proofs.compute.first.Reads as first-reads
-use Rattle.step.proofs.compute.into.Reads as into-reads
-use Rattle.step.proofs.compute.operated.Reads as operated-reads
-use Rattle.step.proofs.compute.second.Reads as second-reads
-use Rattle.step.proofs.compute.target.Reads as target-reads
 
 -- src/compute.rt:190:9
 first-requires : tie.Need-first-requires

@@ -2,11 +2,6 @@ use mathlib.Core.Path.{refl}
 use borrow.Author.Needs.{needs}
 use Rattle.step.proofs.compute.operated.Statement.{statement}
 use Rattle.step.proofs.compute.operated.Tie as tie
-use Rattle.step.proofs.compute.operated.Reads as reads
-use Rattle.step.proofs.compute.operated.Lts as lts
-use Rattle.alu.proofs.operate.Reads as operate-reads
-use Rattle.alu.proofs.pack.Reads as pack-reads
-use Rattle.alu.proofs.unpack.Reads as unpack-reads
 
 -- src/compute.rt:168:9
 unpack-requires : tie.Need-unpack-requires

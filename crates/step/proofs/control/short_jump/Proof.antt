@@ -1,22 +1,18 @@
-use Rattle.step.proofs.Laws.{judged}
-use Rattle.step.specs.Exec.{effectOf, executedOf, pastOf}
-use Rattle.code.proofs.Judge.{number-read, number-lacks, value-1}
+use mathlib.Core.Path.{refl, sym}
+use native.Mathlib.Omega.{arith}
+use lib.ListN.{getD}
+use Rattle.little.specs.declared.Size.the-variants.{Byte}
+use Rattle.state.specs.State.{stateOf, withCounter}
 use Rattle.code.specs.declared.Decoded.the-variants.{Short}
 use Rattle.code.specs.declared.Operand.the-variants.{Constant}
 use Rattle.code.specs.declared.Op.the-variants.{Jr}
 use Rattle.code.specs.Said.{whole, judge, wholeOf}
-use Rattle.little.specs.declared.Size.the-variants.{Byte}
-use Rattle.state.specs.State.{stateOf, withCounter}
-use lib.ListN.{getD}
-use native.Mathlib.Omega.{arith}
-use mathlib.Core.Path.{refl, sym}
+use Rattle.code.proofs.Judge.{number-read, number-lacks, value-1}
+use Rattle.step.specs.Exec.{effectOf, executedOf, pastOf}
+use Rattle.step.proofs.Laws.{judged}
 use borrow.Author.Needs.{needs}
 use Rattle.step.proofs.control.short_jump.Statement.{statement}
 use Rattle.step.proofs.control.short_jump.Tie as tie
-use Rattle.step.proofs.control.short_jump.Reads as reads
-use Rattle.step.proofs.control.short_jump.Lts as lts
-use Rattle.step.proofs.control.jump.Reads as jump-reads
-use Rattle.step.proofs.control.past.Reads as past-reads
 
 returns : tie.Need-returns
 returns c regs bank level spare ram rom =

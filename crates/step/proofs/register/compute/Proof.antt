@@ -1,16 +1,10 @@
+use mathlib.Core.Path.{refl, sym, _∙_}
+use Rattle.state.specs.State.{withFlags, withBothFlags, withCounter}
 use Rattle.step.specs.Flag.{flagged}
 use Rattle.step.specs.Exec.{pastOf}
-use Rattle.state.specs.State.{withFlags, withBothFlags, withCounter}
-use mathlib.Core.Path.{refl, sym, _∙_}
 use borrow.Author.Needs.{needs}
 use Rattle.step.proofs.register.compute.Statement.{statement}
 use Rattle.step.proofs.register.compute.Tie as tie
-use Rattle.step.proofs.register.compute.Reads as reads
-use Rattle.step.proofs.register.compute.Lts as lts
-use Rattle.state.proofs.write.Reads as write-reads
-use Rattle.step.proofs.compute.operated.Reads as operated-reads
-use Rattle.step.proofs.compute.stores.Reads as stores-reads
-use Rattle.step.proofs.control.past.Reads as past-reads
 
 operated-requires : tie.Need-operated-requires
 operated-requires c κs = search needs

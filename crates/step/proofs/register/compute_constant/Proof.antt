@@ -1,23 +1,17 @@
-use Rattle.step.proofs.RegisterForms.{says-number, lacks-number}
-use Rattle.memory.proofs.Laws.{bytes-le}
-use Rattle.code.proofs.RegisterRows.{compute-constant}
-use Rattle.code.specs.declared.Op.the-variants.{ComputeConstant}
-use Rattle.code.specs.Registers.{arithOf}
-use Rattle.step.specs.Operand.{valueAt}
-use Rattle.step.specs.Exec.{effectOf, pastOf}
-use Rattle.state.specs.State.{stateOf, withCounter}
-use native.Mathlib.Omega.{arith}
 use Prim.Native.Nat.{_+_, _%_, _^_}
 use mathlib.Core.Path.{refl, _∙_}
+use native.Mathlib.Omega.{arith}
+use Rattle.memory.proofs.Laws.{bytes-le}
+use Rattle.state.specs.State.{stateOf, withCounter}
+use Rattle.code.specs.declared.Op.the-variants.{ComputeConstant}
+use Rattle.code.specs.Registers.{arithOf}
+use Rattle.code.proofs.RegisterRows.{compute-constant}
+use Rattle.step.specs.Operand.{valueAt}
+use Rattle.step.specs.Exec.{effectOf, pastOf}
+use Rattle.step.proofs.RegisterForms.{says-number, lacks-number}
 use borrow.Author.Needs.{needs}
 use Rattle.step.proofs.register.compute_constant.Statement.{statement}
 use Rattle.step.proofs.register.compute_constant.Tie as tie
-use Rattle.step.proofs.register.compute_constant.Reads as reads
-use Rattle.step.proofs.register.compute_constant.Lts as lts
-use Rattle.code.proofs.registers.arith_of.Reads as arith-of-reads
-use Rattle.little.proofs.bytes.Reads as bytes-reads
-use Rattle.step.proofs.register.compute.Reads as compute-reads
-use Rattle.step.proofs.register.constant.Reads as constant-reads
 
 bytes-requires : tie.Need-bytes-requires
 bytes-requires c κs = search needs

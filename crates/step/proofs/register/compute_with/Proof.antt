@@ -1,15 +1,11 @@
-use Rattle.step.specs.Operand.{valueAt}
-use Rattle.step.specs.Exec.{effectOf, pastOf}
-use Rattle.state.specs.State.{withCounter}
 use Prim.Native.Nat.{_+_, _%_, _^_}
 use mathlib.Core.Path.{refl, _∙_}
+use Rattle.state.specs.State.{withCounter}
+use Rattle.step.specs.Operand.{valueAt}
+use Rattle.step.specs.Exec.{effectOf, pastOf}
 use borrow.Author.Needs.{needs}
 use Rattle.step.proofs.register.compute_with.Statement.{statement}
 use Rattle.step.proofs.register.compute_with.Tie as tie
-use Rattle.step.proofs.register.compute_with.Reads as reads
-use Rattle.step.proofs.register.compute_with.Lts as lts
-use Rattle.state.proofs.read.Reads as read-reads
-use Rattle.step.proofs.register.compute.Reads as compute-reads
 
 read-requires : tie.Need-read-requires
 read-requires c κs = search needs

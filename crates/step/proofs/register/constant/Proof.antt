@@ -1,13 +1,10 @@
-use Rattle.memory.proofs.Laws.{part-four}
-use Rattle.little.specs.Bytes.{valueOf}
-use lib.ListN.{drop}
 use mathlib.Core.Path.{ap, _∙_}
+use lib.ListN.{drop}
+use Rattle.little.specs.Bytes.{valueOf}
+use Rattle.memory.proofs.Laws.{part-four}
 use borrow.Author.Needs.{needs}
 use Rattle.step.proofs.register.constant.Statement.{statement}
 use Rattle.step.proofs.register.constant.Tie as tie
-use Rattle.step.proofs.register.constant.Reads as reads
-use Rattle.step.proofs.register.constant.Lts as lts
-use Rattle.little.proofs.read.Reads as read-reads
 
 add-e : tie.Need-add-e
 add-e c = search needs

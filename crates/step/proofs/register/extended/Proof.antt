@@ -1,24 +1,17 @@
-use Rattle.step.proofs.RegisterForms.{says-whole, byte-extension, not-byte}
-use Rattle.code.proofs.RegisterRows.{no-extension}
+use Prim.Native.Nat.{_+_, _%_, _^_}
+use mathlib.Core.Path.{refl, _∙_}
+use Rattle.state.specs.State.{stateOf, withCounter}
 use Rattle.code.specs.declared.Op.the-variants.{Extz, Exts}
 use Rattle.code.specs.Rows.{lookup}
 use Rattle.code.specs.Registers.{registerRows}
 use Rattle.code.specs.Said.{judge}
+use Rattle.code.proofs.RegisterRows.{no-extension}
 use Rattle.step.specs.Operand.{valueAt}
 use Rattle.step.specs.Exec.{effectOf, pastOf}
-use Rattle.state.specs.State.{stateOf, withCounter}
-use native.Mathlib.Omega.{arith}
-use Prim.Native.Nat.{_+_, _%_, _^_}
-use mathlib.Core.Path.{refl, _∙_}
+use Rattle.step.proofs.RegisterForms.{says-whole, byte-extension, not-byte}
 use borrow.Author.Needs.{needs}
 use Rattle.step.proofs.register.extended.Statement.{statement}
 use Rattle.step.proofs.register.extended.Tie as tie
-use Rattle.step.proofs.register.extended.Reads as reads
-use Rattle.step.proofs.register.extended.Lts as lts
-use Rattle.alu.proofs.exts.Reads as exts-reads
-use Rattle.alu.proofs.extz.Reads as extz-reads
-use Rattle.little.proofs.bytes.Reads as bytes-reads
-use Rattle.step.proofs.register.set.Reads as set-reads
 
 bytes-requires : tie.Need-bytes-requires
 bytes-requires c κs = search needs

@@ -1,17 +1,11 @@
-use Rattle.step.specs.Operand.{valueAt}
-use Rattle.step.specs.Exec.{effectOf, pastOf}
-use Rattle.state.specs.State.{withCounter}
 use Prim.Native.Nat.{_+_, _%_, _^_}
 use mathlib.Core.Path.{refl, _∙_}
+use Rattle.state.specs.State.{withCounter}
+use Rattle.step.specs.Operand.{valueAt}
+use Rattle.step.specs.Exec.{effectOf, pastOf}
 use borrow.Author.Needs.{needs}
 use Rattle.step.proofs.register.inc.Statement.{statement}
 use Rattle.step.proofs.register.inc.Tie as tie
-use Rattle.step.proofs.register.inc.Reads as reads
-use Rattle.step.proofs.register.inc.Lts as lts
-use Rattle.alu.proofs.inc.Reads as inc-reads
-use Rattle.alu.proofs.unpack.Reads as unpack-reads
-use Rattle.step.proofs.compute.steps_of.Reads as steps-of-reads
-use Rattle.step.proofs.register.result.Reads as result-reads
 
 unpack-requires : tie.Need-unpack-requires
 unpack-requires c κs = search needs

@@ -1,14 +1,11 @@
-use Rattle.step.specs.Operand.{valueAt}
-use Rattle.step.specs.Exec.{effectOf, pastOf}
-use Rattle.state.specs.State.{withCounter}
 use Prim.Native.Nat.{_+_, _%_, _^_}
 use mathlib.Core.Path.{refl, _∙_}
+use Rattle.state.specs.State.{withCounter}
+use Rattle.step.specs.Operand.{valueAt}
+use Rattle.step.specs.Exec.{effectOf, pastOf}
 use borrow.Author.Needs.{needs}
 use Rattle.step.proofs.register.load.Statement.{statement}
 use Rattle.step.proofs.register.load.Tie as tie
-use Rattle.step.proofs.register.load.Reads as reads
-use Rattle.step.proofs.register.load.Lts as lts
-use Rattle.step.proofs.register.set.Reads as set-reads
 
 set-requires : tie.Need-set-requires
 set-requires c κs = search needs

@@ -1,23 +1,17 @@
-use Rattle.step.proofs.RegisterForms.{says-number, lacks-number}
+use mathlib.Core.Path.{refl}
+use native.Mathlib.Omega.{arith}
 use Rattle.memory.proofs.Laws.{bytes-le}
-use Rattle.code.proofs.RegisterRows.{no-load}
+use Rattle.state.specs.State.{stateOf}
 use Rattle.code.specs.declared.Op.the-variants.{LoadConstant}
 use Rattle.code.specs.Rows.{lookup}
 use Rattle.code.specs.Registers.{registerRows}
 use Rattle.code.specs.Said.{judge}
-use Rattle.step.specs.Exec.{effectOf, pastOf}
-use Rattle.state.specs.State.{stateOf, withCounter}
-use native.Mathlib.Omega.{arith}
-use Prim.Native.Nat.{_+_, _%_, _^_}
-use mathlib.Core.Path.{refl, _∙_}
+use Rattle.code.proofs.RegisterRows.{no-load}
+use Rattle.step.specs.Exec.{effectOf}
+use Rattle.step.proofs.RegisterForms.{says-number, lacks-number}
 use borrow.Author.Needs.{needs}
 use Rattle.step.proofs.register.load_constant.Statement.{statement}
 use Rattle.step.proofs.register.load_constant.Tie as tie
-use Rattle.step.proofs.register.load_constant.Reads as reads
-use Rattle.step.proofs.register.load_constant.Lts as lts
-use Rattle.little.proofs.bytes.Reads as bytes-reads
-use Rattle.step.proofs.register.constant.Reads as constant-reads
-use Rattle.step.proofs.register.set.Reads as set-reads
 
 returns : tie.Need-returns
 unfolding judge

@@ -1,34 +1,21 @@
-use Rattle.step.proofs.RegisterForms.{second, says-whole}
-use Rattle.step.proofs.Laws.{judged}
-use Rattle.code.proofs.Judge.{next-short}
-use Rattle.code.proofs.RegisterRows.{inc, dec, load, into, compute, no-register}
+use Prim.Native.Nat.{_/_, _%_}
+use mathlib.Core.Path.{refl, _∙_}
+use native.Mathlib.Omega.{arith}
+use lib.ListN.{getD}
+use Rattle.state.specs.State.{stateOf}
 use Rattle.code.specs.declared.Decoded.the-variants.{Short}
 use Rattle.code.specs.declared.Operand.the-variants.{Register}
 use Rattle.code.specs.declared.Op.the-variants.{Load, Into, Compute, Inc, Dec}
 use Rattle.code.specs.Registers.{registerRows, arithOf}
 use Rattle.code.specs.Rows.{lookup}
 use Rattle.code.specs.Said.{judge}
-use Rattle.state.specs.State.{stateOf}
-use lib.ListN.{getD}
-use native.Mathlib.Omega.{arith}
-use Prim.Native.Nat.{_/_, _%_}
-use mathlib.Core.Path.{refl, _∙_}
+use Rattle.code.proofs.Judge.{next-short}
+use Rattle.code.proofs.RegisterRows.{inc, dec, load, into, compute, no-register}
+use Rattle.step.proofs.RegisterForms.{second, says-whole}
+use Rattle.step.proofs.Laws.{judged}
 use borrow.Author.Needs.{needs}
 use Rattle.step.proofs.register.register.Statement.{statement}
 use Rattle.step.proofs.register.register.Tie as tie
-use Rattle.step.proofs.register.register.Reads as reads
-use Rattle.step.proofs.register.register.Lts as lts
-use Rattle.code.proofs.registers.arith_of.Reads as arith-of-reads
-use Rattle.state.proofs.read.Reads as read-reads
-use Rattle.step.proofs.register.compute_constant.Reads as compute-constant-reads
-use Rattle.step.proofs.register.compute_with.Reads as compute-with-reads
-use Rattle.step.proofs.register.dec.Reads as dec-reads
-use Rattle.step.proofs.register.extended.Reads as extended-reads
-use Rattle.step.proofs.register.inc.Reads as inc-reads
-use Rattle.step.proofs.register.into.Reads as into-reads
-use Rattle.step.proofs.register.load.Reads as load-reads
-use Rattle.step.proofs.register.load_constant.Reads as load-constant-reads
-use Rattle.step.proofs.register.shifted.Reads as shifted-reads
 
 returns : tie.Need-returns
 returns c level spare ram rom =

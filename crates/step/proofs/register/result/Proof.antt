@@ -1,15 +1,10 @@
+use mathlib.Core.Path.{refl}
+use Rattle.state.specs.State.{withFlags, withBothFlags, withCounter}
 use Rattle.step.specs.Flag.{flagged}
 use Rattle.step.specs.Exec.{pastOf}
-use Rattle.state.specs.State.{withFlags, withBothFlags, withCounter}
-use mathlib.Core.Path.{refl}
 use borrow.Author.Needs.{needs}
 use Rattle.step.proofs.register.result.Statement.{statement}
 use Rattle.step.proofs.register.result.Tie as tie
-use Rattle.step.proofs.register.result.Reads as reads
-use Rattle.step.proofs.register.result.Lts as lts
-use Rattle.alu.proofs.pack.Reads as pack-reads
-use Rattle.state.proofs.write.Reads as write-reads
-use Rattle.step.proofs.control.past.Reads as past-reads
 
 pack-requires : tie.Need-pack-requires
 pack-requires c κs = search needs

@@ -1,13 +1,9 @@
-use Rattle.step.specs.Exec.{pastOf}
-use Rattle.state.specs.State.{withCounter}
 use mathlib.Core.Path.{refl}
+use Rattle.state.specs.State.{withCounter}
+use Rattle.step.specs.Exec.{pastOf}
 use borrow.Author.Needs.{needs}
 use Rattle.step.proofs.register.set.Statement.{statement}
 use Rattle.step.proofs.register.set.Tie as tie
-use Rattle.step.proofs.register.set.Reads as reads
-use Rattle.step.proofs.register.set.Lts as lts
-use Rattle.state.proofs.write.Reads as write-reads
-use Rattle.step.proofs.control.past.Reads as past-reads
 
 write-requires : tie.Need-write-requires
 write-requires c κs = search needs

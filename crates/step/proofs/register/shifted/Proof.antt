@@ -1,27 +1,22 @@
-use Rattle.step.proofs.Laws.{judged}
-use Rattle.code.proofs.Judge.{run-there, run-unlisted, next-short}
-use Rattle.code.proofs.RegisterRows.{shift, no-shift}
+use Prim.Native.Nat.{_+_, _%_, _^_}
+use mathlib.Core.Path.{refl, _∙_}
+use native.Mathlib.Omega.{arith}
+use lib.ListN.{getD}
+use Rattle.state.specs.State.{stateOf, withCounter}
 use Rattle.code.specs.declared.Decoded.the-variants.{Short, Unlisted}
 use Rattle.code.specs.declared.Operand.the-variants.{Register}
 use Rattle.code.specs.declared.Op.the-variants.{Shifted}
 use Rattle.code.specs.Registers.{placesRows, shiftOf}
 use Rattle.code.specs.Rows.{lookup}
 use Rattle.code.specs.Said.{whole, judge, wholeOf}
+use Rattle.code.proofs.Judge.{run-there, run-unlisted, next-short}
+use Rattle.code.proofs.RegisterRows.{shift, no-shift}
 use Rattle.step.specs.Operand.{valueAt}
 use Rattle.step.specs.Exec.{effectOf, executedOf, pastOf}
-use Rattle.state.specs.State.{stateOf, withCounter}
-use lib.ListN.{getD}
-use native.Mathlib.Omega.{arith}
-use Prim.Native.Nat.{_+_, _%_, _^_}
-use mathlib.Core.Path.{refl, _∙_}
+use Rattle.step.proofs.Laws.{judged}
 use borrow.Author.Needs.{needs}
 use Rattle.step.proofs.register.shifted.Statement.{statement}
 use Rattle.step.proofs.register.shifted.Tie as tie
-use Rattle.step.proofs.register.shifted.Reads as reads
-use Rattle.step.proofs.register.shifted.Lts as lts
-use Rattle.alu.proofs.shift_by.Reads as shift-by-reads
-use Rattle.code.proofs.registers.shift_of.Reads as shift-of-reads
-use Rattle.step.proofs.register.result.Reads as result-reads
 
 returns : tie.Need-returns
 unfolding judge
