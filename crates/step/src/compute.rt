@@ -32,7 +32,7 @@ pub struct Packed {
     pub flags: u8,
 }
 
-// CP puts nothing.
+// Whether the result is put; of CP only the flags are.
 pub fn stores(op: Arith) -> bool
     ensures { λ r. ⌜ r ≡ storesOf op ⌝ }
 {
@@ -52,16 +52,10 @@ pub fn stores(op: Arith) -> bool
 fn target(op: Arith, into: Operand) -> Operand
     ensures { λ r. ⌜ r ≡ targetOf op into ⌝ }
 {
-    match op {
-        Arith::Add => into,
-        Arith::Adc => into,
-        Arith::Sub => into,
-        Arith::Sbc => into,
-        Arith::And => into,
-        Arith::Xor => into,
-        Arith::Or => into,
-        Arith::Cp => Operand::Constant(0),
+    if stores(op) {
+        return into;
     }
+    Operand::Constant(0)
 }
 
 // 0 means 8.

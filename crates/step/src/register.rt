@@ -2,7 +2,7 @@
 // one match tells the second byte, and each arm puts its own result: all three are for speed.
 ghost use mathlib.Core.Path.{_≡_};
 ghost use mathlib.Core.List.{List};
-ghost use Prim.Native.Nat.{ℕ, _+_, _/_, _%_, _<_, _≤_};
+ghost use Prim.Native.Nat.{ℕ, _+_, _/_, _≤_};
 ghost use lib.ListN.{length, take, drop};
 ghost use Rattle.little.specs.Bytes.{valueOf};
 ghost use Rattle.code.specs.declared.Op.the-variants.{Inc, Dec, Load, Into, Compute};
