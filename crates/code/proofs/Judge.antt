@@ -102,3 +102,10 @@ module _ (k : ℕ → Said) (s : List ℕ) (i n : ℕ) where
   pub number-short : (f : Found) → f ≡ numberAt s i n → f ≡ Missing → Short ≡ judge (number n k) s i
   unfolding judge
   number-short f e g = rw (← e, g)
+
+  -- the same of a number whose bytes are known to be there or not
+  pub number-read : (v : ℕ) (d : Decoded) → i + n ≤ length s → v ≡ valueOf (take n (drop i s)) → d ≡ judge (k v) s (i + n) → d ≡ judge (number n k) s i
+  number-read v d h e q = number-then v (Value v) d (number-there s i n v h e) refl q
+
+  pub number-lacks : length s < i + n → Short ≡ judge (number n k) s i
+  number-lacks h = number-short Missing (number-missing s i n h) refl

@@ -11,7 +11,7 @@ use little::Size;
 
 mod first;
 mod memory;
-mod registers;
+pub mod registers;
 
 // Where a memory form's address comes from: a register, a register and a displacement, or the code alone.
 pub enum Base {

@@ -29,7 +29,7 @@ pub fn arith_of(n: u8) -> Arith
     }
 }
 
-fn shift_of(n: u8) -> Shift
+pub fn shift_of(n: u8) -> Shift
     ensures { λ r. ⌜ r ≡ shiftOf n ⌝ }
 {
     match n {

@@ -31,6 +31,7 @@ use Rattle.code.specs.declared.Decoded.the-variants as decoded
 use Rattle.code.proofs.Ranges.{length-fits}
 use lib.ListN.{length}
 use Rattle.step.specs.Exec.{pastOf}
+use Rattle.step.specs.Step.{done}
 use Rattle.step.specs.Show.{lengthIn}
 use Rattle.step.specs.Operand.{displaced, pointerOf, addressOf, addressFrom, storing}
 use Rattle.step.specs.Stack.{less, plus, withStack, popOf}
@@ -191,6 +192,10 @@ came-back s n ram a u m w (no x) e d =
     let b : Refused w ≡ Refused x = sym d ∙ ap (λ (o : Outcome). o .answer) e in
     let k : backAt u (s .counter) ≡ s = ap (λ (o : Outcome). backAt (o .state) (s .counter)) e ∙ back-is n s in
     rw (ap (λ (o : Outcome). o .ram) e, b) (ap (λ (v : State). after (Refused x) v ram) k)
+
+-- what is judged to be the same leaves the same
+pub judged : (s : State) (ram rom : List ℕ) (o : Outcome) (d e : Decoded) → d ≡ e → o ≡ leaves s ram (done d s ram rom) → o ≡ leaves s ram (done e s ram rom)
+judged s ram rom o d e h k = rw (← h) k
 
 -- ---- what is shown is there
 pub length-there : (l : List ℕ) → lengthIn (decodeOf l) ≤ length l

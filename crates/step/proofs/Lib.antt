@@ -1,4 +1,5 @@
 pub mod Laws
+pub mod RegisterForms
 pub mod Division
 pub mod Times
 pub mod Rounds

@@ -35,6 +35,7 @@ use Rattle.step.specs.declared.kind.Control.the-variants as control
 use Rattle.step.specs.declared.kind.Stack.{Stack}
 use Rattle.step.specs.declared.kind.Stack.the-variants as stack
 use Rattle.step.specs.declared.compute.Work.{Work}
+use Rattle.step.specs.declared.compute.Packed.{Packed}
 use Rattle.step.specs.Try.{Try, did, andThen, withLoaded}
 use Rattle.step.specs.Operand.{displaced, valueAt, putAt}
 use Rattle.step.specs.Flag.{flagsIn, flagged, exchanged}
@@ -135,6 +136,10 @@ intoOf (side.With n) o = o
 
 abbrev pub targetOf : Arith → Operand → Operand
 targetOf a o = cond (storesOf a) o (operand.Constant 0)
+
+-- a result with its flags packed
+abbrev pub packedOf : Computed → Packed
+packedOf r = record { value = r .value; flags = byteOf (r .flags) }
 
 -- an operation on two operands
 abbrev pub arithmeticOf : Arith → Side → State → Size → Operand → ℕ → Work

@@ -9,6 +9,7 @@ pub mod Exec
 pub mod Kind
 pub mod Step
 pub mod Times
+pub mod Register
 pub mod Show
 pub mod Reset
 pub mod Touched

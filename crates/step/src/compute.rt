@@ -1,10 +1,13 @@
 // What an instruction puts: what is read, what is made of it, and where that goes.
 ghost use mathlib.Core.Path.{_≡_};
 ghost use Prim.Native.Nat.{ℕ};
+ghost use Rattle.little.specs.Width.{bitsOf};
+ghost use Rattle.alu.specs.Flag.{flagsOf};
+ghost use Rattle.alu.specs.Operation.{operated};
 ghost use Rattle.state.specs.State.{stateOf};
 ghost use Rattle.step.specs.Try.{after, leaves};
-ghost use Rattle.step.specs.Compute.{stepsOf};
-ghost use Rattle.step.specs.Kind.{targetOf, readsOf, givenOf, sourceOf, resultOf, keptOf, firstOf, secondOf, intoOf, arithmeticOf, workOf, putsOf};
+ghost use Rattle.step.specs.Compute.{storesOf, stepsOf};
+ghost use Rattle.step.specs.Kind.{targetOf, readsOf, givenOf, sourceOf, resultOf, keptOf, firstOf, secondOf, intoOf, packedOf, arithmeticOf, workOf, putsOf};
 use crate::kind::Side;
 use crate::kind::Use;
 use crate::operand::put;
@@ -23,24 +26,40 @@ pub struct Work {
     pub into: Operand,
 }
 
+// A result with its flags as the byte F: small enough to be returned in registers.
+pub struct Packed {
+    pub value: u32,
+    pub flags: u8,
+}
+
+// Whether the result is put; of CP only the flags are.
+pub fn stores(op: Arith) -> bool
+    ensures { λ r. ⌜ r ≡ storesOf op ⌝ }
+{
+    match op {
+        Arith::Add => true,
+        Arith::Adc => true,
+        Arith::Sub => true,
+        Arith::Sbc => true,
+        Arith::And => true,
+        Arith::Xor => true,
+        Arith::Or => true,
+        Arith::Cp => false,
+    }
+}
+
 // CP puts nothing, as into a constant.
 fn target(op: Arith, into: Operand) -> Operand
     ensures { λ r. ⌜ r ≡ targetOf op into ⌝ }
 {
-    match op {
-        Arith::Add => into,
-        Arith::Adc => into,
-        Arith::Sub => into,
-        Arith::Sbc => into,
-        Arith::And => into,
-        Arith::Xor => into,
-        Arith::Or => into,
-        Arith::Cp => Operand::Constant(0),
+    if stores(op) {
+        return into;
     }
+    Operand::Constant(0)
 }
 
 // 0 means 8.
-fn steps_of(n: u8) -> u32
+pub fn steps_of(n: u8) -> u32
     ensures { λ r. ⌜ r ≡ stepsOf n ⌝ }
 {
     let m = n % 8;
@@ -152,6 +171,19 @@ fn into(side: Side, operand: Operand) -> Operand
     }
 }
 
+// The operation on two operands, with the carry in F.
+pub fn operated(op: Arith, size: Size, a: u32, b: u32, flags: u8) -> Packed
+    ensures { λ r. ⌜ r ≡ packedOf (operated op (bitsOf size) a b (flagsOf flags .c)) ⌝ }
+{
+    let f = alu::unpack(flags);
+    let w = alu::operate(op, size, a, b, f.c);
+    let after = w.flags;
+    Packed {
+        value: w.value,
+        flags: alu::pack(after),
+    }
+}
+
 // The operation on the operand's value v and the other operand.
 fn arithmetic(
     op: Arith,
@@ -167,11 +199,12 @@ fn arithmetic(
 {
     let a = first(side, v, bank, regs, size);
     let b = second(side, v, bank, regs, size);
-    let f = alu::unpack(flags);
-    result(
-        alu::operate(op, size, a, b, f.c),
-        target(op, into(side, operand)),
-    )
+    let w = operated(op, size, a, b, flags);
+    Work {
+        value: w.value,
+        flags: w.flags,
+        into: target(op, into(side, operand)),
+    }
 }
 
 // What is made of the value v that was read or given.

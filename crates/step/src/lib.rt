@@ -24,6 +24,7 @@ mod control;
 mod effect;
 mod kind;
 mod operand;
+mod register;
 mod stack;
 
 pub struct Stepped {

@@ -1,40 +1,38 @@
-use mathlib.Core.Path.{refl, _∙_}
+use mathlib.Core.Path.{refl}
 use borrow.Author.Needs.{needs}
 use Rattle.step.proofs.compute.arithmetic.Statement.{statement}
 use Rattle.step.proofs.compute.arithmetic.Tie as tie
 
+-- src/compute.rt:190:9
 first-requires : tie.Need-first-requires
 first-requires c κs = search needs
 
+-- src/compute.rt:191:9
 second-requires : tie.Need-second-requires
 second-requires c κs = search needs
 
-unpack-requires : tie.Need-unpack-requires
-unpack-requires c κs = search needs
+-- src/compute.rt:192:9
+operated-requires : tie.Need-operated-requires
+operated-requires c κs = search needs
 
-operate-requires : tie.Need-operate-requires
-operate-requires c κs = search needs
-
+-- src/compute.rt:196:26
 into-requires : tie.Need-into-requires
 into-requires c κs = search needs
 
+-- src/compute.rt:196:15
 target-requires : tie.Need-target-requires
 target-requires c κs = search needs
 
-result-requires : tie.Need-result-requires
-result-requires c κs = search needs
-
+-- src/compute.rt:178:1
 returns : tie.Need-returns
 returns c counter level spare =
-    let f = c .before .before .before .before .before .before .before .args .flags in
-    c .result .ensures
-    ∙ rw (
-      c .before .target .ensures,
-      c .before .before .into .ensures,
-      c .before .before .before .operate .ensures,
-      c .before .before .before .before .unpack .ensures,
-      c .before .before .before .before .before .second .ensures counter level f spare,
-      c .before .before .before .before .before .before .first .ensures counter level f spare,
+    let f = c .before .before .before .before .before .args .flags in
+    rw (
+      c .target .ensures,
+      c .before .into .ensures,
+      c .before .before .operated .ensures,
+      c .before .before .before .second .ensures counter level f spare,
+      c .before .before .before .before .first .ensures counter level f spare,
     )
     refl
 
@@ -44,9 +42,7 @@ arithmetic-spec =
     (tie.spec
     first-requires
     second-requires
-    unpack-requires
-    operate-requires
+    operated-requires
     into-requires
     target-requires
-    result-requires
     returns)

@@ -1,0 +1,32 @@
+use Prim.Native.Nat.{_+_, _%_, _^_}
+use mathlib.Core.Path.{refl, _∙_}
+use Rattle.state.specs.State.{withCounter}
+use Rattle.step.specs.Operand.{valueAt}
+use Rattle.step.specs.Exec.{effectOf, pastOf}
+use borrow.Author.Needs.{needs}
+use Rattle.step.proofs.register.dec.Statement.{statement}
+use Rattle.step.proofs.register.dec.Tie as tie
+
+unpack-requires : tie.Need-unpack-requires
+unpack-requires c κs = search needs
+
+steps-of-requires : tie.Need-steps-of-requires
+steps-of-requires c κs = search needs
+
+dec-requires : tie.Need-dec-requires
+dec-requires c κs = search needs
+
+result-requires : tie.Need-result-requires
+result-requires c κs = search needs
+
+returns : tie.Need-returns
+unfolding effectOf valueAt pastOf withCounter
+returns c level spare ram rom =
+    let a = c .before .before .before .before .before .before .before .before .args in
+    let p = (a .counter .now + 2) % 2 ^ 24 in
+    c .result .ensures level spare ram
+    ∙ rw (c .before .before .before .before .dec .ensures, c .before .before .before .before .before .steps-of .ensures, c .before .before .before .before .before .before .unpack .ensures, c .before .before .before .before .before .before .before .before .pre p level (a .flags .now) spare) refl
+
+pub dec-spec : {M : Type 1} → statement M
+dec-spec =
+    tie.close (tie.spec unpack-requires steps-of-requires dec-requires result-requires returns)

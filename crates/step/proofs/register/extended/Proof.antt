@@ -1,0 +1,67 @@
+use Prim.Native.Nat.{_+_, _%_, _^_}
+use mathlib.Core.Path.{refl, _∙_}
+use Rattle.state.specs.State.{stateOf, withCounter}
+use Rattle.code.specs.declared.Op.the-variants.{Extz, Exts}
+use Rattle.code.specs.Rows.{lookup}
+use Rattle.code.specs.Registers.{registerRows}
+use Rattle.code.specs.Said.{judge}
+use Rattle.code.proofs.RegisterRows.{no-extension}
+use Rattle.step.specs.Operand.{valueAt}
+use Rattle.step.specs.Exec.{effectOf, pastOf}
+use Rattle.step.proofs.RegisterForms.{says-whole, byte-extension, not-byte}
+use borrow.Author.Needs.{needs}
+use Rattle.step.proofs.register.extended.Statement.{statement}
+use Rattle.step.proofs.register.extended.Tie as tie
+
+bytes-requires : tie.Need-bytes-requires
+bytes-requires c κs = search needs
+
+returns : tie.Need-returns
+unfolding judge
+returns c level flags spare code ram rom = rw (byte-extension _ _ _ _ (c .before .bytes .ensures) (c .if1 .taken) (c .before .before .pre .0)) refl
+
+extz-requires : tie.Need-extz-requires
+extz-requires c κs = search needs
+
+set-requires : tie.Need-set-requires
+set-requires c κs = search needs
+
+exts-requires : tie.Need-exts-requires
+exts-requires c κs = search needs
+
+set-requires-2 : tie.Need-set-requires-2
+set-requires-2 c κs = search needs
+
+returns-2 : tie.Need-returns-2
+unfolding registerRows lookup effectOf valueAt pastOf withCounter
+returns-2 c level flags spare code ram rom =
+    let a = c .before .before .before .before .before .before .before .args in
+    let p = (a .counter .now + 2) % 2 ^ 24 in
+    says-whole (a .size) (a .r) (stateOf (a .regs .now) (a .counter .now) (a .bank) level flags spare) code ram rom Extz (a .c) _ (rw (c .before .before .before .before .match .keys1) (not-byte (a .size) _ _ (c .before .before .before .before .before .before .bytes .ensures) (c .before .before .before .before .before .if1 .left)))
+    (c .set .ensures level flags spare ram ∙ rw (c .before .before .before .extz .ensures, c .before .before .before .before .before .before .before .pre .1 p level flags spare) refl)
+
+returns-3 : tie.Need-returns-3
+unfolding registerRows lookup effectOf valueAt pastOf withCounter
+returns-3 c level flags spare code ram rom =
+    let a = c .before .before .before .before .before .before .before .args in
+    let p = (a .counter .now + 2) % 2 ^ 24 in
+    says-whole (a .size) (a .r) (stateOf (a .regs .now) (a .counter .now) (a .bank) level flags spare) code ram rom Exts (a .c) _ (rw (c .before .before .before .before .match .keys2) (not-byte (a .size) _ _ (c .before .before .before .before .before .before .bytes .ensures) (c .before .before .before .before .before .if1 .left)))
+    (c .set2 .ensures level flags spare ram ∙ rw (c .before .before .before .exts .ensures, c .before .before .before .before .before .before .before .pre .1 p level flags spare) refl)
+
+returns-4 : tie.Need-returns-4
+unfolding judge
+returns-4 c level flags spare code ram rom = rw (no-extension _ _ _ (c .before .before .before .pre .0) (c .match .rest)) refl
+
+pub extended-spec : {M : Type 1} → statement M
+extended-spec =
+    tie.close
+    (tie.spec
+    bytes-requires
+    returns
+    extz-requires
+    set-requires
+    exts-requires
+    set-requires-2
+    returns-2
+    returns-3
+    returns-4)

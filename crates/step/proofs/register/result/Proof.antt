@@ -1,0 +1,23 @@
+use mathlib.Core.Path.{refl}
+use Rattle.state.specs.State.{withFlags, withBothFlags, withCounter}
+use Rattle.step.specs.Flag.{flagged}
+use Rattle.step.specs.Exec.{pastOf}
+use borrow.Author.Needs.{needs}
+use Rattle.step.proofs.register.result.Statement.{statement}
+use Rattle.step.proofs.register.result.Tie as tie
+
+pack-requires : tie.Need-pack-requires
+pack-requires c κs = search needs
+
+write-requires : tie.Need-write-requires
+write-requires c κs = search needs
+
+past-requires : tie.Need-past-requires
+past-requires c κs = search needs
+
+returns : tie.Need-returns
+unfolding flagged withFlags withBothFlags pastOf withCounter
+returns c level spare ram = rw (c .before .before .write .ensures (c .past .last .0) level (c .before .before .before .before .pack .result) spare, c .past .ensures, c .before .before .before .before .pack .ensures) refl
+
+pub result-spec : {M : Type 1} → statement M
+result-spec = tie.close (tie.spec pack-requires write-requires past-requires returns)

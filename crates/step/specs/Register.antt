@@ -1,0 +1,28 @@
+-- An instruction whose operand is a register, done in one go: what the contracts of its parts share.
+use Prim.Native.Nat.{ℕ}
+use mathlib.Core.Path.{_≡_}
+use mathlib.Core.List.{List}
+use Rattle.little.specs.declared.Size.{Size}
+use Rattle.state.specs.State.{stateOf}
+use Rattle.state.specs.Register.{getRegister}
+use Rattle.state.specs.declared.State.{State}
+use Rattle.code.specs.declared.Op.{Op}
+use Rattle.code.specs.declared.Operand.the-variants.{Register}
+use Rattle.code.specs.Said.{judge}
+use Rattle.code.specs.Rows.{lookup}
+use Rattle.code.specs.Registers.{registerRows}
+use Rattle.step.specs.Try.{Outcome, leaves}
+use Rattle.step.specs.Exec.{pastOf, effectOf}
+use Rattle.step.specs.Step.{done}
+
+-- v is what the register r holds
+abbrev pub Holds : List ℕ → ℕ → Size → ℕ → ℕ → Type 0
+Holds registers bank z r v = (counter level flags spare : ℕ) → v ≡ getRegister (stateOf registers counter bank level flags spare) z r
+
+-- what an operation of n bytes on the register r leaves
+abbrev pub onRegister : Op → ℕ → Size → ℕ → State → List ℕ → List ℕ → Outcome
+onRegister op n z r s ram rom = leaves s ram (effectOf op z (Register r) (s .counter) (pastOf n s) ram rom)
+
+-- what the code leaves whose second byte is c
+abbrev pub secondLeaves : List ℕ → ℕ → Size → ℕ → State → List ℕ → List ℕ → Outcome
+secondLeaves code c z r s ram rom = leaves s ram (done (judge (lookup (registerRows z (Register r)) c) code 2) s ram rom)

@@ -1,0 +1,314 @@
+// An instruction whose operand is a register, read and done in one go, with no Instruction between. The register is read once,
+// one match tells the second byte, and each arm puts its own result: all three are for speed.
+ghost use mathlib.Core.Path.{_≡_};
+ghost use mathlib.Core.List.{List};
+ghost use Prim.Native.Nat.{ℕ, _+_, _/_, _≤_};
+ghost use lib.ListN.{length, take, drop};
+ghost use Rattle.little.specs.Bytes.{valueOf};
+ghost use Rattle.code.specs.declared.Op.the-variants.{Inc, Dec, Load, Into, Compute};
+ghost use Rattle.code.specs.declared.Operand.the-variants.{Register};
+ghost use Rattle.code.specs.Said.{judge};
+ghost use Rattle.code.specs.Rows.{byRows};
+ghost use Rattle.code.specs.Registers.{registerRows};
+ghost use Rattle.state.specs.State.{stateOf};
+ghost use Rattle.state.specs.Register.{setRegister};
+ghost use Rattle.step.specs.Try.{did, after, leaves};
+ghost use Rattle.step.specs.Flag.{flagged};
+ghost use Rattle.step.specs.Compute.{computed, answerIn};
+ghost use Rattle.step.specs.Exec.{pastOf};
+ghost use Rattle.step.specs.Step.{done};
+ghost use Rattle.step.specs.Register.{Holds, onRegister, secondLeaves};
+use crate::compute::operated;
+use crate::compute::steps_of;
+use crate::compute::stores;
+use crate::control::past;
+use alu::Arith;
+use alu::Computed;
+use answer::Answer;
+use answer::Why;
+use code::registers::arith_of;
+use code::registers::shift_of;
+use little::Size;
+
+// Puts a value into a register, and goes past n bytes of code.
+fn set(
+    v: u32,
+    n: usize,
+    size: Size,
+    r: u8,
+    bank: u8,
+    regs: &mut [u32; 20],
+    counter: &mut u32,
+) -> Answer
+    ensures { λ a. ⌜ ((level flags spare : ℕ) (ram : List ℕ) → after a (stateOf (now (regs .exit)) (now (counter .exit)) bank level flags spare) ram ≡ leaves (stateOf (now (regs .entry)) (now (counter .entry)) bank level flags spare) ram (did (setRegister (pastOf n (stateOf (now (regs .entry)) (now (counter .entry)) bank level flags spare)) size r v) ram)) ⌝ }
+{
+    state::write(regs, bank, size, r, v);
+    past(counter, n);
+    Answer::Done
+}
+
+// The same of a result, whose flags are set.
+fn result(
+    w: Computed,
+    n: usize,
+    size: Size,
+    r: u8,
+    bank: u8,
+    flags: &mut u8,
+    regs: &mut [u32; 20],
+    counter: &mut u32,
+) -> Answer
+    ensures { λ a. ⌜ ((level spare : ℕ) (ram : List ℕ) → after a (stateOf (now (regs .exit)) (now (counter .exit)) bank level (now (flags .exit)) spare) ram ≡ leaves (stateOf (now (regs .entry)) (now (counter .entry)) bank level (now (flags .entry)) spare) ram (did (setRegister (flagged (pastOf n (stateOf (now (regs .entry)) (now (counter .entry)) bank level (now (flags .entry)) spare)) (w .flags)) size r (w .value)) ram)) ⌝ }
+{
+    let f = w.flags;
+    *flags = alu::pack(f);
+    state::write(regs, bank, size, r, w.value);
+    past(counter, n);
+    Answer::Done
+}
+
+// The same of the operation on x and y; CP puts nothing.
+fn compute(
+    op: Arith,
+    x: u32,
+    y: u32,
+    n: usize,
+    size: Size,
+    r: u8,
+    bank: u8,
+    flags: &mut u8,
+    regs: &mut [u32; 20],
+    counter: &mut u32,
+) -> Answer
+    ensures { λ a. ⌜ ((level spare : ℕ) (ram rom : List ℕ) → after a (stateOf (now (regs .exit)) (now (counter .exit)) bank level (now (flags .exit)) spare) ram ≡ leaves (stateOf (now (regs .entry)) (now (counter .entry)) bank level (now (flags .entry)) spare) ram (answerIn op (pastOf n (stateOf (now (regs .entry)) (now (counter .entry)) bank level (now (flags .entry)) spare)) ram rom size (Register r) (computed (pastOf n (stateOf (now (regs .entry)) (now (counter .entry)) bank level (now (flags .entry)) spare)) op size x y))) ⌝ }
+{
+    let w = operated(op, size, x, y, *flags);
+    *flags = w.flags;
+    past(counter, n);
+    if stores(op) {
+        state::write(regs, bank, size, r, w.value);
+    }
+    Answer::Done
+}
+
+// The operand plus n.
+fn inc(
+    n: u8,
+    v: u32,
+    size: Size,
+    r: u8,
+    bank: u8,
+    flags: &mut u8,
+    regs: &mut [u32; 20],
+    counter: &mut u32,
+) -> Answer
+    requires { ⌜ Holds (now regs) bank size r v ⌝ }
+    ensures { λ a. ⌜ ((level spare : ℕ) (ram rom : List ℕ) → after a (stateOf (now (regs .exit)) (now (counter .exit)) bank level (now (flags .exit)) spare) ram ≡ onRegister (Inc n) 2 size r (stateOf (now (regs .entry)) (now (counter .entry)) bank level (now (flags .entry)) spare) ram rom) ⌝ }
+{
+    let w = alu::inc(alu::unpack(*flags), size, v, steps_of(n));
+    result(w, 2, size, r, bank, flags, regs, counter)
+}
+
+// The operand less n.
+fn dec(
+    n: u8,
+    v: u32,
+    size: Size,
+    r: u8,
+    bank: u8,
+    flags: &mut u8,
+    regs: &mut [u32; 20],
+    counter: &mut u32,
+) -> Answer
+    requires { ⌜ Holds (now regs) bank size r v ⌝ }
+    ensures { λ a. ⌜ ((level spare : ℕ) (ram rom : List ℕ) → after a (stateOf (now (regs .exit)) (now (counter .exit)) bank level (now (flags .exit)) spare) ram ≡ onRegister (Dec n) 2 size r (stateOf (now (regs .entry)) (now (counter .entry)) bank level (now (flags .entry)) spare) ram rom) ⌝ }
+{
+    let w = alu::dec(alu::unpack(*flags), size, v, steps_of(n));
+    result(w, 2, size, r, bank, flags, regs, counter)
+}
+
+// The operand into the register n.
+fn load(
+    n: u8,
+    v: u32,
+    size: Size,
+    r: u8,
+    bank: u8,
+    regs: &mut [u32; 20],
+    counter: &mut u32,
+) -> Answer
+    requires { ⌜ Holds (now regs) bank size r v ⌝ }
+    ensures { λ a. ⌜ ((level flags spare : ℕ) (ram rom : List ℕ) → after a (stateOf (now (regs .exit)) (now (counter .exit)) bank level flags spare) ram ≡ onRegister (Load n) 2 size r (stateOf (now (regs .entry)) (now (counter .entry)) bank level flags spare) ram rom) ⌝ }
+{
+    set(v, 2, size, n, bank, regs, counter)
+}
+
+// The register n into the operand.
+fn into(n: u8, size: Size, r: u8, bank: u8, regs: &mut [u32; 20], counter: &mut u32) -> Answer
+    ensures { λ a. ⌜ ((level flags spare : ℕ) (ram rom : List ℕ) → after a (stateOf (now (regs .exit)) (now (counter .exit)) bank level flags spare) ram ≡ onRegister (Into n) 2 size r (stateOf (now (regs .entry)) (now (counter .entry)) bank level flags spare) ram rom) ⌝ }
+{
+    let x = state::read(&*regs, bank, size, n);
+    set(x, 2, size, r, bank, regs, counter)
+}
+
+// The register n and the operand, into the register n.
+fn compute_with(
+    op: Arith,
+    n: u8,
+    v: u32,
+    size: Size,
+    r: u8,
+    bank: u8,
+    flags: &mut u8,
+    regs: &mut [u32; 20],
+    counter: &mut u32,
+) -> Answer
+    requires { ⌜ Holds (now regs) bank size r v ⌝ }
+    ensures { λ a. ⌜ ((level spare : ℕ) (ram rom : List ℕ) → after a (stateOf (now (regs .exit)) (now (counter .exit)) bank level (now (flags .exit)) spare) ram ≡ onRegister (Compute op n) 2 size r (stateOf (now (regs .entry)) (now (counter .entry)) bank level (now (flags .entry)) spare) ram rom) ⌝ }
+{
+    let x = state::read(&*regs, bank, size, n);
+    compute(op, x, v, 2, size, n, bank, flags, regs, counter)
+}
+
+// The number in the n bytes after the second byte.
+fn constant(code: &[u8], n: usize) -> u32
+    requires { ⌜ (2 + n ≤ length (now code)) × (n ≤ 4) ⌝ }
+    ensures { λ r. ⌜ r ≡ valueOf (take n (drop 2 (now (code .entry)))) ⌝ }
+{
+    let e = 2 + n;
+    little::read(&code[2..e])
+}
+
+// 03 and a constant, and nothing else from 00 to 07.
+fn load_constant(
+    code: &[u8],
+    c: u8,
+    size: Size,
+    r: u8,
+    bank: u8,
+    regs: &mut [u32; 20],
+    counter: &mut u32,
+) -> Answer
+    requires { ⌜ (2 ≤ length (now code)) × (c / 8 ≡ 0) ⌝ }
+    ensures { λ a. ⌜ ((level flags spare : ℕ) (ram rom : List ℕ) → after a (stateOf (now (regs .exit)) (now (counter .exit)) bank level flags spare) ram ≡ secondLeaves (now (code .entry)) c size r (stateOf (now (regs .entry)) (now (counter .entry)) bank level flags spare) ram rom) ⌝ }
+{
+    if c != 3 {
+        return Answer::Refused(Why::Unlisted);
+    }
+    let n = little::bytes(size);
+    if code.len() - 2 < n {
+        return Answer::Refused(Why::NoCode);
+    }
+    set(constant(code, n), 2 + n, size, r, bank, regs, counter)
+}
+
+// C8 to CF and a constant.
+fn compute_constant(
+    code: &[u8],
+    c: u8,
+    v: u32,
+    size: Size,
+    r: u8,
+    bank: u8,
+    flags: &mut u8,
+    regs: &mut [u32; 20],
+    counter: &mut u32,
+) -> Answer
+    requires { ⌜ ((2 ≤ length (now code)) × (c / 8 ≡ 25)) × Holds (now regs) bank size r v ⌝ }
+    ensures { λ a. ⌜ ((level spare : ℕ) (ram rom : List ℕ) → after a (stateOf (now (regs .exit)) (now (counter .exit)) bank level (now (flags .exit)) spare) ram ≡ secondLeaves (now (code .entry)) c size r (stateOf (now (regs .entry)) (now (counter .entry)) bank level (now (flags .entry)) spare) ram rom) ⌝ }
+{
+    let n = little::bytes(size);
+    if code.len() - 2 < n {
+        return Answer::Refused(Why::NoCode);
+    }
+    let op = arith_of(c % 8);
+    let y = constant(code, n);
+    compute(op, v, y, 2 + n, size, r, bank, flags, regs, counter)
+}
+
+// 12 EXTZ, 13 EXTS of a word or a long, and nothing else from 10 to 17.
+fn extended(
+    c: u8,
+    v: u32,
+    size: Size,
+    r: u8,
+    bank: u8,
+    regs: &mut [u32; 20],
+    counter: &mut u32,
+) -> Answer
+    requires { ⌜ (c / 8 ≡ 2) × Holds (now regs) bank size r v ⌝ }
+    ensures { λ a. ⌜ ((level flags spare : ℕ) (code ram rom : List ℕ) → after a (stateOf (now (regs .exit)) (now (counter .exit)) bank level flags spare) ram ≡ secondLeaves code c size r (stateOf (now (regs .entry)) (now (counter .entry)) bank level flags spare) ram rom) ⌝ }
+{
+    if little::bytes(size) == 1 {
+        return Answer::Refused(Why::Unlisted);
+    }
+    match c {
+        0x12 => set(alu::extz(size, v), 2, size, r, bank, regs, counter),
+        0x13 => set(alu::exts(size, v), 2, size, r, bank, regs, counter),
+        _ => Answer::Refused(Why::Unlisted),
+    }
+}
+
+// EC SLA, ED SRA, EE SLL, EF SRL and a byte of places 00 to 0F, and nothing else from E8 to EF.
+fn shifted(
+    code: &[u8],
+    c: u8,
+    v: u32,
+    size: Size,
+    r: u8,
+    bank: u8,
+    flags: &mut u8,
+    regs: &mut [u32; 20],
+    counter: &mut u32,
+) -> Answer
+    requires { ⌜ (c / 8 ≡ 29) × Holds (now regs) bank size r v ⌝ }
+    ensures { λ a. ⌜ ((level spare : ℕ) (ram rom : List ℕ) → after a (stateOf (now (regs .exit)) (now (counter .exit)) bank level (now (flags .exit)) spare) ram ≡ secondLeaves (now (code .entry)) c size r (stateOf (now (regs .entry)) (now (counter .entry)) bank level (now (flags .entry)) spare) ram rom) ⌝ }
+{
+    if c < 0xEC {
+        return Answer::Refused(Why::Unlisted);
+    }
+    if code.len() <= 2 {
+        return Answer::Refused(Why::NoCode);
+    }
+    let places = code[2];
+    if 15 < places {
+        return Answer::Refused(Why::Unlisted);
+    }
+    let w = alu::shift_by(shift_of(c % 4), size, v, places);
+    result(w, 3, size, r, bank, flags, regs, counter)
+}
+
+// The code begins with the instruction's first byte, which has said the size and the register.
+pub fn register(
+    code: &[u8],
+    size: Size,
+    r: u8,
+    bank: u8,
+    flags: &mut u8,
+    regs: &mut [u32; 20],
+    counter: &mut u32,
+) -> Answer
+    ensures { λ a. ⌜ ((level spare : ℕ) (ram rom : List ℕ) → after a (stateOf (now (regs .exit)) (now (counter .exit)) bank level (now (flags .exit)) spare) ram ≡ leaves (stateOf (now (regs .entry)) (now (counter .entry)) bank level (now (flags .entry)) spare) ram (done (judge (byRows (registerRows size (Register r))) (now (code .entry)) 1) (stateOf (now (regs .entry)) (now (counter .entry)) bank level (now (flags .entry)) spare) ram rom)) ⌝ }
+{
+    if code.len() <= 1 {
+        return Answer::Refused(Why::NoCode);
+    }
+    let c = code[1];
+    let n = c % 8;
+    let v = state::read(&*regs, bank, size, r);
+    match c / 8 {
+        0 => load_constant(code, c, size, r, bank, regs, counter),
+        2 => extended(c, v, size, r, bank, regs, counter),
+        12 => inc(n, v, size, r, bank, flags, regs, counter),
+        13 => dec(n, v, size, r, bank, flags, regs, counter),
+        17 => load(n, v, size, r, bank, regs, counter),
+        19 => into(n, size, r, bank, regs, counter),
+        16 | 18 | 20 | 22 | 24 | 26 | 28 | 30 => {
+            let op = arith_of(c / 16 % 8);
+            compute_with(op, n, v, size, r, bank, flags, regs, counter)
+        }
+        25 => compute_constant(code, c, v, size, r, bank, flags, regs, counter),
+        29 => shifted(code, c, v, size, r, bank, flags, regs, counter),
+        _ => Answer::Refused(Why::Unlisted),
+    }
+}
