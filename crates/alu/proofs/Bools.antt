@@ -1,6 +1,9 @@
--- Equal truth values, from the test of their equality.
-use mathlib.Core.Path.{_≡_, refl}
-use mathlib.Core.Bool.{Bool, true, false, Bool·beq}
+-- Truth values that a test finds equal, both parts of an and, and a test that passes at each number below n.
+use mathlib.Core.Path.{_≡_, refl, sym, subst}
+use mathlib.Core.Bool.{Bool, true, false, Bool·beq, _&&_}
+use mathlib.Core.Logic.{⊎-elim}
+use Prim.Native.Nat.{ℕ, zero, suc, _<_}
+use native.Mathlib.Nat.{not-suc-le-zero, le-of-suc-le-suc, eq-or-lt-of-le}
 use lib.Dec.{T}
 
 pub beq-eq : (a b : Bool) → T (Bool·beq a b) → a ≡ b
@@ -8,3 +11,23 @@ beq-eq true true t = refl
 beq-eq true false t = absurd t
 beq-eq false true t = absurd t
 beq-eq false false t = refl
+
+pub left : (a b : Bool) → T (a && b) → T a
+left true b t = tt
+left false b t = t
+
+pub right : (a b : Bool) → T (a && b) → T b
+right true b t = t
+right false b t = absurd t
+
+-- a test of numbers that passes at all of n numbers passes at each below n
+abbrev pub upto : (ℕ → Bool) → ℕ → Bool
+upto p zero = true
+upto p (suc n) = p n && upto p n
+
+pub below : (p : ℕ → Bool) (n : ℕ) → T (upto p n) → (x : ℕ) → x < n → T (p x)
+below p zero t x h = absurd (not-suc-le-zero h)
+below p (suc n) t x h =
+    ⊎-elim (λ e. subst (λ (m : ℕ). T (p m)) (sym e) (left (p n) (upto p n) t))
+    (λ l. below p n (right (p n) (upto p n) t) x l)
+    (eq-or-lt-of-le (le-of-suc-le-suc h))

@@ -1,6 +1,5 @@
 pub mod Widths
 pub mod Bools
-pub mod Table
 pub mod Ones
 pub mod Conditions
 pub mod Shifts

@@ -1,15 +1,17 @@
 -- The ones of a number of several parts, and their parity.
 use mathlib.Core.Path.{_≡_, refl, sym, ap, ap₂, _∙_}
-use mathlib.Core.Bool.{Bool, true, false, Bool·beq}
+use mathlib.Core.Bool.{Bool, Bool·beq}
+use mathlib.Core.List.{[], _∷_}
+use lib.ListN.{getD}
 use Prim.Native.Nat.{ℕ, zero, suc, _+_, _*_, _/_, _%_, _^_, _<_}
 use native.Mathlib.Nat.{zero-add, suc-add, add-assoc, add-comm, add-mod, mod-lt, div-one, zero-lt-suc, le-of-suc-le-suc, not-suc-le-zero}
 use native.Mathlib.Numerals.{add-one, one-add}
-use lib.Dec.{eqb}
+use lib.Dec.{T, eqb}
 use lib.Bits.{bitAnd, bitXor, xor-add-and, xor-shr}
 use native.Mathlib.Omega.{arith}
 use lib.Pow.{field, mod-mod-pow, shr-shr}
 use Rattle.alu.specs.Parity.{onesOf, evenOnes}
-use Rattle.alu.specs.Width.{one}
+use Rattle.alu.proofs.Bools.{beq-eq, upto, below}
 
 -- bits above the k low ones do not count
 pub ones-low : (k x : ℕ) → onesOf k (x % 2 ^ k) ≡ onesOf k x
@@ -77,18 +79,18 @@ pub even-xor : (k a b : ℕ) → evenOnes k (bitXor a b) ≡ Bool·beq (evenOnes
 unfolding evenOnes
 even-xor k a b = ap (λ (n : ℕ). eqb n 0) (ones-xor k a b) ∙ even-sum (onesOf k a) (onesOf k b)
 
--- a word's ones are even where those of its two bytes taken together are
-pub even-word : (x : ℕ) → evenOnes 8 (bitXor (x / 256) x % 256) ≡ evenOnes 16 x
-even-word x = even-low 8 (bitXor (x / 256) x) ∙ even-xor 8 (x / 256) x ∙ sym (even-cat 8 8 x)
+-- the ones of a number of two halves are even where those of the halves taken together are
+pub even-halves : (k x : ℕ) → evenOnes k (bitXor (x / 2 ^ k) x % 2 ^ k) ≡ evenOnes (k + k) x
+even-halves k x = even-low k (bitXor (x / 2 ^ k) x) ∙ even-xor k (x / 2 ^ k) x ∙ sym (even-cat k k x)
 
--- a parity table's rule, entry by number: 1 where the ones are even
-abbrev pub parityEntry : ℕ → ℕ
-parityEntry n = one (evenOnes 8 n)
+-- the entry of x in a table of bits of four rows
+abbrev pub entryIn : ℕ → ℕ → ℕ → ℕ → ℕ → Bool
+entryIn a b c d x = eqb (getD (a ∷ b ∷ c ∷ d ∷ []) (x / 64) 0 / 2 ^ (x % 64) % 2) 1
 
-is-one : (b : Bool) → eqb (one b) 1 ≡ b
-is-one true = refl
-is-one false = refl
+-- the table's rule, by one test computed over all its entries
+abbrev pub isParity : ℕ → ℕ → ℕ → ℕ → Bool
+isParity a b c d = upto (λ (x : ℕ). Bool·beq (entryIn a b c d x) (evenOnes 8 x)) 256
 
--- an entry that the rule computes, tested for 1
-pub even-entry : (n e : ℕ) → e ≡ parityEntry n → eqb e 1 ≡ evenOnes 8 n
-even-entry n e h = ap (λ (m : ℕ). eqb m 1) h ∙ is-one (evenOnes 8 n)
+pub even-entry : (a b c d x : ℕ) → x < 256 → T (isParity a b c d) → entryIn a b c d x ≡ evenOnes 8 x
+even-entry a b c d x h p =
+    beq-eq (entryIn a b c d x) (evenOnes 8 x) (below (λ (n : ℕ). Bool·beq (entryIn a b c d n) (evenOnes 8 n)) 256 p x h)

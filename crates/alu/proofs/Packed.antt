@@ -1,21 +1,11 @@
 -- F and the flags are the same thing: one test computed over all 64 settings of the flags, and one over all bytes.
 use mathlib.Core.Path.{_≡_, refl, sym, subst}
 use mathlib.Core.Bool.{Bool, true, false, not, _&&_, _||_, Bool·beq}
-use Prim.Native.Nat.{ℕ, zero, suc, _/_, _%_, _<_}
+use Prim.Native.Nat.{ℕ, _/_, _%_, _<_}
 use lib.Dec.{T, eqb, ltb, eqb→eq, ltb→lt}
-use mathlib.Core.Logic.{⊎-elim}
-use native.Mathlib.Nat.{not-suc-le-zero, le-of-suc-le-suc, eq-or-lt-of-le}
 use Rattle.alu.specs.declared.Flags.{Flags}
 use Rattle.alu.specs.Flag.{byteOf, flagsOf}
-use Rattle.alu.proofs.Bools.{beq-eq}
-
-left : (a b : Bool) → T (a && b) → T a
-left true b t = tt
-left false b t = t
-
-right : (a b : Bool) → T (a && b) → T b
-right true b t = t
-right false b t = absurd t
+use Rattle.alu.proofs.Bools.{beq-eq, left, right, below}
 
 abbrev each : (Bool → Bool) → Bool
 each p = p true && p false
@@ -71,18 +61,6 @@ packed-bits f = holds (bits53 (byteOf f)) (all-flags (λ g. bits53 (byteOf g)) t
 pub packed-lt : (f : Flags) → byteOf f < 256
 unfolding byteOf
 packed-lt f = ltb→lt (byteOf f) 256 (all-flags (λ g. ltb (byteOf g) 256) tt f)
-
--- a test of numbers that passes at all of n numbers passes at each below n
-abbrev upto : (ℕ → Bool) → ℕ → Bool
-upto p zero = true
-upto p (suc n) = p n && upto p n
-
-below : (p : ℕ → Bool) (n : ℕ) → T (upto p n) → (x : ℕ) → x < n → T (p x)
-below p zero t x h = absurd (not-suc-le-zero h)
-below p (suc n) t x h =
-    ⊎-elim (λ e. subst (λ (m : ℕ). T (p m)) (sym e) (left (p n) (upto p n) t))
-    (λ l. below p n (right (p n) (upto p n) t) x l)
-    (eq-or-lt-of-le (le-of-suc-le-suc h))
 
 abbrev packs : ℕ → Bool
 packs x = not (bits53 x) || eqb (byteOf (flagsOf x)) x

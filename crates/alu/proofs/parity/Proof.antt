@@ -1,6 +1,6 @@
 use mathlib.Core.Path.{_∙_}
 use Rattle.alu.specs.Parity.{parityOf}
-use Rattle.alu.proofs.Ones.{even-low, even-word}
+use Rattle.alu.proofs.Ones.{even-low, even-halves}
 use borrow.Author.Needs.{needs}
 use Rattle.alu.proofs.parity.Statement.{statement}
 use Rattle.alu.proofs.parity.Tie as tie
@@ -32,7 +32,7 @@ returns c = rw (c .before .enum-told .given .1) (c .even-ones .ensures ∙ even-
 
 returns-2 : tie.Need-returns-2
 unfolding parityOf
-returns-2 c = rw (c .before .enum-told2 .given .1) (c .even-ones2 .ensures ∙ even-word (c .before .before .before .args .x))
+returns-2 c = rw (c .before .enum-told2 .given .1) (c .even-ones2 .ensures ∙ even-halves 8 (c .before .before .before .args .x))
 
 returns-3 : tie.Need-returns-3
 unfolding parityOf
