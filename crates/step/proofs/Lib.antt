@@ -2,6 +2,7 @@ pub mod Laws
 pub mod RegisterForms
 pub mod Division
 pub mod Times
+pub mod First
 pub mod Rounds
 pub mod Kept
 pub mod Touched

@@ -1,9 +1,9 @@
 // One step: the instruction at the counter is done as the book says, or refused and nothing changes.
 ghost use mathlib.Core.Path.{_≡_};
-ghost use Prim.Native.Nat.{ℕ, suc, _-_};
+ghost use Prim.Native.Nat.{ℕ, suc, _+_, _-_, _/_, _%_};
 ghost use Rattle.memory.specs.Access.{codeAt};
 ghost use Rattle.state.specs.State.{stateOf};
-ghost use Rattle.code.specs.Listed.{decodeOf};
+ghost use Rattle.code.specs.Listed.{decodeOf, sizeOf};
 ghost use Rattle.step.specs.Try.{doneWith, refusedWith, outcome, after, leaves};
 ghost use Rattle.step.specs.Exec.{executedOf};
 ghost use Rattle.step.specs.Step.{tooLong, onceOf, stepOf};
@@ -100,6 +100,18 @@ fn decode_at<'a>(ram: &'a [u8], rom: &'a [u8], at: u32) -> Decoded
     code::decode(memory::fetch(ram, rom, at))
 }
 
+// The size of a register form, by the low two bits of its first byte's high digit: C, D or E.
+fn size_in(b: u8) -> Size
+    ensures { λ r. ⌜ r ≡ sizeOf (0xC + b / 16 % 4) ⌝ }
+{
+    match b / 16 % 4 {
+        0 => Size::Byte,
+        1 => Size::Word,
+        2 => Size::Long,
+        _ => Size::Byte,
+    }
+}
+
 // What stands at the counter, done or refused, whatever the state is: the checks before it are the caller's. A form that goes on
 // may use some of the `more` steps that the caller has left. The state's parts lie apart and are changed where they lie.
 pub fn once(
@@ -115,10 +127,19 @@ pub fn once(
     ensures { λ a. ⌜ Fewer a (now (more .entry)) (now (more .exit)) ⌝ }
     ensures { λ a. ⌜ ((level : ℕ) → after a (stateOf (now (regs .exit)) (now (counter .exit)) (now (bank .exit)) level (now (flags .exit)) (now (spare .exit))) (now (ram .exit)) ≡ leaves (stateOf (now (regs .entry)) (now (counter .entry)) (now (bank .entry)) level (now (flags .entry)) (now (spare .entry))) (now (ram .entry)) (timesOf (suc (now (more .entry) - now (more .exit))) (stateOf (now (regs .entry)) (now (counter .entry)) (now (bank .entry)) level (now (flags .entry)) (now (spare .entry))) (now (ram .entry)) (now (rom .entry)))) ⌝ }
 {
-    match decode_at(&*ram, rom, *counter) {
-        Decoded::Whole(i) => execute(i, regs, counter, bank, flags, spare, ram, rom, more),
-        Decoded::Short => Answer::Refused(Why::NoCode),
-        Decoded::Unlisted => Answer::Refused(Why::Unlisted),
+    let code = memory::fetch(&*ram, rom, *counter);
+    if code.len() == 0 {
+        return Answer::Refused(Why::NoCode);
+    }
+    let b = code[0];
+    match b / 8 {
+        12 | 13 => control::short_jump(code, b % 16, *flags, counter),
+        25 | 27 | 29 => register::register(code, size_in(b), b % 8, *bank, flags, regs, counter),
+        _ => match code::decode(code) {
+            Decoded::Whole(i) => execute(i, regs, counter, bank, flags, spare, ram, rom, more),
+            Decoded::Short => Answer::Refused(Why::NoCode),
+            Decoded::Unlisted => Answer::Refused(Why::Unlisted),
+        },
     }
 }
 

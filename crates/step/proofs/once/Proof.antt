@@ -1,19 +1,55 @@
-use mathlib.Core.Path.{refl, sym, _∙_}
+use Prim.Native.Nat.{_<_}
+use mathlib.Core.Path.{refl, ap, sym, _∙_}
+use native.Mathlib.Omega.{arith}
+use lib.ListN.{length}
 use Rattle.state.specs.State.{stateOf}
-use Rattle.step.specs.Step.{onceOf}
-use Rattle.step.proofs.Times.{times-one}
+use Rattle.code.specs.Listed.{decodeOf}
+use Rattle.code.specs.declared.Decoded.the-variants.{Short, Unlisted}
+use Rattle.step.specs.Try.{leaves}
+use Rattle.step.proofs.Times.{fewer-same}
+use Rattle.step.proofs.First.{none-says, register-says, jump-says, once-by}
 use borrow.Author.Needs.{needs}
 use Rattle.step.proofs.once.Statement.{statement}
 use Rattle.step.proofs.once.Tie as tie
 
-decode-at-requires : tie.Need-decode-at-requires
-decode-at-requires c κs = search needs
+-- there is a first byte
+there : (c : tie.Else1) → 0 < length (c .before .fetch .result .now)
+there c = omega (arith, c .if1 .left)
+
+fetch-requires : tie.Need-fetch-requires
+fetch-requires c κs = search needs
+
+same-length : tie.Need-same-length
+same-length c = search needs
+
+returns : tie.Need-returns
+returns c =
+    let a = c .before .before .before .before .before .before .args in
+    let code = c .before .fetch .result .now in
+    (refl, λ level.
+    let s = stateOf (a .regs .now) (a .counter .now) (a .bank .now) level (a .flags .now) (a .spare .now) in
+    ap (leaves s (a .ram .now)) (once-by s (a .ram .now) (a .rom .now) code Short (a .more .now) (c .before .fetch .ensures) (none-says code (omega (arith, c .if1 .taken)))))
+
+shared-slice-read-b : tie.Need-shared-slice-read-b
+shared-slice-read-b c = search needs
+
+size-in-requires : tie.Need-size-in-requires
+size-in-requires c κs = search needs
+
+register-requires : tie.Need-register-requires
+register-requires c κs = search needs
+
+short-jump-requires : tie.Need-short-jump-requires
+short-jump-requires c κs = search needs
+
+decode-requires : tie.Need-decode-requires
+decode-requires c κs = search needs
 
 enum-known-i : tie.Need-enum-known-i
 enum-known-i c = search needs
 
 execute-requires : tie.Need-execute-requires
-execute-requires c κs = sym (c .before .before .before .before .before .before .before .before .before .before .decode-at .ensures) ∙ c .before .before .before .before .before .before .before .before .i .given .1
+execute-requires c κs = ap decodeOf (sym (c .before .before .before .before .before .before .before .before .before .before .before .before .before .before .before .fetch .ensures)) ∙ sym (c .before .before .before .before .before .before .before .before .before .before .decode .ensures) ∙ c .before .before .before .before .before .before .before .before .i .given .1
 
 enum-told : tie.Need-enum-told
 enum-told c = search needs
@@ -21,42 +57,83 @@ enum-told c = search needs
 enum-told-2 : tie.Need-enum-told-2
 enum-told-2 c = search needs
 
-same-length : tie.Need-same-length
-same-length c = search needs
-
-returns : tie.Need-returns
-returns c = c .before .before .execute .ensures
-
 same-length-2 : tie.Need-same-length-2
 same-length-2 c = search needs
 
 returns-2 : tie.Need-returns-2
-unfolding onceOf
 returns-2 c =
-    let a = c .before .before .before .before .before .before .before .args in
-    (refl, λ level. rw (times-one (a .more .now) (stateOf (a .regs .now) (a .counter .now) (a .bank .now) level (a .flags .now) (a .spare .now)) (a .ram .now) (a .rom .now), sym (c .before .before .decode-at .ensures) ∙ c .enum-told .given .1) refl)
+    let a = c .before .before .before .before .before .before .before .before .before .before .before .before .before .before .args in
+    let code = c .before .before .before .before .before .before .before .before .before .fetch .result .now in
+    (fewer-same (c .register .result) (a .more .now), λ level.
+    let s = stateOf (a .regs .now) (a .counter .now) (a .bank .now) level (a .flags .now) (a .spare .now) in
+    c .register .ensures level (a .spare .now) (a .ram .now) (a .rom .now)
+    ∙ ap (leaves s (a .ram .now))
+    (once-by s (a .ram .now) (a .rom .now) code _ (a .more .now) (c .before .before .before .before .before .before .before .before .before .fetch .ensures) (register-says code (there (c .before .before .before .before .before .before .before .before)) (c .before .before .before .before .before .size-in .result) (c .before .before .before .before .before .before .match .keys1) (c .before .before .before .before .before .size-in .ensures))))
 
 same-length-3 : tie.Need-same-length-3
 same-length-3 c = search needs
 
 returns-3 : tie.Need-returns-3
-unfolding onceOf
 returns-3 c =
-    let a = c .before .before .before .before .before .before .before .args in
-    (refl, λ level. rw (times-one (a .more .now) (stateOf (a .regs .now) (a .counter .now) (a .bank .now) level (a .flags .now) (a .spare .now)) (a .ram .now) (a .rom .now), sym (c .before .before .decode-at .ensures) ∙ c .enum-told2 .given .1) refl)
+    let a = c .before .before .before .before .before .before .before .before .before .before .before .before .before .args in
+    let code = c .before .before .before .before .before .before .before .before .fetch .result .now in
+    (fewer-same (c .short-jump .result) (a .more .now), λ level.
+    let s = stateOf (a .regs .now) (a .counter .now) (a .bank .now) level (a .flags .now) (a .spare .now) in
+    c .short-jump .ensures (a .regs .now) (a .bank .now) level (a .spare .now) (a .ram .now) (a .rom .now)
+    ∙ ap (leaves s (a .ram .now))
+    (once-by s (a .ram .now) (a .rom .now) code _ (a .more .now) (c .before .before .before .before .before .before .before .before .fetch .ensures) (jump-says code (there (c .before .before .before .before .before .before .before)) (c .before .before .before .before .if2 .left) (c .before .before .before .if3 .taken))))
+
+same-length-4 : tie.Need-same-length-4
+same-length-4 c = search needs
+
+returns-4 : tie.Need-returns-4
+returns-4 c = search needs
+
+same-length-5 : tie.Need-same-length-5
+same-length-5 c = search needs
+
+returns-5 : tie.Need-returns-5
+returns-5 c =
+    let a = c .before .before .before .before .before .before .before .before .before .before .before .before .args in
+    let code = c .before .before .before .before .before .before .before .fetch .result .now in
+    (refl, λ level.
+    let s = stateOf (a .regs .now) (a .counter .now) (a .bank .now) level (a .flags .now) (a .spare .now) in
+    ap (leaves s (a .ram .now)) (once-by s (a .ram .now) (a .rom .now) code Short (a .more .now) (c .before .before .before .before .before .before .before .fetch .ensures) (sym (c .before .before .decode .ensures) ∙ c .enum-told .given .1)))
+
+same-length-6 : tie.Need-same-length-6
+same-length-6 c = search needs
+
+returns-6 : tie.Need-returns-6
+returns-6 c =
+    let a = c .before .before .before .before .before .before .before .before .before .before .before .before .args in
+    let code = c .before .before .before .before .before .before .before .fetch .result .now in
+    (refl, λ level.
+    let s = stateOf (a .regs .now) (a .counter .now) (a .bank .now) level (a .flags .now) (a .spare .now) in
+    ap (leaves s (a .ram .now)) (once-by s (a .ram .now) (a .rom .now) code Unlisted (a .more .now) (c .before .before .before .before .before .before .before .fetch .ensures) (sym (c .before .before .decode .ensures) ∙ c .enum-told2 .given .1)))
 
 pub once-spec : {M : Type 1} → statement M
 once-spec =
     tie.close
     (tie.spec
-    decode-at-requires
+    fetch-requires
+    same-length
+    returns
+    shared-slice-read-b
+    size-in-requires
+    register-requires
+    short-jump-requires
+    decode-requires
     enum-known-i
     execute-requires
     enum-told
     enum-told-2
-    same-length
-    returns
     same-length-2
     returns-2
     same-length-3
-    returns-3)
+    returns-3
+    same-length-4
+    returns-4
+    same-length-5
+    returns-5
+    same-length-6
+    returns-6)

@@ -1,0 +1,67 @@
+-- What the first byte says of the forms that are read and done in one go.
+use Prim.Native.Nat.{ℕ, suc, _+_, _-_, _/_, _%_, _<_, _≤_}
+use mathlib.Core.Path.{_≡_, refl, ap, sym, _∙_}
+use mathlib.Core.List.{List, [], _∷_}
+use mathlib.Core.Logic.{_⊎_, inl, inr}
+use native.Mathlib.Decide.{decLe}
+use native.Mathlib.Nat.{lt-of-not-le}
+use native.Mathlib.Omega.{arith}
+use lib.ListN.{length, getD}
+use types.Run.{OneOf}
+use Rattle.little.specs.declared.Size.{Size}
+use Rattle.little.specs.declared.Size.the-variants.{Byte}
+use Rattle.memory.specs.Access.{codeAt}
+use Rattle.state.specs.declared.State.{State}
+use Rattle.code.specs.declared.Decoded.{Decoded}
+use Rattle.code.specs.declared.Decoded.the-variants.{Short}
+use Rattle.code.specs.declared.Op.the-variants.{Jr}
+use Rattle.code.specs.declared.Operand.the-variants.{Register}
+use Rattle.code.specs.Said.{Said, judge}
+use Rattle.code.specs.Rows.{lookup, byRows}
+use Rattle.code.specs.Registers.{registerRows}
+use Rattle.code.specs.Listed.{withConstant, sizeOf, firstRows, decodeOf}
+use Rattle.code.proofs.Judge.{next-there, next-short}
+use Rattle.code.proofs.FirstRows.{jump-short-0, jump-short-1, register-form}
+use Rattle.step.specs.Try.{Try}
+use Rattle.step.specs.Step.{done, onceOf}
+use Rattle.step.specs.Times.{timesOf}
+use Rattle.step.proofs.Times.{times-one}
+
+pub none-says : (code : List ℕ) → length code ≤ 0 → decodeOf code ≡ Short
+unfolding decodeOf
+none-says code h = sym (next-short (lookup firstRows) code 0 h)
+
+module _ (code : List ℕ) (h : 0 < length code) where
+  -- the instruction, by what the first byte says
+  by-first : (d : Said) → lookup firstRows (getD code 0 0) ≡ d → decodeOf code ≡ judge d code 1
+  unfolding decodeOf
+  by-first d e = sym (next-there (lookup firstRows) code 0 (judge (lookup firstRows (getD code 0 0)) code 1) h refl) ∙ ap (λ (x : Said). judge x code 1) e
+
+  pub register-says :
+      (z : Size) → OneOf (25 ∷ 27 ∷ 29 ∷ []) (getD code 0 0 / 8) → z ≡ sizeOf (0xC + getD code 0 0 / 16 % 4)
+      → decodeOf code ≡ judge (byRows (registerRows z (Register (getD code 0 0 % 8)))) code 1
+  register-says z k e =
+      let b = getD code 0 0 in
+      let d : b / 16 ≡ 0xC + b / 16 % 4 = digit k in
+      by-first (byRows (registerRows z (Register (b % 8))))
+      (register-form b k ∙ ap (λ (x : Size). byRows (registerRows x (Register (b % 8)))) (ap sizeOf d ∙ sym e))
+    where
+      digit : OneOf (25 ∷ 27 ∷ 29 ∷ []) (getD code 0 0 / 8) → getD code 0 0 / 16 ≡ 0xC + getD code 0 0 / 16 % 4
+      digit (inl e) = omega (arith, e)
+      digit (inr (inl e)) = omega (arith, e)
+      digit (inr (inr e)) = omega (arith, e)
+
+  pub jump-says : 12 ≤ getD code 0 0 / 8 → getD code 0 0 / 8 < 14 → decodeOf code ≡ judge (withConstant (Jr (getD code 0 0 % 16)) Byte 1) code 1
+  jump-says l u = by-first (withConstant (Jr (getD code 0 0 % 16)) Byte 1) (either (decLe 13 (getD code 0 0 / 8)))
+    where
+      either : Dec (13 ≤ getD code 0 0 / 8) → lookup firstRows (getD code 0 0) ≡ withConstant (Jr (getD code 0 0 % 16)) Byte 1
+      either (yes e) = jump-short-1 (getD code 0 0) (omega (arith, u, e))
+      either (no e) = jump-short-0 (getD code 0 0) (let f = lt-of-not-le e in omega (arith, l, f))
+
+-- one step, by the instruction that stands at the counter
+pub once-by :
+    (s : State) (ram rom code : List ℕ) (d : Decoded) (n : ℕ) → code ≡ codeAt ram rom (s .counter) → decodeOf code ≡ d
+    → done d s ram rom ≡ timesOf (suc (n - n)) s ram rom
+unfolding onceOf
+once-by s ram rom code d n e f =
+    sym (times-one n s ram rom ∙ ap (λ (x : List ℕ). done (decodeOf x) s ram rom) (sym e) ∙ ap (λ (x : Decoded). done x s ram rom) f)
