@@ -1,10 +1,7 @@
 -- An instruction whose operand is a register, done in one go: what the contracts of its parts share.
 use Prim.Native.Nat.{ℕ}
-use mathlib.Core.Path.{_≡_}
 use mathlib.Core.List.{List}
 use Rattle.little.specs.declared.Size.{Size}
-use Rattle.state.specs.State.{stateOf}
-use Rattle.state.specs.Register.{getRegister}
 use Rattle.state.specs.declared.State.{State}
 use Rattle.code.specs.declared.Op.{Op}
 use Rattle.code.specs.declared.Operand.the-variants.{Register}
@@ -14,10 +11,6 @@ use Rattle.code.specs.Registers.{registerRows}
 use Rattle.step.specs.Try.{Outcome, leaves}
 use Rattle.step.specs.Exec.{pastOf, effectOf}
 use Rattle.step.specs.Step.{done}
-
--- v is what the register r holds
-abbrev pub Holds : List ℕ → ℕ → Size → ℕ → ℕ → Type 0
-Holds registers bank z r v = (counter level flags spare : ℕ) → v ≡ getRegister (stateOf registers counter bank level flags spare) z r
 
 -- what an operation of n bytes on the register r leaves
 abbrev pub onRegister : Op → ℕ → Size → ℕ → State → List ℕ → List ℕ → Outcome

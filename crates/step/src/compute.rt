@@ -4,6 +4,7 @@ ghost use Prim.Native.Nat.{ℕ};
 ghost use Rattle.little.specs.Width.{bitsOf};
 ghost use Rattle.alu.specs.Flag.{flagsOf};
 ghost use Rattle.alu.specs.Operation.{operated};
+ghost use Rattle.alu.specs.Shift.{shiftOf, placesOf};
 ghost use Rattle.state.specs.State.{stateOf};
 ghost use Rattle.step.specs.Try.{after, leaves};
 ghost use Rattle.step.specs.Compute.{storesOf, stepsOf};
@@ -14,6 +15,7 @@ use crate::operand::put;
 use crate::operand::value;
 use alu::Arith;
 use alu::Computed;
+use alu::Shift;
 use answer::Answer;
 use code::Operand;
 use little::Size;
@@ -184,6 +186,18 @@ pub fn operated(op: Arith, size: Size, a: u32, b: u32, flags: u8) -> Packed
     }
 }
 
+// A shift by the places that a code byte asks for.
+pub fn shifted(kind: Shift, size: Size, v: u32, places: u8) -> Packed
+    ensures { λ r. ⌜ r ≡ packedOf (shiftOf kind (bitsOf size) v (placesOf places)) ⌝ }
+{
+    let w = alu::shift_by(kind, size, v, places);
+    let after = w.flags;
+    Packed {
+        value: w.value,
+        flags: alu::pack(after),
+    }
+}
+
 // The operation on the operand's value v and the other operand.
 fn arithmetic(
     op: Arith,
@@ -226,7 +240,14 @@ fn made(
         Use::Compute(op, side) => arithmetic(op, side, v, bank, flags, regs, size, operand),
         Use::Inc(n) => result(alu::inc(alu::unpack(flags), size, v, steps_of(n)), operand),
         Use::Dec(n) => result(alu::dec(alu::unpack(flags), size, v, steps_of(n)), operand),
-        Use::Shift(kind, n) => result(alu::shift_by(kind, size, v, n), operand),
+        Use::Shift(kind, n) => {
+            let w = shifted(kind, size, v, n);
+            Work {
+                value: w.value,
+                flags: w.flags,
+                into: operand,
+            }
+        }
         Use::Extz => kept(flags, alu::extz(size, v), operand),
         Use::Exts => kept(flags, alu::exts(size, v), operand),
     }

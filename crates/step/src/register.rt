@@ -1,5 +1,6 @@
-// An instruction whose operand is a register, read and done in one go, with no Instruction between. The register is read once,
-// one match tells the second byte, and each arm puts its own result: all three are for speed.
+// An instruction whose operand is a register, read and done in one go, with no Instruction between, for speed. One match tells
+// the second byte, and each arm puts its own result. The register is read in each arm, after the match: read before it, its value
+// must be kept over it, which was measured to be slower.
 ghost use mathlib.Core.Path.{_≡_};
 ghost use mathlib.Core.List.{List};
 ghost use Prim.Native.Nat.{ℕ, _+_, _/_, _≤_};
@@ -17,7 +18,7 @@ ghost use Rattle.step.specs.Flag.{flagged};
 ghost use Rattle.step.specs.Compute.{computed, answerIn};
 ghost use Rattle.step.specs.Exec.{pastOf};
 ghost use Rattle.step.specs.Step.{done};
-ghost use Rattle.step.specs.Register.{Holds, onRegister, secondLeaves};
+ghost use Rattle.step.specs.Register.{onRegister, secondLeaves};
 use crate::compute::operated;
 use crate::compute::steps_of;
 use crate::compute::stores;
@@ -94,7 +95,6 @@ fn compute(
 // The operand plus n.
 fn inc(
     n: u8,
-    v: u32,
     size: Size,
     r: u8,
     bank: u8,
@@ -102,9 +102,9 @@ fn inc(
     regs: &mut [u32; 20],
     counter: &mut u32,
 ) -> Answer
-    requires { ⌜ Holds (now regs) bank size r v ⌝ }
     ensures { λ a. ⌜ ((level spare : ℕ) (ram rom : List ℕ) → after a (stateOf (now (regs .exit)) (now (counter .exit)) bank level (now (flags .exit)) spare) ram ≡ onRegister (Inc n) 2 size r (stateOf (now (regs .entry)) (now (counter .entry)) bank level (now (flags .entry)) spare) ram rom) ⌝ }
 {
+    let v = state::read(&*regs, bank, size, r);
     let w = alu::inc(alu::unpack(*flags), size, v, steps_of(n));
     result(w, 2, size, r, bank, flags, regs, counter)
 }
@@ -112,7 +112,6 @@ fn inc(
 // The operand less n.
 fn dec(
     n: u8,
-    v: u32,
     size: Size,
     r: u8,
     bank: u8,
@@ -120,26 +119,18 @@ fn dec(
     regs: &mut [u32; 20],
     counter: &mut u32,
 ) -> Answer
-    requires { ⌜ Holds (now regs) bank size r v ⌝ }
     ensures { λ a. ⌜ ((level spare : ℕ) (ram rom : List ℕ) → after a (stateOf (now (regs .exit)) (now (counter .exit)) bank level (now (flags .exit)) spare) ram ≡ onRegister (Dec n) 2 size r (stateOf (now (regs .entry)) (now (counter .entry)) bank level (now (flags .entry)) spare) ram rom) ⌝ }
 {
+    let v = state::read(&*regs, bank, size, r);
     let w = alu::dec(alu::unpack(*flags), size, v, steps_of(n));
     result(w, 2, size, r, bank, flags, regs, counter)
 }
 
 // The operand into the register n.
-fn load(
-    n: u8,
-    v: u32,
-    size: Size,
-    r: u8,
-    bank: u8,
-    regs: &mut [u32; 20],
-    counter: &mut u32,
-) -> Answer
-    requires { ⌜ Holds (now regs) bank size r v ⌝ }
+fn load(n: u8, size: Size, r: u8, bank: u8, regs: &mut [u32; 20], counter: &mut u32) -> Answer
     ensures { λ a. ⌜ ((level flags spare : ℕ) (ram rom : List ℕ) → after a (stateOf (now (regs .exit)) (now (counter .exit)) bank level flags spare) ram ≡ onRegister (Load n) 2 size r (stateOf (now (regs .entry)) (now (counter .entry)) bank level flags spare) ram rom) ⌝ }
 {
+    let v = state::read(&*regs, bank, size, r);
     set(v, 2, size, n, bank, regs, counter)
 }
 
@@ -155,7 +146,6 @@ fn into(n: u8, size: Size, r: u8, bank: u8, regs: &mut [u32; 20], counter: &mut 
 fn compute_with(
     op: Arith,
     n: u8,
-    v: u32,
     size: Size,
     r: u8,
     bank: u8,
@@ -163,9 +153,9 @@ fn compute_with(
     regs: &mut [u32; 20],
     counter: &mut u32,
 ) -> Answer
-    requires { ⌜ Holds (now regs) bank size r v ⌝ }
     ensures { λ a. ⌜ ((level spare : ℕ) (ram rom : List ℕ) → after a (stateOf (now (regs .exit)) (now (counter .exit)) bank level (now (flags .exit)) spare) ram ≡ onRegister (Compute op n) 2 size r (stateOf (now (regs .entry)) (now (counter .entry)) bank level (now (flags .entry)) spare) ram rom) ⌝ }
 {
+    let v = state::read(&*regs, bank, size, r);
     let x = state::read(&*regs, bank, size, n);
     compute(op, x, v, 2, size, n, bank, flags, regs, counter)
 }
@@ -206,7 +196,6 @@ fn load_constant(
 fn compute_constant(
     code: &[u8],
     c: u8,
-    v: u32,
     size: Size,
     r: u8,
     bank: u8,
@@ -214,7 +203,7 @@ fn compute_constant(
     regs: &mut [u32; 20],
     counter: &mut u32,
 ) -> Answer
-    requires { ⌜ ((2 ≤ length (now code)) × (c / 8 ≡ 25)) × Holds (now regs) bank size r v ⌝ }
+    requires { ⌜ (2 ≤ length (now code)) × (c / 8 ≡ 25) ⌝ }
     ensures { λ a. ⌜ ((level spare : ℕ) (ram rom : List ℕ) → after a (stateOf (now (regs .exit)) (now (counter .exit)) bank level (now (flags .exit)) spare) ram ≡ secondLeaves (now (code .entry)) c size r (stateOf (now (regs .entry)) (now (counter .entry)) bank level (now (flags .entry)) spare) ram rom) ⌝ }
 {
     let n = little::bytes(size);
@@ -223,25 +212,19 @@ fn compute_constant(
     }
     let op = arith_of(c % 8);
     let y = constant(code, n);
+    let v = state::read(&*regs, bank, size, r);
     compute(op, v, y, 2 + n, size, r, bank, flags, regs, counter)
 }
 
 // 12 EXTZ, 13 EXTS of a word or a long, and nothing else from 10 to 17.
-fn extended(
-    c: u8,
-    v: u32,
-    size: Size,
-    r: u8,
-    bank: u8,
-    regs: &mut [u32; 20],
-    counter: &mut u32,
-) -> Answer
-    requires { ⌜ (c / 8 ≡ 2) × Holds (now regs) bank size r v ⌝ }
+fn extended(c: u8, size: Size, r: u8, bank: u8, regs: &mut [u32; 20], counter: &mut u32) -> Answer
+    requires { ⌜ c / 8 ≡ 2 ⌝ }
     ensures { λ a. ⌜ ((level flags spare : ℕ) (code ram rom : List ℕ) → after a (stateOf (now (regs .exit)) (now (counter .exit)) bank level flags spare) ram ≡ secondLeaves code c size r (stateOf (now (regs .entry)) (now (counter .entry)) bank level flags spare) ram rom) ⌝ }
 {
     if little::bytes(size) == 1 {
         return Answer::Refused(Why::Unlisted);
     }
+    let v = state::read(&*regs, bank, size, r);
     match c {
         0x12 => set(alu::extz(size, v), 2, size, r, bank, regs, counter),
         0x13 => set(alu::exts(size, v), 2, size, r, bank, regs, counter),
@@ -253,7 +236,6 @@ fn extended(
 fn shifted(
     code: &[u8],
     c: u8,
-    v: u32,
     size: Size,
     r: u8,
     bank: u8,
@@ -261,7 +243,7 @@ fn shifted(
     regs: &mut [u32; 20],
     counter: &mut u32,
 ) -> Answer
-    requires { ⌜ (c / 8 ≡ 29) × Holds (now regs) bank size r v ⌝ }
+    requires { ⌜ c / 8 ≡ 29 ⌝ }
     ensures { λ a. ⌜ ((level spare : ℕ) (ram rom : List ℕ) → after a (stateOf (now (regs .exit)) (now (counter .exit)) bank level (now (flags .exit)) spare) ram ≡ secondLeaves (now (code .entry)) c size r (stateOf (now (regs .entry)) (now (counter .entry)) bank level (now (flags .entry)) spare) ram rom) ⌝ }
 {
     if c < 0xEC {
@@ -274,8 +256,10 @@ fn shifted(
     if 15 < places {
         return Answer::Refused(Why::Unlisted);
     }
-    let w = alu::shift_by(shift_of(c % 4), size, v, places);
-    result(w, 3, size, r, bank, flags, regs, counter)
+    let v = state::read(&*regs, bank, size, r);
+    let w = crate::compute::shifted(shift_of(c % 4), size, v, places);
+    *flags = w.flags;
+    set(w.value, 3, size, r, bank, regs, counter)
 }
 
 // The code begins with the instruction's first byte, which has said the size and the register.
@@ -295,20 +279,19 @@ pub fn register(
     }
     let c = code[1];
     let n = c % 8;
-    let v = state::read(&*regs, bank, size, r);
     match c / 8 {
         0 => load_constant(code, c, size, r, bank, regs, counter),
-        2 => extended(c, v, size, r, bank, regs, counter),
-        12 => inc(n, v, size, r, bank, flags, regs, counter),
-        13 => dec(n, v, size, r, bank, flags, regs, counter),
-        17 => load(n, v, size, r, bank, regs, counter),
+        2 => extended(c, size, r, bank, regs, counter),
+        12 => inc(n, size, r, bank, flags, regs, counter),
+        13 => dec(n, size, r, bank, flags, regs, counter),
+        17 => load(n, size, r, bank, regs, counter),
         19 => into(n, size, r, bank, regs, counter),
         16 | 18 | 20 | 22 | 24 | 26 | 28 | 30 => {
             let op = arith_of(c / 16 % 8);
-            compute_with(op, n, v, size, r, bank, flags, regs, counter)
+            compute_with(op, n, size, r, bank, flags, regs, counter)
         }
-        25 => compute_constant(code, c, v, size, r, bank, flags, regs, counter),
-        29 => shifted(code, c, v, size, r, bank, flags, regs, counter),
+        25 => compute_constant(code, c, size, r, bank, flags, regs, counter),
+        29 => shifted(code, c, size, r, bank, flags, regs, counter),
         _ => Answer::Refused(Why::Unlisted),
     }
 }

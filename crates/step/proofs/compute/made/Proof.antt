@@ -60,11 +60,8 @@ result-requires-2 c κs = search needs
 enum-known-how-5 : tie.Need-enum-known-how-5
 enum-known-how-5 c = search needs
 
-shift-by-requires : tie.Need-shift-by-requires
-shift-by-requires c κs = search needs
-
-result-requires-3 : tie.Need-result-requires-3
-result-requires-3 c κs = search needs
+shifted-requires : tie.Need-shifted-requires
+shifted-requires c κs = search needs
 
 enum-told-3 : tie.Need-enum-told-3
 enum-told-3 c = search needs
@@ -103,7 +100,7 @@ returns-6 : tie.Need-returns-6
 returns-6 c counter level spare = c .result2 .ensures ∙ rw (c .before .before .before .before .before .how4 .given .1, c .before .dec .ensures, c .before .before .steps-of2 .ensures, c .before .before .before .unpack2 .ensures) refl
 
 returns-7 : tie.Need-returns-7
-returns-7 c counter level spare = c .result3 .ensures ∙ rw (c .before .before .before .how5 .given .1, c .before .shift-by .ensures) refl
+returns-7 c counter level spare = rw (c .before .before .how5 .given .1, c .shifted .ensures) refl
 
 returns-8 : tie.Need-returns-8
 returns-8 c counter level spare = c .kept4 .ensures ∙ rw (c .before .before .enum-told3 .given .1, c .before .extz .ensures) refl
@@ -134,8 +131,7 @@ made-spec =
     dec-requires
     result-requires-2
     enum-known-how-5
-    shift-by-requires
-    result-requires-3
+    shifted-requires
     enum-told-3
     extz-requires
     kept-requires-4

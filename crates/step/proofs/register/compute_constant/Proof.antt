@@ -22,13 +22,16 @@ sub-if1 c = search needs
 returns : tie.Need-returns
 returns c level spare ram rom =
     let a = c .before .before .before .args in
-    lacks-number (a .size) (a .r) (stateOf (a .regs .now) (a .counter .now) (a .bank) level (a .flags .now) spare) (a .code .now) ram rom (λ v. ComputeConstant (arithOf (a .c % 8)) v) (a .c) (c .before .bytes .result) (compute-constant _ _ _ (c .before .before .before .pre .0 .1)) (c .before .bytes .ensures) (omega arith)
+    lacks-number (a .size) (a .r) (stateOf (a .regs .now) (a .counter .now) (a .bank) level (a .flags .now) spare) (a .code .now) ram rom (λ v. ComputeConstant (arithOf (a .c % 8)) v) (a .c) (c .before .bytes .result) (compute-constant _ _ _ (c .before .before .before .pre .1)) (c .before .bytes .ensures) (omega arith)
 
 arith-of-requires : tie.Need-arith-of-requires
 arith-of-requires c κs = search needs
 
 constant-requires : tie.Need-constant-requires
 constant-requires c κs = (omega arith, omega (arith, bytes-le (c .before .before .before .before .args .size)))
+
+read-requires : tie.Need-read-requires
+read-requires c κs = search needs
 
 add-compute : tie.Need-add-compute
 add-compute c = search needs
@@ -39,12 +42,12 @@ compute-requires c κs = search needs
 returns-2 : tie.Need-returns-2
 unfolding effectOf valueAt pastOf withCounter
 returns-2 c level spare ram rom =
-    let a = c .before .before .before .before .before .before .before .before .before .args in
-    let n = c .before .before .before .before .before .before .before .bytes .result in
+    let a = c .before .before .before .before .before .before .before .before .before .before .before .args in
+    let n = c .before .before .before .before .before .before .before .before .before .bytes .result in
     let p = (a .counter .now + (2 + n)) % 2 ^ 24 in
-    says-number (a .size) (a .r) (stateOf (a .regs .now) (a .counter .now) (a .bank) level (a .flags .now) spare) (a .code .now) ram rom (λ v. ComputeConstant (arithOf (a .c % 8)) v) (a .c) n (compute-constant _ _ _ (c .before .before .before .before .before .before .before .before .before .pre .0 .1)) (c .before .before .before .before .before .before .before .bytes .ensures)
-    (c .before .before .before .before .constant .result) _ (omega arith) (c .before .before .before .before .constant .ensures)
-    (c .compute .ensures level spare ram rom ∙ rw (c .before .before .before .before .before .arith-of .ensures, c .before .before .before .before .before .before .before .before .before .pre .1 p level (a .flags .now) spare) refl)
+    says-number (a .size) (a .r) (stateOf (a .regs .now) (a .counter .now) (a .bank) level (a .flags .now) spare) (a .code .now) ram rom (λ v. ComputeConstant (arithOf (a .c % 8)) v) (a .c) n (compute-constant _ _ _ (c .before .before .before .before .before .before .before .before .before .before .before .pre .1)) (c .before .before .before .before .before .before .before .before .before .bytes .ensures)
+    (c .before .before .before .before .before .before .constant .result) _ (omega arith) (c .before .before .before .before .before .before .constant .ensures)
+    (c .compute .ensures level spare ram rom ∙ rw (c .before .before .before .before .before .before .before .arith-of .ensures, c .before .before .before .before .read .ensures p level (a .flags .now) spare) refl)
 
 pub compute-constant-spec : {M : Type 1} → statement M
 compute-constant-spec =
@@ -55,6 +58,7 @@ compute-constant-spec =
     returns
     arith-of-requires
     constant-requires
+    read-requires
     add-compute
     compute-requires
     returns-2)

@@ -18,7 +18,10 @@ bytes-requires c κs = search needs
 
 returns : tie.Need-returns
 unfolding judge
-returns c level flags spare code ram rom = rw (byte-extension _ _ _ _ (c .before .bytes .ensures) (c .if1 .taken) (c .before .before .pre .0)) refl
+returns c level flags spare code ram rom = rw (byte-extension _ _ _ _ (c .before .bytes .ensures) (c .if1 .taken) (c .before .before .pre)) refl
+
+read-requires : tie.Need-read-requires
+read-requires c κs = search needs
 
 extz-requires : tie.Need-extz-requires
 extz-requires c κs = search needs
@@ -35,22 +38,22 @@ set-requires-2 c κs = search needs
 returns-2 : tie.Need-returns-2
 unfolding registerRows lookup effectOf valueAt pastOf withCounter
 returns-2 c level flags spare code ram rom =
-    let a = c .before .before .before .before .before .before .before .args in
+    let a = c .before .before .before .before .before .before .before .before .before .args in
     let p = (a .counter .now + 2) % 2 ^ 24 in
-    says-whole (a .size) (a .r) (stateOf (a .regs .now) (a .counter .now) (a .bank) level flags spare) code ram rom Extz (a .c) _ (rw (c .before .before .before .before .match .keys1) (not-byte (a .size) _ _ (c .before .before .before .before .before .before .bytes .ensures) (c .before .before .before .before .before .if1 .left)))
-    (c .set .ensures level flags spare ram ∙ rw (c .before .before .before .extz .ensures, c .before .before .before .before .before .before .before .pre .1 p level flags spare) refl)
+    says-whole (a .size) (a .r) (stateOf (a .regs .now) (a .counter .now) (a .bank) level flags spare) code ram rom Extz (a .c) _ (rw (c .before .before .before .before .match .keys1) (not-byte (a .size) _ _ (c .before .before .before .before .before .before .before .before .bytes .ensures) (c .before .before .before .before .before .before .before .if1 .left)))
+    (c .set .ensures level flags spare ram ∙ rw (c .before .before .before .extz .ensures, c .before .before .before .before .before .read .ensures p level flags spare) refl)
 
 returns-3 : tie.Need-returns-3
 unfolding registerRows lookup effectOf valueAt pastOf withCounter
 returns-3 c level flags spare code ram rom =
-    let a = c .before .before .before .before .before .before .before .args in
+    let a = c .before .before .before .before .before .before .before .before .before .args in
     let p = (a .counter .now + 2) % 2 ^ 24 in
-    says-whole (a .size) (a .r) (stateOf (a .regs .now) (a .counter .now) (a .bank) level flags spare) code ram rom Exts (a .c) _ (rw (c .before .before .before .before .match .keys2) (not-byte (a .size) _ _ (c .before .before .before .before .before .before .bytes .ensures) (c .before .before .before .before .before .if1 .left)))
-    (c .set2 .ensures level flags spare ram ∙ rw (c .before .before .before .exts .ensures, c .before .before .before .before .before .before .before .pre .1 p level flags spare) refl)
+    says-whole (a .size) (a .r) (stateOf (a .regs .now) (a .counter .now) (a .bank) level flags spare) code ram rom Exts (a .c) _ (rw (c .before .before .before .before .match .keys2) (not-byte (a .size) _ _ (c .before .before .before .before .before .before .before .before .bytes .ensures) (c .before .before .before .before .before .before .before .if1 .left)))
+    (c .set2 .ensures level flags spare ram ∙ rw (c .before .before .before .exts .ensures, c .before .before .before .before .before .read .ensures p level flags spare) refl)
 
 returns-4 : tie.Need-returns-4
 unfolding judge
-returns-4 c level flags spare code ram rom = rw (no-extension _ _ _ (c .before .before .before .pre .0) (c .match .rest)) refl
+returns-4 c level flags spare code ram rom = rw (no-extension _ _ _ (c .before .before .before .before .before .pre) (c .match .rest)) refl
 
 pub extended-spec : {M : Type 1} → statement M
 extended-spec =
@@ -58,6 +61,7 @@ extended-spec =
     (tie.spec
     bytes-requires
     returns
+    read-requires
     extz-requires
     set-requires
     exts-requires

@@ -7,6 +7,9 @@ use borrow.Author.Needs.{needs}
 use Rattle.step.proofs.register.inc.Statement.{statement}
 use Rattle.step.proofs.register.inc.Tie as tie
 
+read-requires : tie.Need-read-requires
+read-requires c κs = search needs
+
 unpack-requires : tie.Need-unpack-requires
 unpack-requires c κs = search needs
 
@@ -22,11 +25,11 @@ result-requires c κs = search needs
 returns : tie.Need-returns
 unfolding effectOf valueAt pastOf withCounter
 returns c level spare ram rom =
-    let a = c .before .before .before .before .before .before .before .before .args in
+    let a = c .before .before .before .before .before .before .before .before .before .before .args in
     let p = (a .counter .now + 2) % 2 ^ 24 in
     c .result .ensures level spare ram
-    ∙ rw (c .before .before .before .before .inc .ensures, c .before .before .before .before .before .steps-of .ensures, c .before .before .before .before .before .before .unpack .ensures, c .before .before .before .before .before .before .before .before .pre p level (a .flags .now) spare) refl
+    ∙ rw (c .before .before .before .before .inc .ensures, c .before .before .before .before .before .steps-of .ensures, c .before .before .before .before .before .before .unpack .ensures, c .before .before .before .before .before .before .before .before .read .ensures p level (a .flags .now) spare) refl
 
 pub inc-spec : {M : Type 1} → statement M
 inc-spec =
-    tie.close (tie.spec unpack-requires steps-of-requires inc-requires result-requires returns)
+    tie.close (tie.spec read-requires unpack-requires steps-of-requires inc-requires result-requires returns)

@@ -7,14 +7,17 @@ use borrow.Author.Needs.{needs}
 use Rattle.step.proofs.register.load.Statement.{statement}
 use Rattle.step.proofs.register.load.Tie as tie
 
+read-requires : tie.Need-read-requires
+read-requires c κs = search needs
+
 set-requires : tie.Need-set-requires
 set-requires c κs = search needs
 
 returns : tie.Need-returns
 unfolding effectOf valueAt pastOf withCounter
 returns c level flags spare ram rom =
-    let p = (c .before .before .before .args .counter .now + 2) % 2 ^ 24 in
-    c .set .ensures level flags spare ram ∙ rw (c .before .before .before .pre p level flags spare) refl
+    let p = (c .before .before .before .before .before .args .counter .now + 2) % 2 ^ 24 in
+    c .set .ensures level flags spare ram ∙ rw (c .before .before .before .read .ensures p level flags spare) refl
 
 pub load-spec : {M : Type 1} → statement M
-load-spec = tie.close (tie.spec set-requires returns)
+load-spec = tie.close (tie.spec read-requires set-requires returns)

@@ -26,9 +26,6 @@ returns c level spare ram rom =
 shared-slice-read-c : tie.Need-shared-slice-read-c
 shared-slice-read-c c = search needs
 
-read-requires : tie.Need-read-requires
-read-requires c κs = search needs
-
 load-constant-requires : tie.Need-load-constant-requires
 load-constant-requires c κs = search needs
 
@@ -61,7 +58,7 @@ shifted-requires c κs = search needs
 
 returns-2 : tie.Need-returns-2
 returns-2 c level spare ram rom =
-    let a = c .before .before .before .before .before .before .before .before .before .args in
+    let a = c .before .before .before .before .before .before .before .args in
     let s = stateOf (a .regs .now) (a .counter .now) (a .bank) level (a .flags .now) spare in
     let l = a .code .now in
     second (a .size) (a .r) s l ram rom _ (omega arith)
@@ -69,7 +66,7 @@ returns-2 c level spare ram rom =
 
 returns-3 : tie.Need-returns-3
 returns-3 c level spare ram rom =
-    let a = c .before .before .before .before .before .before .before .before .before .args in
+    let a = c .before .before .before .before .before .before .before .args in
     let s = stateOf (a .regs .now) (a .counter .now) (a .bank) level (a .flags .now) spare in
     let l = a .code .now in
     second (a .size) (a .r) s l ram rom _ (omega arith)
@@ -77,7 +74,7 @@ returns-3 c level spare ram rom =
 
 returns-4 : tie.Need-returns-4
 returns-4 c level spare ram rom =
-    let a = c .before .before .before .before .before .before .before .before .before .before .args in
+    let a = c .before .before .before .before .before .before .before .before .args in
     let s = stateOf (a .regs .now) (a .counter .now) (a .bank) level (a .flags .now) spare in
     let l = a .code .now in
     second (a .size) (a .r) s l ram rom _ (omega arith)
@@ -85,7 +82,7 @@ returns-4 c level spare ram rom =
 
 returns-5 : tie.Need-returns-5
 returns-5 c level spare ram rom =
-    let a = c .before .before .before .before .before .before .before .before .before .before .args in
+    let a = c .before .before .before .before .before .before .before .before .args in
     let s = stateOf (a .regs .now) (a .counter .now) (a .bank) level (a .flags .now) spare in
     let l = a .code .now in
     second (a .size) (a .r) s l ram rom _ (omega arith)
@@ -93,7 +90,7 @@ returns-5 c level spare ram rom =
 
 returns-6 : tie.Need-returns-6
 returns-6 c level spare ram rom =
-    let a = c .before .before .before .before .before .before .before .before .before .args in
+    let a = c .before .before .before .before .before .before .before .args in
     let s = stateOf (a .regs .now) (a .counter .now) (a .bank) level (a .flags .now) spare in
     let l = a .code .now in
     second (a .size) (a .r) s l ram rom _ (omega arith)
@@ -101,7 +98,7 @@ returns-6 c level spare ram rom =
 
 returns-7 : tie.Need-returns-7
 returns-7 c level spare ram rom =
-    let a = c .before .before .before .before .before .before .before .before .before .args in
+    let a = c .before .before .before .before .before .before .before .args in
     let s = stateOf (a .regs .now) (a .counter .now) (a .bank) level (a .flags .now) spare in
     let l = a .code .now in
     second (a .size) (a .r) s l ram rom _ (omega arith)
@@ -109,7 +106,7 @@ returns-7 c level spare ram rom =
 
 returns-8 : tie.Need-returns-8
 returns-8 c level spare ram rom =
-    let a = c .before .before .before .before .before .before .before .before .before .before .before .args in
+    let a = c .before .before .before .before .before .before .before .before .before .args in
     let s = stateOf (a .regs .now) (a .counter .now) (a .bank) level (a .flags .now) spare in
     let l = a .code .now in
     second (a .size) (a .r) s l ram rom _ (omega arith)
@@ -117,7 +114,7 @@ returns-8 c level spare ram rom =
 
 returns-9 : tie.Need-returns-9
 returns-9 c level spare ram rom =
-    let a = c .before .before .before .before .before .before .before .before .before .before .args in
+    let a = c .before .before .before .before .before .before .before .before .args in
     let s = stateOf (a .regs .now) (a .counter .now) (a .bank) level (a .flags .now) spare in
     let l = a .code .now in
     second (a .size) (a .r) s l ram rom _ (omega arith)
@@ -125,7 +122,7 @@ returns-9 c level spare ram rom =
 
 returns-10 : tie.Need-returns-10
 returns-10 c level spare ram rom =
-    let a = c .before .before .before .before .before .before .before .before .before .before .args in
+    let a = c .before .before .before .before .before .before .before .before .args in
     let s = stateOf (a .regs .now) (a .counter .now) (a .bank) level (a .flags .now) spare in
     let l = a .code .now in
     second (a .size) (a .r) s l ram rom _ (omega arith)
@@ -134,11 +131,11 @@ returns-10 c level spare ram rom =
 returns-11 : tie.Need-returns-11
 unfolding judge
 returns-11 c level spare ram rom =
-    let a = c .before .before .before .before .before .before .args in
+    let a = c .before .before .before .before .args in
     let s = stateOf (a .regs .now) (a .counter .now) (a .bank) level (a .flags .now) spare in
     let l = a .code .now in
     second (a .size) (a .r) s l ram rom _ (omega arith)
-    (rw (no-register _ _ _ (omega (arith, c .before .before .before .shared-slice-known2 .given 1)) (c .match .rest)) refl)
+    (rw (no-register _ _ _ (omega (arith, c .before .shared-slice-known2 .given 1)) (c .match .rest)) refl)
 
 pub register-spec : {M : Type 1} → statement M
 register-spec =
@@ -146,7 +143,6 @@ register-spec =
     (tie.spec
     returns
     shared-slice-read-c
-    read-requires
     load-constant-requires
     extended-requires
     inc-requires
