@@ -1,5 +1,5 @@
 -- Laws of the first byte's rows, group by group.
-use Prim.Native.Nat.{ℕ, _/_, _%_, _<_}
+use Prim.Native.Nat.{ℕ, _+_, _/_, _%_, _<_}
 use mathlib.Core.Path.{_≡_, refl}
 use mathlib.Core.Bool.{cond}
 use mathlib.Core.List.{List, [], _∷_}
@@ -65,11 +65,11 @@ pub jump-long-1 : (b : ℕ) → b / 8 ≡ 15 → lookup firstRows b ≡ withCons
 unfolding first
 jump-long-1 = in-group _ 15 (refl, refl, refl, refl, refl, refl, refl, refl)
 
-pub indirect-form : (b : ℕ) → OneOf (16 ∷ 18 ∷ 20 ∷ []) (b / 8) → lookup firstRows b ≡ byRows (indirectRows (sizeOf (b / 16)) (b % 8))
+pub indirect-form : (b : ℕ) → OneOf (16 ∷ 18 ∷ 20 ∷ []) (b / 8) → lookup firstRows b ≡ byRows (indirectRows (sizeOf (8 + b / 16 % 4)) (b % 8))
 unfolding first sizeOf
 indirect-form = in-groups _ (16 ∷ 18 ∷ 20 ∷ []) ((refl, refl, refl, refl, refl, refl, refl, refl), ((refl, refl, refl, refl, refl, refl, refl, refl), ((refl, refl, refl, refl, refl, refl, refl, refl), tt)))
 
-pub displaced-form : (b : ℕ) → OneOf (17 ∷ 19 ∷ 21 ∷ 23 ∷ []) (b / 8) → lookup firstRows b ≡ formWith (Displaced (b % 8)) 1 (rowsAfter (eqb (b / 8) 23) (sizeOf (b / 16)))
+pub displaced-form : (b : ℕ) → OneOf (17 ∷ 19 ∷ 21 ∷ 23 ∷ []) (b / 8) → lookup firstRows b ≡ formWith (Displaced (b % 8)) 1 (rowsAfter (eqb (b / 8) 23) (sizeOf (8 + b / 16 % 4)))
 unfolding first sizeOf
 displaced-form = in-groups _ (17 ∷ 19 ∷ 21 ∷ 23 ∷ []) ((refl, refl, refl, refl, refl, refl, refl, refl), ((refl, refl, refl, refl, refl, refl, refl, refl), ((refl, refl, refl, refl, refl, refl, refl, refl), ((refl, refl, refl, refl, refl, refl, refl, refl), tt))))
 
@@ -77,11 +77,11 @@ pub indirect-store : (b : ℕ) → b / 8 ≡ 22 → lookup firstRows b ≡ byRow
 unfolding first
 indirect-store = in-group _ 22 (refl, refl, refl, refl, refl, refl, refl, refl)
 
-pub absolute-form : (b : ℕ) → OneOf (24 ∷ 26 ∷ 28 ∷ 30 ∷ []) (b / 8) → lookup firstRows b ≡ lookup (absoluteRows 0 (rowsAfter (eqb (b / 8) 30) (sizeOf (b / 16)))) (b % 8)
+pub absolute-form : (b : ℕ) → OneOf (24 ∷ 26 ∷ 28 ∷ 30 ∷ []) (b / 8) → lookup firstRows b ≡ lookup (absoluteRows 0 (rowsAfter (eqb (b / 8) 30) (sizeOf (8 + b / 16 % 4)))) (b % 8)
 unfolding first sizeOf
 absolute-form = in-groups _ (24 ∷ 26 ∷ 28 ∷ 30 ∷ []) ((refl, refl, refl, refl, refl, refl, refl, refl), ((refl, refl, refl, refl, refl, refl, refl, refl), ((refl, refl, refl, refl, refl, refl, refl, refl), ((refl, refl, refl, refl, refl, refl, refl, refl), tt))))
 
-pub register-form : (b : ℕ) → OneOf (25 ∷ 27 ∷ 29 ∷ []) (b / 8) → lookup firstRows b ≡ byRows (registerRows (sizeOf (b / 16)) (Register (b % 8)))
+pub register-form : (b : ℕ) → OneOf (25 ∷ 27 ∷ 29 ∷ []) (b / 8) → lookup firstRows b ≡ byRows (registerRows (sizeOf (8 + b / 16 % 4)) (Register (b % 8)))
 unfolding first sizeOf
 register-form = in-groups _ (25 ∷ 27 ∷ 29 ∷ []) ((refl, refl, refl, refl, refl, refl, refl, refl), ((refl, refl, refl, refl, refl, refl, refl, refl), ((refl, refl, refl, refl, refl, refl, refl, refl), tt)))
 

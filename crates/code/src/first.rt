@@ -2,7 +2,7 @@
 ghost use mathlib.Core.Path.{_≡_};
 ghost use mathlib.Core.Bool.{cond};
 ghost use mathlib.Core.List.{List};
-ghost use Prim.Native.Nat.{ℕ, _/_, _<_, _≤_};
+ghost use Prim.Native.Nat.{ℕ, _+_, _/_, _%_, _<_, _≤_};
 ghost use lib.Dec.{ltb};
 ghost use Rattle.little.specs.Width.{bytesOf};
 ghost use Rattle.code.specs.Said.{Said, judge};
@@ -149,13 +149,14 @@ fn case_18(code: &[u8], b: u8) -> Decoded
     }
 }
 
-// The size of an operand, by the high digit of the first byte.
-fn size_of(digit: u8) -> Size
-    ensures { λ r. ⌜ r ≡ sizeOf digit ⌝ }
+// The size of an operand, by the high digit of the first byte, 8 to F: its low two bits tell.
+pub fn size_of(digit: u8) -> Size
+    ensures { λ r. ⌜ r ≡ sizeOf (8 + digit % 4) ⌝ }
 {
-    match digit {
-        0x9 | 0xD => Size::Word,
-        0xA | 0xE => Size::Long,
+    match digit % 4 {
+        0 => Size::Byte,
+        1 => Size::Word,
+        2 => Size::Long,
         _ => Size::Byte,
     }
 }

@@ -9,7 +9,7 @@ use alu::Arith;
 use alu::Shift;
 use little::Size;
 
-mod first;
+pub mod first;
 mod memory;
 pub mod registers;
 

@@ -2,7 +2,6 @@
 use Prim.Native.Nat.{ℕ, suc, _+_, _-_, _/_, _%_, _<_, _≤_}
 use mathlib.Core.Path.{_≡_, refl, ap, sym, _∙_}
 use mathlib.Core.List.{List, [], _∷_}
-use mathlib.Core.Logic.{_⊎_, inl, inr}
 use native.Mathlib.Decide.{decLe}
 use native.Mathlib.Nat.{lt-of-not-le}
 use native.Mathlib.Omega.{arith}
@@ -38,18 +37,11 @@ module _ (code : List ℕ) (h : 0 < length code) where
   by-first d e = sym (next-there (lookup firstRows) code 0 (judge (lookup firstRows (getD code 0 0)) code 1) h refl) ∙ ap (λ (x : Said). judge x code 1) e
 
   pub register-says :
-      (z : Size) → OneOf (25 ∷ 27 ∷ 29 ∷ []) (getD code 0 0 / 8) → z ≡ sizeOf (0xC + getD code 0 0 / 16 % 4)
+      (z : Size) → OneOf (25 ∷ 27 ∷ 29 ∷ []) (getD code 0 0 / 8) → z ≡ sizeOf (8 + getD code 0 0 / 16 % 4)
       → decodeOf code ≡ judge (byRows (registerRows z (Register (getD code 0 0 % 8)))) code 1
   register-says z k e =
       let b = getD code 0 0 in
-      let d : b / 16 ≡ 0xC + b / 16 % 4 = digit k in
-      by-first (byRows (registerRows z (Register (b % 8))))
-      (register-form b k ∙ ap (λ (x : Size). byRows (registerRows x (Register (b % 8)))) (ap sizeOf d ∙ sym e))
-    where
-      digit : OneOf (25 ∷ 27 ∷ 29 ∷ []) (getD code 0 0 / 8) → getD code 0 0 / 16 ≡ 0xC + getD code 0 0 / 16 % 4
-      digit (inl e) = omega (arith, e)
-      digit (inr (inl e)) = omega (arith, e)
-      digit (inr (inr e)) = omega (arith, e)
+      by-first (byRows (registerRows z (Register (b % 8)))) (register-form b k ∙ ap (λ (x : Size). byRows (registerRows x (Register (b % 8)))) (sym e))
 
   pub jump-says : 12 ≤ getD code 0 0 / 8 → getD code 0 0 / 8 < 14 → decodeOf code ≡ judge (withConstant (Jr (getD code 0 0 % 16)) Byte 1) code 1
   jump-says l u = by-first (withConstant (Jr (getD code 0 0 % 16)) Byte 1) (either (decLe 13 (getD code 0 0 / 8)))

@@ -1,9 +1,9 @@
 // One step: the instruction at the counter is done as the book says, or refused and nothing changes.
 ghost use mathlib.Core.Path.{_≡_};
-ghost use Prim.Native.Nat.{ℕ, suc, _+_, _-_, _/_, _%_};
+ghost use Prim.Native.Nat.{ℕ, suc, _-_};
 ghost use Rattle.memory.specs.Access.{codeAt};
 ghost use Rattle.state.specs.State.{stateOf};
-ghost use Rattle.code.specs.Listed.{decodeOf, sizeOf};
+ghost use Rattle.code.specs.Listed.{decodeOf};
 ghost use Rattle.step.specs.Try.{doneWith, refusedWith, outcome, after, leaves};
 ghost use Rattle.step.specs.Exec.{executedOf};
 ghost use Rattle.step.specs.Step.{tooLong, onceOf, stepOf};
@@ -14,6 +14,7 @@ use answer::Answer;
 use answer::Why;
 use code::Decoded;
 use code::Instruction;
+use code::first::size_of;
 use little::Size;
 use memory::Loaded;
 use state::State;
@@ -100,18 +101,6 @@ fn decode_at<'a>(ram: &'a [u8], rom: &'a [u8], at: u32) -> Decoded
     code::decode(memory::fetch(ram, rom, at))
 }
 
-// The size of a register form, by the low two bits of its first byte's high digit: C, D or E.
-fn size_in(b: u8) -> Size
-    ensures { λ r. ⌜ r ≡ sizeOf (0xC + b / 16 % 4) ⌝ }
-{
-    match b / 16 % 4 {
-        0 => Size::Byte,
-        1 => Size::Word,
-        2 => Size::Long,
-        _ => Size::Byte,
-    }
-}
-
 // What stands at the counter, done or refused, whatever the state is: the checks before it are the caller's. A form that goes on
 // may use some of the `more` steps that the caller has left. The state's parts lie apart and are changed where they lie.
 pub fn once(
@@ -134,7 +123,7 @@ pub fn once(
     let b = code[0];
     match b / 8 {
         12 | 13 => control::short_jump(code, b % 16, *flags, counter),
-        25 | 27 | 29 => register::register(code, size_in(b), b % 8, *bank, flags, regs, counter),
+        25 | 27 | 29 => register::register(code, size_of(b / 16), b % 8, *bank, flags, regs, counter),
         _ => match code::decode(code) {
             Decoded::Whole(i) => execute(i, regs, counter, bank, flags, spare, ram, rom, more),
             Decoded::Short => Answer::Refused(Why::NoCode),

@@ -33,8 +33,8 @@ returns c =
 shared-slice-read-b : tie.Need-shared-slice-read-b
 shared-slice-read-b c = search needs
 
-size-in-requires : tie.Need-size-in-requires
-size-in-requires c κs = search needs
+size-of-requires : tie.Need-size-of-requires
+size-of-requires c κs = search needs
 
 register-requires : tie.Need-register-requires
 register-requires c κs = search needs
@@ -68,7 +68,7 @@ returns-2 c =
     let s = stateOf (a .regs .now) (a .counter .now) (a .bank .now) level (a .flags .now) (a .spare .now) in
     c .register .ensures level (a .spare .now) (a .ram .now) (a .rom .now)
     ∙ ap (leaves s (a .ram .now))
-    (once-by s (a .ram .now) (a .rom .now) code _ (a .more .now) (c .before .before .before .before .before .before .before .before .before .fetch .ensures) (register-says code (there (c .before .before .before .before .before .before .before .before)) (c .before .before .before .before .before .size-in .result) (c .before .before .before .before .before .before .match .keys1) (c .before .before .before .before .before .size-in .ensures))))
+    (once-by s (a .ram .now) (a .rom .now) code _ (a .more .now) (c .before .before .before .before .before .before .before .before .before .fetch .ensures) (register-says code (there (c .before .before .before .before .before .before .before .before)) (c .before .before .before .before .before .size-of .result) (c .before .before .before .before .before .before .match .keys1) (c .before .before .before .before .before .size-of .ensures))))
 
 same-length-3 : tie.Need-same-length-3
 same-length-3 c = search needs
@@ -119,7 +119,7 @@ once-spec =
     same-length
     returns
     shared-slice-read-b
-    size-in-requires
+    size-of-requires
     register-requires
     short-jump-requires
     decode-requires

@@ -1,22 +1,25 @@
-use mathlib.Core.Logic.{inl, inr}
-use borrow.Author.Tests.{ne-eqb}
+use Prim.Native.Nat.{_%_}
+use mathlib.Core.Path.{_≡_, refl}
+use native.Mathlib.Omega.{arith}
 use Rattle.code.specs.Listed.{sizeOf}
 use Rattle.code.proofs.first.size_of.Statement.{statement}
 use Rattle.code.proofs.first.size_of.Tie as tie
 
 returns : tie.Need-returns
 unfolding sizeOf
-returns c = elim (c .match .keys1) [ inl e ↦ rw e | inr e ↦ rw e ]
+returns c = rw (c .match .keys1) refl
 
 returns-2 : tie.Need-returns-2
 unfolding sizeOf
-returns-2 c = elim (c .match .keys2) [ inl e ↦ rw e | inr e ↦ rw e ]
+returns-2 c = rw (c .match .keys2) refl
 
 returns-3 : tie.Need-returns-3
 unfolding sizeOf
-returns-3 c =
-    let m = c .match .rest in
-    rw (ne-eqb _ 0x9 (λ e. m .0 .1 (inl e)), ne-eqb _ 0xD (λ e. m .0 .1 (inr e)), ne-eqb _ 0xA (λ e. m .1 (inl e)), ne-eqb _ 0xE (λ e. m .1 (inr e)))
+returns-3 c = rw (c .match .keys3) refl
+
+returns-4 : tie.Need-returns-4
+unfolding sizeOf
+returns-4 c = let e : c .before .args .digit % 4 ≡ 3 = omega (arith, c .match .rest) in rw e refl
 
 pub size-of-spec : {M : Type 1} → statement M
-size-of-spec = tie.close (tie.spec returns returns-2 returns-3)
+size-of-spec = tie.close (tie.spec returns returns-2 returns-3 returns-4)
