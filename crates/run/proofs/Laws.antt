@@ -79,9 +79,9 @@ module _ (s : State) (ram rom : List ℕ) (within : tooLong (length ram) (length
       let near : tooLong (length v) (length rom) ≡ false = ap (λ (n : ℕ). tooLong n (length rom)) (h .2) ∙ within in
       let kept = kept-done v t m (subst (λ (x : Try). Keeps v x) e (keeps-once v rom u (valid-says u (h .1)))) in (
         λ r d.
-        let i : suc k + r ≡ k + suc r = omega arith in
-        let j : d + k + 1 ≡ d + suc k = omega arith in
-        ap (λ (n : ℕ). goOf n d s ram rom) i ∙ h .0 (suc r) d ∙ go-did r (d + k) u v rom t m (try-once u v rom near (h .1) ∙ e) ∙ ap (λ (n : ℕ). goOf r n t m rom) j,
+            let i : suc k + r ≡ k + suc r = omega arith in
+            let j : d + k + 1 ≡ d + suc k = omega arith in
+            ap (λ (n : ℕ). goOf n d s ram rom) i ∙ h .0 (suc r) d ∙ go-did r (d + k) u v rom t m (try-once u v rom near (h .1) ∙ e) ∙ ap (λ (n : ℕ). goOf r n t m rom) j,
         valid-from t (kept .0),
         kept .1 ∙ h .2,
       )
@@ -91,9 +91,9 @@ module _ (s : State) (ram rom : List ℕ) (within : tooLong (length ram) (length
       let u : s ≡ t = ap (stateOr s) e in
       let v : ram ≡ m = ap (ramOr ram) e in (
         λ r d.
-        let y : 0 + r ≡ r = omega arith in
-        let z : d + 0 ≡ d = omega arith in
-        ap (λ (n : ℕ). goOf n d s ram rom) y ∙ ap (λ (x : State). goOf r d x ram rom) u ∙ ap (λ (x : List ℕ). goOf r d t x rom) v ∙ ap (λ (x : ℕ). goOf r x t m rom) (sym z),
+            let y : 0 + r ≡ r = omega arith in
+            let z : d + 0 ≡ d = omega arith in
+            ap (λ (n : ℕ). goOf n d s ram rom) y ∙ ap (λ (x : State). goOf r d x ram rom) u ∙ ap (λ (x : List ℕ). goOf r d t x rom) v ∙ ap (λ (x : ℕ). goOf r x t m rom) (sym z),
         ap validOf (sym u) ∙ valid,
         ap length (sym v),
       )
@@ -136,7 +136,7 @@ module _
   turn-off d w h =
       let x = was-refused s ram a u m w (timesOf (suc (n - l)) s ram rom) e h in
       let f : onceOf s ram rom ≡ no w =
-          sym (times-one n s ram rom) ∙ ap (λ (y : ℕ). timesOf (suc (n - y)) s ram rom) (sym (turn-same w h)) ∙ x .0 in
+      sym (times-one n s ram rom) ∙ ap (λ (y : ℕ). timesOf (suc (n - y)) s ram rom) (sym (turn-same w h)) ∙ x .0 in
       rw (x .1, x .2) (sym (go-no n d s ram rom w (try-once s ram rom within valid ∙ f)))
 
 pub turn-end : (n : ℕ) (s : State) (ram rom : List ℕ) (l : ℕ) → l ≡ 0 → _≡_ {A = Result} (ends n s ram Done) (goOf l (n - l) s ram rom)

@@ -47,7 +47,7 @@ fn go(s: State, ram: &mut [u8], rom: &[u8], steps: u32) -> Ran
     let mut left = steps;
     while 0 < left {
         left -= 1;
-        let a = step::once(
+        let a = step::turn::once(
             &mut regs,
             &mut counter,
             &mut bank,

@@ -1,8 +1,12 @@
 -- Laws of an instruction on a register, from what its bytes say to what is left.
-use Prim.Native.Nat.{ℕ, _+_, _/_, _<_, _≤_}
-use mathlib.Core.Path.{_≡_, refl}
-use mathlib.Core.List.{List}
+use Prim.Native.Nat.{ℕ, _+_, _/_, _%_, _<_, _≤_}
+use mathlib.Core.Path.{_≡_, refl, ap, sym, _∙_}
+use mathlib.Core.Bool.{cond}
+use mathlib.Core.List.{List, [], _∷_}
+use native.Mathlib.Decide.{decLe}
+use native.Mathlib.Nat.{lt-of-not-le}
 use native.Mathlib.Omega.{arith}
+use lib.Dec.{eqb}
 use lib.ListN.{length, getD, take, drop}
 use Rattle.answer.specs.declared.Answer.the-variants.{Refused}
 use Rattle.answer.specs.declared.Why.the-variants.{NoCode}
@@ -12,13 +16,15 @@ use Rattle.little.specs.Width.{bytesOf}
 use Rattle.little.specs.Bytes.{valueOf}
 use Rattle.state.specs.declared.State.{State}
 use Rattle.code.specs.declared.Op.{Op}
+use Rattle.code.specs.declared.Op.the-variants as op
 use Rattle.code.specs.declared.Operand.{Operand}
 use Rattle.code.specs.declared.Operand.the-variants.{Register}
 use Rattle.code.specs.declared.Decoded.the-variants.{Short}
 use Rattle.code.specs.Said.{Said, whole, unlisted, number, judge, wholeOf}
 use Rattle.code.specs.Rows.{lookup, byRows}
 use Rattle.code.specs.Registers.{registerRows, notByte}
-use Rattle.code.proofs.Groups.{in-group}
+use Rattle.code.proofs.Groups.{in-group, Missed}
+use Rattle.code.proofs.RegisterRows.{inc, dec, register-arms}
 use Rattle.code.proofs.Judge.{next-there, number-read, number-lacks}
 use Rattle.step.specs.Try.{Outcome, after, leaves}
 use Rattle.step.specs.Exec.{executedOf}
@@ -59,3 +65,20 @@ pub not-byte : (z : Size) (n : ℕ) (d : Said) → n ≡ bytesOf z → (n ≡ 1 
 not-byte Byte n d e h = absurd (h e)
 not-byte Word n d e h = refl
 not-byte Long n d e h = refl
+
+-- ---- INC and DEC, which one arm does, and the bytes that no arm has
+abbrev countSaid : Size → Operand → ℕ → ℕ → Said
+countSaid z o n k = whole (cond (eqb k 12) (op.Inc n) (op.Dec n)) z o
+
+pub counts : (z : Size) (o : Operand) (b : ℕ) → 12 ≤ b / 8 → b / 8 < 14 → lookup (registerRows z o) b ≡ countSaid z o (b % 8) (b / 8)
+counts z o b l u = either (decLe 13 (b / 8))
+  where
+    either : Dec (13 ≤ b / 8) → lookup (registerRows z o) b ≡ countSaid z o (b % 8) (b / 8)
+    either (yes h) = let e : b / 8 ≡ 13 = omega (arith, u, h) in dec z o b e ∙ ap (countSaid z o (b % 8)) (sym e)
+    either (no h) = let g = lt-of-not-le h in let e : b / 8 ≡ 12 = omega (arith, l, g) in inc z o b e ∙ ap (countSaid z o (b % 8)) (sym e)
+
+pub no-arm :
+    (x : ℕ) → Missed ((29 ∷ []) ∷ (25 ∷ []) ∷ (16 ∷ 18 ∷ 20 ∷ 22 ∷ 24 ∷ 26 ∷ 28 ∷ 30 ∷ []) ∷ (19 ∷ []) ∷ (17 ∷ []) ∷ (2 ∷ []) ∷ (0 ∷ []) ∷ []) x
+    → (x ≡ 12 → ⊥) → (x ≡ 13 → ⊥) → (z : Size) (o : Operand) → Missed (register-arms z o) x
+no-arm x m p q z o =
+    (((((((((tt, m .0 .0 .0 .0 .0 .0 .1), m .0 .0 .0 .0 .0 .1), p), q), m .0 .0 .0 .0 .1), m .0 .0 .0 .1), m .0 .0 .1), m .0 .1), m .1)

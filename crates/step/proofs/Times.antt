@@ -137,7 +137,7 @@ module _
     (so-far : timesOf k start ram rom ≡ did (stateOf registers at bank level flags spare) m)
     (a : Answer) (registers′ : List ℕ) (flags′ : ℕ) (m′ : List ℕ)
     (e : after a (stateOf registers′ past bank level flags′ spare) m′
-        ≡ leaves (stateOf registers past bank level flags spare) m (roundOf f (stateOf registers past bank level flags spare) m rom)) where
+    ≡ leaves (stateOf registers past bank level flags spare) m (roundOf f (stateOf registers past bank level flags spare) m rom)) where
   next-is : timesOf (suc k) start ram rom ≡ andThen (roundOf f (stateOf registers past bank level flags spare) m rom) (endsAt f at)
   next-is = times-more k start ram rom (stateOf registers at bank level flags spare) m so-far ∙ h m same registers bank level flags spare
 
@@ -162,13 +162,13 @@ module _
   pub first-not :
       (w : Why) → a ≡ Refused w → (registers₀ : List ℕ) (flags₀ : ℕ) → start ≡ stateOf registers₀ at bank level flags₀ spare → k ≡ 0
       → after (Refused w) (stateOf registers′ past bank level flags′ spare) m′
-          ≡ leaves (stateOf registers₀ past bank level flags₀ spare) ram (timesOf (suc k) start ram rom)
+      ≡ leaves (stateOf registers₀ past bank level flags₀ spare) ram (timesOf (suc k) start ram rom)
   unfolding timesOf
   first-not w d registers₀ flags₀ s z =
       let g = was-refused (stateOf registers past bank level flags spare) m a (stateOf registers′ past bank level flags′ spare) m′ w (roundOf f (stateOf registers past bank level flags spare) m rom) e d in
       let b : did start ram ≡ did (stateOf registers at bank level flags spare) m = ap (λ (n : ℕ). timesOf n start ram rom) (sym z) ∙ so-far in
       let v : stateOf registers′ past bank level flags′ spare ≡ stateOf registers₀ past bank level flags₀ spare =
-          g .1 ∙ sym (ap (λ (x : State). stateOf (x .registers) past bank level (x .flags) spare) (sym s ∙ ap (stateOr start) b)) in
+      g .1 ∙ sym (ap (λ (x : State). stateOf (x .registers) past bank level (x .flags) spare) (sym s ∙ ap (stateOr start) b)) in
       let r : m′ ≡ ram = g .2 ∙ sym (ap (ramOr ram) b) in
       ap (λ (x : State). after (Refused w) x m′) v ∙ ap (λ (x : List ℕ). after (Refused w) (stateOf registers₀ past bank level flags₀ spare) x) r
       ∙ ap (leaves (stateOf registers₀ past bank level flags₀ spare) ram) (sym (round-not w d))
@@ -178,6 +178,6 @@ module _
   later-not w d p =
       let g = was-refused (stateOf registers past bank level flags spare) m a (stateOf registers′ past bank level flags′ spare) m′ w (roundOf f (stateOf registers past bank level flags spare) m rom) e d in
       let v : stateOf registers′ at bank level flags′ spare ≡ stateOf registers at bank level flags spare =
-          ap (λ (x : State). stateOf (x .registers) at bank level (x .flags) spare) (g .1) in
+      ap (λ (x : State). stateOf (x .registers) at bank level (x .flags) spare) (g .1) in
       ap (λ (x : State). after Done x m′) v ∙ ap (λ (x : List ℕ). after Done (stateOf registers at bank level flags spare) x) (g .2)
       ∙ ap (leaves p ram) (sym so-far)

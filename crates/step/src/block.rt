@@ -1,11 +1,11 @@
 // Copies and compares: each round is a step.
 ghost use mathlib.Core.Path.{_≡_};
-ghost use Prim.Native.Nat.{ℕ, suc, _-_};
+ghost use Prim.Native.Nat.{ℕ};
 ghost use Rattle.state.specs.State.{stateOf};
 ghost use Rattle.step.specs.Try.{after, leaves, andThen};
 ghost use Rattle.step.specs.Operand.{pointerOf, storing};
 ghost use Rattle.memory.specs.Place.{placeOf};
-ghost use Rattle.step.specs.Times.{timesOf, Fewer, Stands, inRom, againOf};
+ghost use Rattle.step.specs.Times.{inRom, againOf};
 ghost use Rattle.step.specs.Block.{moreIn, counted, steppedOf, moved, copied, accumulator, compared, roundOf, goesOn, endsAt};
 use crate::operand::pointer;
 use answer::Answer;
@@ -112,7 +112,7 @@ fn copy(
 }
 
 // One round: what LDI, LDD, CPI and CPD do, but for the counter.
-fn round(
+pub fn round(
     f: Form,
     bank: u8,
     flags: &mut u8,
@@ -144,7 +144,7 @@ fn goes_on(f: Form, bank: u8, flags: u8, regs: &[u32; 20]) -> bool
 }
 
 // The counter at the form again, where it goes on.
-fn ended(f: Form, at: u32, bank: u8, flags: u8, regs: &[u32; 20], counter: u32) -> u32
+pub fn ended(f: Form, at: u32, bank: u8, flags: u8, regs: &[u32; 20], counter: u32) -> u32
     ensures { λ r. ⌜ ((level spare : ℕ) → stateOf (now (regs .entry)) r bank level flags spare ≡ endsAt f at (stateOf (now (regs .entry)) counter bank level flags spare)) ⌝ }
 {
     if goes_on(f, bank, flags, regs) {
@@ -154,7 +154,7 @@ fn ended(f: Form, at: u32, bank: u8, flags: u8, regs: &[u32; 20], counter: u32) 
 }
 
 // Whether an address is in ROM, which no step changes.
-fn in_rom(ram_len: usize, rom_len: usize, at: u32) -> bool
+pub fn in_rom(ram_len: usize, rom_len: usize, at: u32) -> bool
     ensures { λ r. ⌜ r ≡ inRom (placeOf «ram_len» «rom_len» at 1) ⌝ }
 {
     match memory::find(ram_len, rom_len, at, 1) {
@@ -165,51 +165,8 @@ fn in_rom(ram_len: usize, rom_len: usize, at: u32) -> bool
 }
 
 // Whether another round is done in the same call.
-fn again(f: Form, stays: bool, left: u32, bank: u8, flags: u8, regs: &[u32; 20]) -> bool
+pub fn again(f: Form, stays: bool, left: u32, bank: u8, flags: u8, regs: &[u32; 20]) -> bool
     ensures { λ r. ⌜ ((counter level spare : ℕ) → r ≡ againOf f stays left (stateOf (now (regs .entry)) counter bank level flags spare)) ⌝ }
 {
     stays & ((0 < left) & goes_on(f, bank, flags, regs))
-}
-
-// A round of the form that stands at an address, and as many more as there are steps for and the form goes on; the counter is
-// past it. In ROM the form stays what it is, so that it is not read again for each round.
-pub fn block(
-    f: Form,
-    at: u32,
-    bank: u8,
-    flags: &mut u8,
-    regs: &mut [u32; 20],
-    counter: &mut u32,
-    ram: &mut [u8],
-    rom: &[u8],
-    more: &mut u32,
-) -> Answer
-    requires { ⌜ Stands at (now counter) (now ram) (now rom) (λ s m. andThen (roundOf f s m (now rom)) (endsAt f at)) ⌝ }
-    ensures { λ a. ⌜ Fewer a (now (more .entry)) (now (more .exit)) ⌝ }
-    ensures { λ a. ⌜ ((level spare : ℕ) → after a (stateOf (now (regs .exit)) (now (counter .exit)) bank level (now (flags .exit)) spare) (now (ram .exit)) ≡ leaves (stateOf (now (regs .entry)) (now (counter .entry)) bank level (now (flags .entry)) spare) (now (ram .entry)) (timesOf (suc (now (more .entry) - now (more .exit))) (stateOf (now (regs .entry)) at bank level (now (flags .entry)) spare) (now (ram .entry)) (now (rom .entry)))) ⌝ }
-{
-    let stays = in_rom(ram.len(), rom.len(), at);
-    let mut left = *more;
-    loop {
-        match round(f, bank, &mut *flags, &mut *regs, &mut *ram, rom) {
-            Answer::Done => {
-                if again(f, stays, left, bank, *flags, &*regs) {
-                    left -= 1;
-                } else {
-                    *counter = ended(f, at, bank, *flags, &*regs, *counter);
-                    *more = left;
-                    return Answer::Done;
-                }
-            }
-            Answer::Refused(w) => {
-                if left == *more {
-                    return Answer::Refused(w);
-                }
-                // The rounds before it are done; the refused one is for the next call.
-                *counter = at;
-                *more = left + 1;
-                return Answer::Done;
-            }
-        }
-    }
 }

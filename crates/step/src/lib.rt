@@ -1,20 +1,15 @@
 // One step: the instruction at the counter is done as the book says, or refused and nothing changes.
 ghost use mathlib.Core.Path.{_≡_};
-ghost use Prim.Native.Nat.{ℕ, suc, _-_};
 ghost use Rattle.memory.specs.Access.{codeAt};
-ghost use Rattle.state.specs.State.{stateOf};
 ghost use Rattle.code.specs.Listed.{decodeOf};
-ghost use Rattle.step.specs.Try.{doneWith, refusedWith, outcome, after, leaves};
+ghost use Rattle.step.specs.Try.{doneWith, refusedWith, outcome, leaves};
 ghost use Rattle.step.specs.Exec.{executedOf};
 ghost use Rattle.step.specs.Step.{tooLong, onceOf, stepOf};
-ghost use Rattle.step.specs.Times.{timesOf, Fewer};
 ghost use Rattle.step.specs.Show.{judgedOf, lengthIn, showAnswerOf, shownOf};
 ghost use Rattle.step.specs.Reset.{resetOf};
 use answer::Answer;
 use answer::Why;
 use code::Decoded;
-use code::Instruction;
-use code::first::size_of;
 use little::Size;
 use memory::Loaded;
 use state::State;
@@ -22,11 +17,11 @@ use state::State;
 mod block;
 mod compute;
 mod control;
-mod effect;
 mod kind;
 mod operand;
 mod register;
 mod stack;
+pub mod turn;
 
 pub struct Stepped {
     pub state: State,
@@ -51,85 +46,10 @@ fn refuse(given: State, w: Why) -> Stepped
     }
 }
 
-// A refused instruction leaves the counter at it.
-fn execute(
-    i: Instruction,
-    regs: &mut [u32; 20],
-    counter: &mut u32,
-    bank: &mut u8,
-    flags: &mut u8,
-    spare: &mut u8,
-    ram: &mut [u8],
-    rom: &[u8],
-    more: &mut u32,
-) -> Answer
-    requires { ⌜ decodeOf (codeAt (now ram) (now rom) (now counter)) ≡ Decoded.Whole i ⌝ }
-    ensures { λ a. ⌜ Fewer a (now (more .entry)) (now (more .exit)) ⌝ }
-    ensures { λ a. ⌜ ((level : ℕ) → after a (stateOf (now (regs .exit)) (now (counter .exit)) (now (bank .exit)) level (now (flags .exit)) (now (spare .exit))) (now (ram .exit)) ≡ leaves (stateOf (now (regs .entry)) (now (counter .entry)) (now (bank .entry)) level (now (flags .entry)) (now (spare .entry))) (now (ram .entry)) (timesOf (suc (now (more .entry) - now (more .exit))) (stateOf (now (regs .entry)) (now (counter .entry)) (now (bank .entry)) level (now (flags .entry)) (now (spare .entry))) (now (ram .entry)) (now (rom .entry)))) ⌝ }
-{
-    let at = *counter;
-    let n = (i.length % 16777216) as u32;
-    *counter = std::num::wrapping_add_u32(at, n) % 16777216;
-    let op = i.op;
-    let size = i.size;
-    let operand = i.operand;
-    match effect::effect(
-        op,
-        size,
-        operand,
-        at,
-        regs,
-        &mut *counter,
-        bank,
-        flags,
-        spare,
-        ram,
-        rom,
-        more,
-    ) {
-        Answer::Done => Answer::Done,
-        Answer::Refused(w) => {
-            *counter = at;
-            Answer::Refused(w)
-        }
-    }
-}
-
 fn decode_at<'a>(ram: &'a [u8], rom: &'a [u8], at: u32) -> Decoded
     ensures { λ r. ⌜ r ≡ decodeOf (codeAt (now (ram .entry)) (now (rom .entry)) at) ⌝ }
 {
     code::decode(memory::fetch(ram, rom, at))
-}
-
-// What stands at the counter, done or refused, whatever the state is: the checks before it are the caller's. A form that goes on
-// may use some of the `more` steps that the caller has left. The state's parts lie apart and are changed where they lie.
-pub fn once(
-    regs: &mut [u32; 20],
-    counter: &mut u32,
-    bank: &mut u8,
-    flags: &mut u8,
-    spare: &mut u8,
-    ram: &mut [u8],
-    rom: &[u8],
-    more: &mut u32,
-) -> Answer
-    ensures { λ a. ⌜ Fewer a (now (more .entry)) (now (more .exit)) ⌝ }
-    ensures { λ a. ⌜ ((level : ℕ) → after a (stateOf (now (regs .exit)) (now (counter .exit)) (now (bank .exit)) level (now (flags .exit)) (now (spare .exit))) (now (ram .exit)) ≡ leaves (stateOf (now (regs .entry)) (now (counter .entry)) (now (bank .entry)) level (now (flags .entry)) (now (spare .entry))) (now (ram .entry)) (timesOf (suc (now (more .entry) - now (more .exit))) (stateOf (now (regs .entry)) (now (counter .entry)) (now (bank .entry)) level (now (flags .entry)) (now (spare .entry))) (now (ram .entry)) (now (rom .entry)))) ⌝ }
-{
-    let code = memory::fetch(&*ram, rom, *counter);
-    if code.len() == 0 {
-        return Answer::Refused(Why::NoCode);
-    }
-    let b = code[0];
-    match b / 8 {
-        12 | 13 => control::short_jump(code, b % 16, *flags, counter),
-        25 | 27 | 29 => register::register(code, size_of(b / 16), b % 8, *bank, flags, regs, counter),
-        _ => match code::decode(code) {
-            Decoded::Whole(i) => execute(i, regs, counter, bank, flags, spare, ram, rom, more),
-            Decoded::Short => Answer::Refused(Why::NoCode),
-            Decoded::Unlisted => Answer::Refused(Why::Unlisted),
-        },
-    }
 }
 
 // The same of a whole state.
@@ -144,7 +64,7 @@ fn whole_once(s: State, ram: &mut [u8], rom: &[u8]) -> Stepped
     let mut flags = s.flags;
     let mut spare = s.spare;
     let mut none: u32 = 0;
-    let a = once(
+    let a = turn::once(
         &mut regs,
         &mut counter,
         &mut bank,

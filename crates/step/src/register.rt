@@ -2,6 +2,7 @@
 // the second byte, and each arm puts its own result. The register is read in each arm, after the match: read before it, its value
 // must be kept over it, which was measured to be slower.
 ghost use mathlib.Core.Path.{_≡_};
+ghost use mathlib.Core.Bool.{cond};
 ghost use mathlib.Core.List.{List};
 ghost use Prim.Native.Nat.{ℕ, _+_, _/_, _≤_};
 ghost use lib.ListN.{length, take, drop};
@@ -92,8 +93,9 @@ fn compute(
     Answer::Done
 }
 
-// The operand plus n.
-fn inc(
+// The operand plus n, or less n.
+fn counted(
+    up: bool,
     n: u8,
     size: Size,
     r: u8,
@@ -102,27 +104,16 @@ fn inc(
     regs: &mut [u32; 20],
     counter: &mut u32,
 ) -> Answer
-    ensures { λ a. ⌜ ((level spare : ℕ) (ram rom : List ℕ) → after a (stateOf (now (regs .exit)) (now (counter .exit)) bank level (now (flags .exit)) spare) ram ≡ onRegister (Inc n) 2 size r (stateOf (now (regs .entry)) (now (counter .entry)) bank level (now (flags .entry)) spare) ram rom) ⌝ }
+    ensures { λ a. ⌜ ((level spare : ℕ) (ram rom : List ℕ) → after a (stateOf (now (regs .exit)) (now (counter .exit)) bank level (now (flags .exit)) spare) ram ≡ onRegister (cond up (Inc n) (Dec n)) 2 size r (stateOf (now (regs .entry)) (now (counter .entry)) bank level (now (flags .entry)) spare) ram rom) ⌝ }
 {
     let v = state::read(&*regs, bank, size, r);
-    let w = alu::inc(alu::unpack(*flags), size, v, steps_of(n));
-    result(w, 2, size, r, bank, flags, regs, counter)
-}
-
-// The operand less n.
-fn dec(
-    n: u8,
-    size: Size,
-    r: u8,
-    bank: u8,
-    flags: &mut u8,
-    regs: &mut [u32; 20],
-    counter: &mut u32,
-) -> Answer
-    ensures { λ a. ⌜ ((level spare : ℕ) (ram rom : List ℕ) → after a (stateOf (now (regs .exit)) (now (counter .exit)) bank level (now (flags .exit)) spare) ram ≡ onRegister (Dec n) 2 size r (stateOf (now (regs .entry)) (now (counter .entry)) bank level (now (flags .entry)) spare) ram rom) ⌝ }
-{
-    let v = state::read(&*regs, bank, size, r);
-    let w = alu::dec(alu::unpack(*flags), size, v, steps_of(n));
+    let f = *flags;
+    let by = steps_of(n);
+    if up {
+        let w = alu::inc(alu::unpack(f), size, v, by);
+        return result(w, 2, size, r, bank, flags, regs, counter);
+    }
+    let w = alu::dec(alu::unpack(f), size, v, by);
     result(w, 2, size, r, bank, flags, regs, counter)
 }
 
@@ -282,8 +273,7 @@ pub fn register(
     match c / 8 {
         0 => load_constant(code, c, size, r, bank, regs, counter),
         2 => extended(c, size, r, bank, regs, counter),
-        12 => inc(n, size, r, bank, flags, regs, counter),
-        13 => dec(n, size, r, bank, flags, regs, counter),
+        12 | 13 => counted(c / 8 == 12, n, size, r, bank, flags, regs, counter),
         17 => load(n, size, r, bank, regs, counter),
         19 => into(n, size, r, bank, regs, counter),
         16 | 18 | 20 | 22 | 24 | 26 | 28 | 30 => {

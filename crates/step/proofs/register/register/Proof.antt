@@ -5,13 +5,13 @@ use lib.ListN.{getD}
 use Rattle.state.specs.State.{stateOf}
 use Rattle.code.specs.declared.Decoded.the-variants.{Short}
 use Rattle.code.specs.declared.Operand.the-variants.{Register}
-use Rattle.code.specs.declared.Op.the-variants.{Load, Into, Compute, Inc, Dec}
+use Rattle.code.specs.declared.Op.the-variants.{Load, Into, Compute}
 use Rattle.code.specs.Registers.{registerRows, arithOf}
 use Rattle.code.specs.Rows.{lookup}
 use Rattle.code.specs.Said.{judge}
 use Rattle.code.proofs.Judge.{next-short}
-use Rattle.code.proofs.RegisterRows.{inc, dec, load, into, compute, no-register}
-use Rattle.step.proofs.RegisterForms.{second, says-whole}
+use Rattle.code.proofs.RegisterRows.{load, into, compute, no-register}
+use Rattle.step.proofs.RegisterForms.{second, says-whole, counts, no-arm}
 use Rattle.step.proofs.Laws.{judged}
 use borrow.Author.Needs.{needs}
 use Rattle.step.proofs.register.register.Statement.{statement}
@@ -32,12 +32,6 @@ load-constant-requires c κs = search needs
 extended-requires : tie.Need-extended-requires
 extended-requires c κs = search needs
 
-inc-requires : tie.Need-inc-requires
-inc-requires c κs = search needs
-
-dec-requires : tie.Need-dec-requires
-dec-requires c κs = search needs
-
 load-requires : tie.Need-load-requires
 load-requires c κs = search needs
 
@@ -55,6 +49,9 @@ compute-constant-requires c κs = search needs
 
 shifted-requires : tie.Need-shifted-requires
 shifted-requires c κs = search needs
+
+counted-requires : tie.Need-counted-requires
+counted-requires c κs = search needs
 
 returns-2 : tie.Need-returns-2
 returns-2 c level spare ram rom =
@@ -74,68 +71,71 @@ returns-3 c level spare ram rom =
 
 returns-4 : tie.Need-returns-4
 returns-4 c level spare ram rom =
-    let a = c .before .before .before .before .before .before .before .before .args in
+    let a = c .before .before .before .before .before .before .before .args in
     let s = stateOf (a .regs .now) (a .counter .now) (a .bank) level (a .flags .now) spare in
     let l = a .code .now in
     second (a .size) (a .r) s l ram rom _ (omega arith)
-    (says-whole (a .size) (a .r) s l ram rom (Inc (getD l 1 0 % 8)) (getD l 1 0) _ (inc _ _ _ (c .before .before .before .before .match .keys3)) (c .inc .ensures level spare ram rom))
+    (says-whole (a .size) (a .r) s l ram rom (Load (getD l 1 0 % 8)) (getD l 1 0) _ (load _ _ _ (c .before .before .before .match .keys3)) (c .load .ensures level (a .flags .now) spare ram rom))
 
 returns-5 : tie.Need-returns-5
 returns-5 c level spare ram rom =
-    let a = c .before .before .before .before .before .before .before .before .args in
+    let a = c .before .before .before .before .before .before .before .args in
     let s = stateOf (a .regs .now) (a .counter .now) (a .bank) level (a .flags .now) spare in
     let l = a .code .now in
     second (a .size) (a .r) s l ram rom _ (omega arith)
-    (says-whole (a .size) (a .r) s l ram rom (Dec (getD l 1 0 % 8)) (getD l 1 0) _ (dec _ _ _ (c .before .before .before .before .match .keys4)) (c .dec .ensures level spare ram rom))
+    (says-whole (a .size) (a .r) s l ram rom (Into (getD l 1 0 % 8)) (getD l 1 0) _ (into _ _ _ (c .before .before .before .match .keys4)) (c .into .ensures level (a .flags .now) spare ram rom))
 
 returns-6 : tie.Need-returns-6
 returns-6 c level spare ram rom =
-    let a = c .before .before .before .before .before .before .before .args in
-    let s = stateOf (a .regs .now) (a .counter .now) (a .bank) level (a .flags .now) spare in
-    let l = a .code .now in
-    second (a .size) (a .r) s l ram rom _ (omega arith)
-    (says-whole (a .size) (a .r) s l ram rom (Load (getD l 1 0 % 8)) (getD l 1 0) _ (load _ _ _ (c .before .before .before .match .keys5)) (c .load .ensures level (a .flags .now) spare ram rom))
-
-returns-7 : tie.Need-returns-7
-returns-7 c level spare ram rom =
-    let a = c .before .before .before .before .before .before .before .args in
-    let s = stateOf (a .regs .now) (a .counter .now) (a .bank) level (a .flags .now) spare in
-    let l = a .code .now in
-    second (a .size) (a .r) s l ram rom _ (omega arith)
-    (says-whole (a .size) (a .r) s l ram rom (Into (getD l 1 0 % 8)) (getD l 1 0) _ (into _ _ _ (c .before .before .before .match .keys6)) (c .into .ensures level (a .flags .now) spare ram rom))
-
-returns-8 : tie.Need-returns-8
-returns-8 c level spare ram rom =
     let a = c .before .before .before .before .before .before .before .before .before .args in
     let s = stateOf (a .regs .now) (a .counter .now) (a .bank) level (a .flags .now) spare in
     let l = a .code .now in
     second (a .size) (a .r) s l ram rom _ (omega arith)
-    (says-whole (a .size) (a .r) s l ram rom (Compute (arithOf (getD l 1 0 / 16 % 8)) (getD l 1 0 % 8)) (getD l 1 0) _ (compute _ _ _ (c .before .before .before .before .before .match .keys7)) (c .compute-with .ensures level spare ram rom ∙ rw (c .before .before .before .before .arith-of .ensures) refl))
+    (says-whole (a .size) (a .r) s l ram rom (Compute (arithOf (getD l 1 0 / 16 % 8)) (getD l 1 0 % 8)) (getD l 1 0) _ (compute _ _ _ (c .before .before .before .before .before .match .keys5)) (c .compute-with .ensures level spare ram rom ∙ rw (c .before .before .before .before .arith-of .ensures) refl))
 
-returns-9 : tie.Need-returns-9
-returns-9 c level spare ram rom =
+returns-7 : tie.Need-returns-7
+returns-7 c level spare ram rom =
     let a = c .before .before .before .before .before .before .before .before .args in
     let s = stateOf (a .regs .now) (a .counter .now) (a .bank) level (a .flags .now) spare in
     let l = a .code .now in
     second (a .size) (a .r) s l ram rom _ (omega arith)
     (c .compute-constant .ensures level spare ram rom)
 
-returns-10 : tie.Need-returns-10
-returns-10 c level spare ram rom =
+returns-8 : tie.Need-returns-8
+returns-8 c level spare ram rom =
     let a = c .before .before .before .before .before .before .before .before .args in
     let s = stateOf (a .regs .now) (a .counter .now) (a .bank) level (a .flags .now) spare in
     let l = a .code .now in
     second (a .size) (a .r) s l ram rom _ (omega arith)
     (c .shifted .ensures level spare ram rom)
 
-returns-11 : tie.Need-returns-11
-unfolding judge
-returns-11 c level spare ram rom =
-    let a = c .before .before .before .before .args in
+returns-9 : tie.Need-returns-9
+returns-9 c level spare ram rom =
+    let a = c .before .before .before .before .before .before .before .before .before .before .args in
     let s = stateOf (a .regs .now) (a .counter .now) (a .bank) level (a .flags .now) spare in
     let l = a .code .now in
     second (a .size) (a .r) s l ram rom _ (omega arith)
-    (rw (no-register _ _ _ (omega (arith, c .before .shared-slice-known2 .given 1)) (c .match .rest)) refl)
+    (says-whole (a .size) (a .r) s l ram rom _ (getD l 1 0) _ (counts (a .size) (Register (a .r)) (getD l 1 0) (c .before .before .before .before .before .if2 .left) (c .before .before .before .before .if3 .taken)) (c .counted .ensures level spare ram rom))
+
+returns-10 : tie.Need-returns-10
+unfolding judge
+returns-10 c level spare ram rom =
+    let a = c .before .before .before .before .before .args in
+    let s = stateOf (a .regs .now) (a .counter .now) (a .bank) level (a .flags .now) spare in
+    let l = a .code .now in
+    let t = c .if2 .taken in
+    second (a .size) (a .r) s l ram rom _ (omega arith)
+    (rw (no-register _ _ _ (omega (arith, c .before .before .shared-slice-known2 .given 1)) (no-arm (getD l 1 0 / 8) (c .before .match .rest) (λ e. omega (arith, e, t)) (λ e. omega (arith, e, t)) (a .size) (Register (a .r)))) refl)
+
+returns-11 : tie.Need-returns-11
+unfolding judge
+returns-11 c level spare ram rom =
+    let a = c .before .before .before .before .before .before .args in
+    let s = stateOf (a .regs .now) (a .counter .now) (a .bank) level (a .flags .now) spare in
+    let l = a .code .now in
+    let t = c .if3 .left in
+    second (a .size) (a .r) s l ram rom _ (omega arith)
+    (rw (no-register _ _ _ (omega (arith, c .before .before .before .shared-slice-known2 .given 1)) (no-arm (getD l 1 0 / 8) (c .before .before .match .rest) (λ e. omega (arith, e, t)) (λ e. omega (arith, e, t)) (a .size) (Register (a .r)))) refl)
 
 pub register-spec : {M : Type 1} → statement M
 register-spec =
@@ -145,14 +145,13 @@ register-spec =
     shared-slice-read-c
     load-constant-requires
     extended-requires
-    inc-requires
-    dec-requires
     load-requires
     into-requires
     arith-of-requires
     compute-with-requires
     compute-constant-requires
     shifted-requires
+    counted-requires
     returns-2
     returns-3
     returns-4

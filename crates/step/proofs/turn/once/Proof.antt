@@ -9,8 +9,8 @@ use Rattle.step.specs.Try.{leaves}
 use Rattle.step.proofs.Times.{fewer-same}
 use Rattle.step.proofs.First.{none-says, register-says, jump-says, once-by}
 use borrow.Author.Needs.{needs}
-use Rattle.step.proofs.once.Statement.{statement}
-use Rattle.step.proofs.once.Tie as tie
+use Rattle.step.proofs.turn.once.Statement.{statement}
+use Rattle.step.proofs.turn.once.Tie as tie
 
 -- there is a first byte
 there : (c : tie.Else1) → 0 < length (c .before .fetch .result .now)
@@ -25,10 +25,12 @@ same-length c = search needs
 returns : tie.Need-returns
 returns c =
     let a = c .before .before .before .before .before .before .args in
-    let code = c .before .fetch .result .now in
-    (refl, λ level.
-    let s = stateOf (a .regs .now) (a .counter .now) (a .bank .now) level (a .flags .now) (a .spare .now) in
-    ap (leaves s (a .ram .now)) (once-by s (a .ram .now) (a .rom .now) code Short (a .more .now) (c .before .fetch .ensures) (none-says code (omega (arith, c .if1 .taken)))))
+    let code = c .before .fetch .result .now in (
+      refl,
+      λ level.
+          let s = stateOf (a .regs .now) (a .counter .now) (a .bank .now) level (a .flags .now) (a .spare .now) in
+          ap (leaves s (a .ram .now)) (once-by s (a .ram .now) (a .rom .now) code Short (a .more .now) (c .before .fetch .ensures) (none-says code (omega (arith, c .if1 .taken)))),
+    )
 
 shared-slice-read-b : tie.Need-shared-slice-read-b
 shared-slice-read-b c = search needs
@@ -63,12 +65,14 @@ same-length-2 c = search needs
 returns-2 : tie.Need-returns-2
 returns-2 c =
     let a = c .before .before .before .before .before .before .before .before .before .before .before .before .before .before .args in
-    let code = c .before .before .before .before .before .before .before .before .before .fetch .result .now in
-    (fewer-same (c .register .result) (a .more .now), λ level.
-    let s = stateOf (a .regs .now) (a .counter .now) (a .bank .now) level (a .flags .now) (a .spare .now) in
-    c .register .ensures level (a .spare .now) (a .ram .now) (a .rom .now)
-    ∙ ap (leaves s (a .ram .now))
-    (once-by s (a .ram .now) (a .rom .now) code _ (a .more .now) (c .before .before .before .before .before .before .before .before .before .fetch .ensures) (register-says code (there (c .before .before .before .before .before .before .before .before)) (c .before .before .before .before .before .size-of .result) (c .before .before .before .before .before .before .match .keys1) (c .before .before .before .before .before .size-of .ensures))))
+    let code = c .before .before .before .before .before .before .before .before .before .fetch .result .now in (
+      fewer-same (c .register .result) (a .more .now),
+      λ level.
+          let s = stateOf (a .regs .now) (a .counter .now) (a .bank .now) level (a .flags .now) (a .spare .now) in
+          c .register .ensures level (a .spare .now) (a .ram .now) (a .rom .now)
+          ∙ ap (leaves s (a .ram .now))
+          (once-by s (a .ram .now) (a .rom .now) code _ (a .more .now) (c .before .before .before .before .before .before .before .before .before .fetch .ensures) (register-says code (there (c .before .before .before .before .before .before .before .before)) (c .before .before .before .before .before .size-of .result) (c .before .before .before .before .before .before .match .keys1) (c .before .before .before .before .before .size-of .ensures))),
+    )
 
 same-length-3 : tie.Need-same-length-3
 same-length-3 c = search needs
@@ -76,12 +80,14 @@ same-length-3 c = search needs
 returns-3 : tie.Need-returns-3
 returns-3 c =
     let a = c .before .before .before .before .before .before .before .before .before .before .before .before .before .args in
-    let code = c .before .before .before .before .before .before .before .before .fetch .result .now in
-    (fewer-same (c .short-jump .result) (a .more .now), λ level.
-    let s = stateOf (a .regs .now) (a .counter .now) (a .bank .now) level (a .flags .now) (a .spare .now) in
-    c .short-jump .ensures (a .regs .now) (a .bank .now) level (a .spare .now) (a .ram .now) (a .rom .now)
-    ∙ ap (leaves s (a .ram .now))
-    (once-by s (a .ram .now) (a .rom .now) code _ (a .more .now) (c .before .before .before .before .before .before .before .before .fetch .ensures) (jump-says code (there (c .before .before .before .before .before .before .before)) (c .before .before .before .before .if2 .left) (c .before .before .before .if3 .taken))))
+    let code = c .before .before .before .before .before .before .before .before .fetch .result .now in (
+      fewer-same (c .short-jump .result) (a .more .now),
+      λ level.
+          let s = stateOf (a .regs .now) (a .counter .now) (a .bank .now) level (a .flags .now) (a .spare .now) in
+          c .short-jump .ensures (a .regs .now) (a .bank .now) level (a .spare .now) (a .ram .now) (a .rom .now)
+          ∙ ap (leaves s (a .ram .now))
+          (once-by s (a .ram .now) (a .rom .now) code _ (a .more .now) (c .before .before .before .before .before .before .before .before .fetch .ensures) (jump-says code (there (c .before .before .before .before .before .before .before)) (c .before .before .before .before .if2 .left) (c .before .before .before .if3 .taken))),
+    )
 
 same-length-4 : tie.Need-same-length-4
 same-length-4 c = search needs
@@ -95,10 +101,12 @@ same-length-5 c = search needs
 returns-5 : tie.Need-returns-5
 returns-5 c =
     let a = c .before .before .before .before .before .before .before .before .before .before .before .before .args in
-    let code = c .before .before .before .before .before .before .before .fetch .result .now in
-    (refl, λ level.
-    let s = stateOf (a .regs .now) (a .counter .now) (a .bank .now) level (a .flags .now) (a .spare .now) in
-    ap (leaves s (a .ram .now)) (once-by s (a .ram .now) (a .rom .now) code Short (a .more .now) (c .before .before .before .before .before .before .before .fetch .ensures) (sym (c .before .before .decode .ensures) ∙ c .enum-told .given .1)))
+    let code = c .before .before .before .before .before .before .before .fetch .result .now in (
+      refl,
+      λ level.
+          let s = stateOf (a .regs .now) (a .counter .now) (a .bank .now) level (a .flags .now) (a .spare .now) in
+          ap (leaves s (a .ram .now)) (once-by s (a .ram .now) (a .rom .now) code Short (a .more .now) (c .before .before .before .before .before .before .before .fetch .ensures) (sym (c .before .before .decode .ensures) ∙ c .enum-told .given .1)),
+    )
 
 same-length-6 : tie.Need-same-length-6
 same-length-6 c = search needs
@@ -106,10 +114,12 @@ same-length-6 c = search needs
 returns-6 : tie.Need-returns-6
 returns-6 c =
     let a = c .before .before .before .before .before .before .before .before .before .before .before .before .args in
-    let code = c .before .before .before .before .before .before .before .fetch .result .now in
-    (refl, λ level.
-    let s = stateOf (a .regs .now) (a .counter .now) (a .bank .now) level (a .flags .now) (a .spare .now) in
-    ap (leaves s (a .ram .now)) (once-by s (a .ram .now) (a .rom .now) code Unlisted (a .more .now) (c .before .before .before .before .before .before .before .fetch .ensures) (sym (c .before .before .decode .ensures) ∙ c .enum-told2 .given .1)))
+    let code = c .before .before .before .before .before .before .before .fetch .result .now in (
+      refl,
+      λ level.
+          let s = stateOf (a .regs .now) (a .counter .now) (a .bank .now) level (a .flags .now) (a .spare .now) in
+          ap (leaves s (a .ram .now)) (once-by s (a .ram .now) (a .rom .now) code Unlisted (a .more .now) (c .before .before .before .before .before .before .before .fetch .ensures) (sym (c .before .before .decode .ensures) ∙ c .enum-told2 .given .1)),
+    )
 
 pub once-spec : {M : Type 1} → statement M
 once-spec =

@@ -14,8 +14,8 @@ use Rattle.step.specs.Block.{goesOn, endsAt}
 use Rattle.step.specs.Try.{did, after, leaves}
 use Rattle.step.specs.Times.{timesOf}
 use Rattle.step.proofs.Times.{again-says, rom-below, rom-same, round-done, round-again, first-not, later-not}
-use Rattle.step.proofs.block.block.Statement.{statement}
-use Rattle.step.proofs.block.block.Tie as tie
+use Rattle.step.proofs.turn.block.Statement.{statement}
+use Rattle.step.proofs.turn.block.Tie as tie
 
 abbrev Inv-loop : tie.InvT-loop
 Inv-loop f at bank flags₀ regs₀ counter₀ ram₀ rom more₀ stays left₀ flags regs counter ram more left =
@@ -42,11 +42,11 @@ done-of c level spare d =
 
 -- another round is done in the same call
 goes :
-    (c : tie.Then1 Inv-loop μ-loop) (counter level spare : ℕ) →
+    (c : tie.Then2 Inv-loop μ-loop) (counter level spare : ℕ) →
     (c .before .before .before .before .before .before .before .before .before .before .before .before .before .before .in-rom .result ≡ true) × (0 < c .before .before .before .before .before .before .before .before .before .before .before .before .loop .left) × (goesOn (c .before .before .before .before .before .before .before .before .before .before .before .before .before .before .before .before .before .args .f) (stateOf (c .before .before .before .before .before .before .before .before .round .last .1 .1 .1 .0) counter (c .before .before .before .before .before .before .before .before .before .before .before .before .before .before .before .before .before .args .bank) level (c .before .before .before .before .before .before .before .before .round .last .1 .1 .0) spare) ≡ true)
 goes c counter level spare =
     again-says (c .before .before .before .before .before .before .before .before .before .before .before .before .before .before .before .before .before .args .f) (c .before .before .before .before .before .before .before .before .before .before .before .before .before .before .in-rom .result) (c .before .before .before .before .before .before .before .before .before .before .before .before .loop .left) (stateOf (c .before .before .before .before .before .before .before .before .round .last .1 .1 .1 .0) counter (c .before .before .before .before .before .before .before .before .before .before .before .before .before .before .before .before .before .args .bank) level (c .before .before .before .before .before .before .before .before .round .last .1 .1 .0) spare)
-    (sym (c .before .again .ensures counter level spare) ∙ c .if1 .taken)
+    (sym (c .before .again .ensures counter level spare) ∙ c .if2 .taken)
 
 in-rom-requires : tie.Need-in-rom-requires Inv-loop μ-loop
 in-rom-requires c κs = search needs
@@ -57,6 +57,52 @@ loop-holds c = (omega arith, refl, refl, refl, refl, λ level spare. rw (sub-sel
 
 round-requires : tie.Need-round-requires Inv-loop μ-loop
 round-requires c κs = search needs
+
+enum-known-a : tie.Need-enum-known-a Inv-loop μ-loop
+enum-known-a c = search needs
+
+same-length : tie.Need-same-length Inv-loop μ-loop
+same-length c = c .before .before .before .before .before .before .before .round .kept .1 .1 .1 .1 .0 ∙ c .before .before .before .before .before .before .before .before .before .before .before .loop .inv .3
+
+returns : tie.Need-returns Inv-loop μ-loop
+returns c = (
+  c .before .before .before .before .before .before .before .before .before .before .before .loop .inv .1,
+  λ level spare.
+      let a = c .before .before .before .before .before .before .before .before .before .before .before .before .before .before .before .before .args in
+      let l = c .before .before .before .before .before .before .before .before .before .before .before .loop in
+      let r = c .before .before .before .before .before .before .before .round in
+      let z : a .more .now - l .left ≡ 0 = let t = c .if1 .taken in let i = l .inv .1 in omega (arith, t, i) in
+      let y : a .more .now - l .left ≡ a .more .now - l .more = let t = c .if1 .taken in omega (arith, t) in
+      let s = stateOf (a .regs .now) (a .counter .now) (a .bank) level (a .flags .now) spare in
+      ap (λ (x : ℕ). after (Refused (c .before .before .before .a .given .0 .0)) (stateOf (r .last .1 .1 .1 .0) x (a .bank) level (r .last .1 .1 .0) spare) (r .last .1 .1 .1 .1 .0)) (l .inv .2)
+      ∙ first-not (a .f) (a .at) (a .counter .now) (a .bank) level spare (a .ram .now) (a .rom .now) (stateOf (a .regs .now) (a .at) (a .bank) level (a .flags .now) spare) (c .before .before .before .before .before .before .before .before .before .before .before .before .before .before .before .before .pre) (a .more .now - l .left) (l .regs) (l .flags) (l .ram) (l .inv .4) (l .inv .5 level spare) (r .result) (r .last .1 .1 .1 .0) (r .last .1 .1 .0) (r .last .1 .1 .1 .1 .0) (r .ensures (a .counter .now) level spare)
+      (c .before .before .before .a .given .0 .0) (c .before .before .before .a .given .1) (a .regs .now) (a .flags .now) refl z
+      ∙ ap (λ (x : ℕ). leaves s (a .ram .now) (timesOf (suc x) (stateOf (a .regs .now) (a .at) (a .bank) level (a .flags .now) spare) (a .ram .now) (a .rom .now))) y,
+)
+
+add-more : tie.Need-add-more Inv-loop μ-loop
+add-more c = let h = c .before .before .before .before .before .before .before .before .before .before .before .loop .inv .0 in let i = c .before .before .before .before .before .before .before .before .before .before .before .loop .inv .1 in let f = c .if1 .left in omega (arith, h, i, f)
+
+same-length-2 : tie.Need-same-length-2 Inv-loop μ-loop
+same-length-2 c = c .before .before .before .before .before .before .before .round .kept .1 .1 .1 .1 .0 ∙ c .before .before .before .before .before .before .before .before .before .before .before .loop .inv .3
+
+returns-2 : tie.Need-returns-2 Inv-loop μ-loop
+returns-2 c =
+    let a = c .before .before .before .before .before .before .before .before .before .before .before .before .before .before .before .before .args in
+    let l = c .before .before .before .before .before .before .before .before .before .before .before .loop in
+    let r = c .before .before .before .before .before .before .before .round in
+    let h = l .inv .0 in
+    let i = l .inv .1 in
+    let n = c .if1 .left in
+    let k : a .more .now - l .left ≡ suc (a .more .now - (l .left + 1)) = omega (arith, h, i, n) in (
+      omega (arith, h, i, n),
+      λ level spare.
+          let s = stateOf (a .regs .now) (a .at) (a .bank) level (a .flags .now) spare in
+          let p = stateOf (a .regs .now) (a .counter .now) (a .bank) level (a .flags .now) spare in
+          later-not (a .f) (a .at) (a .counter .now) (a .bank) level spare (a .ram .now) (a .rom .now) s (c .before .before .before .before .before .before .before .before .before .before .before .before .before .before .before .before .pre) (a .more .now - l .left) (l .regs) (l .flags) (l .ram) (l .inv .4) (l .inv .5 level spare) (r .result) (r .last .1 .1 .1 .0) (r .last .1 .1 .0) (r .last .1 .1 .1 .1 .0) (r .ensures (a .counter .now) level spare)
+          (c .before .before .before .a .given .0 .0) (c .before .before .before .a .given .1) p
+          ∙ ap (λ (x : ℕ). leaves p (a .ram .now) (timesOf x s (a .ram .now) (a .rom .now))) k,
+    )
 
 enum-told : tie.Need-enum-told Inv-loop μ-loop
 enum-told c = search needs
@@ -85,67 +131,27 @@ loop-again c =
       n,
       rom-same (a .ram .now) (a .rom .now) (a .at) (r .last .1 .1 .1 .1 .0) k-rom n,
       λ level spare.
-      let s = stateOf (a .regs .now) (a .at) (a .bank) level (a .flags .now) spare in
-      ap (λ (x : ℕ). timesOf x s (a .ram .now) (a .rom .now)) k
-      ∙ round-again (a .f) (a .at) (a .counter .now) (a .bank) level spare (a .ram .now) (a .rom .now) s (c .before .before .before .before .before .before .before .before .before .before .before .before .before .before .before .before .before .pre) (a .more .now - l .left) (l .regs) (l .flags) (l .ram) (l .inv .4) (l .inv .5 level spare) (r .result) (r .last .1 .1 .1 .0) (r .last .1 .1 .0) (r .last .1 .1 .1 .1 .0) (r .ensures (a .counter .now) level spare) (c .before .before .before .before .enum-told .given .1)
-      (goes c (a .counter .now) level spare .2) (rom-below (a .ram .now) (a .rom .now) (a .at) k-rom),
+          let s = stateOf (a .regs .now) (a .at) (a .bank) level (a .flags .now) spare in
+          ap (λ (x : ℕ). timesOf x s (a .ram .now) (a .rom .now)) k
+          ∙ round-again (a .f) (a .at) (a .counter .now) (a .bank) level spare (a .ram .now) (a .rom .now) s (c .before .before .before .before .before .before .before .before .before .before .before .before .before .before .before .before .before .pre) (a .more .now - l .left) (l .regs) (l .flags) (l .ram) (l .inv .4) (l .inv .5 level spare) (r .result) (r .last .1 .1 .1 .0) (r .last .1 .1 .0) (r .last .1 .1 .1 .1 .0) (r .ensures (a .counter .now) level spare) (c .before .before .before .before .enum-told .given .1)
+          (goes c (a .counter .now) level spare .2) (rom-below (a .ram .now) (a .rom .now) (a .at) k-rom),
     )
 
 ended-requires : tie.Need-ended-requires Inv-loop μ-loop
 ended-requires c κs = search needs
 
-same-length : tie.Need-same-length Inv-loop μ-loop
-same-length c = c .before .before .before .before .before .before .before .before .before .before .before .round .kept .1 .1 .1 .1 .0 ∙ c .before .before .before .before .before .before .before .before .before .before .before .before .before .before .before .loop .inv .3
-
-returns : tie.Need-returns Inv-loop μ-loop
-returns c = (c .before .before .before .before .before .before .before .before .before .before .before .before .before .before .before .loop .inv .0, λ level spare.
-    let a = c .before .before .before .before .before .before .before .before .before .before .before .before .before .before .before .before .before .before .before .before .args in
-    let r = c .before .before .before .before .before .before .before .before .before .before .before .round in
-    ap (λ (s : State). after Done s (r .last .1 .1 .1 .1 .0)) (c .ended .ensures level spare ∙ ap (λ (x : ℕ). endsAt (a .f) (a .at) (stateOf (r .last .1 .1 .1 .0) x (a .bank) level (r .last .1 .1 .0) spare)) (c .before .before .before .before .before .before .before .before .before .before .before .before .before .before .before .loop .inv .2))
-    ∙ ap (leaves (stateOf (a .regs .now) (a .counter .now) (a .bank) level (a .flags .now) spare) (a .ram .now)) (sym (done-of (c .before .before .before .before .before .before .before .before .before .before .before) level spare (c .before .before .before .before .before .before .before .enum-told .given .1))))
-
-enum-known-w : tie.Need-enum-known-w Inv-loop μ-loop
-enum-known-w c = search needs
-
-same-length-2 : tie.Need-same-length-2 Inv-loop μ-loop
-same-length-2 c = c .before .before .before .before .before .before .before .round .kept .1 .1 .1 .1 .0 ∙ c .before .before .before .before .before .before .before .before .before .before .before .loop .inv .3
-
-returns-2 : tie.Need-returns-2 Inv-loop μ-loop
-returns-2 c = (c .before .before .before .before .before .before .before .before .before .before .before .loop .inv .1, λ level spare.
-    let a = c .before .before .before .before .before .before .before .before .before .before .before .before .before .before .before .before .args in
-    let l = c .before .before .before .before .before .before .before .before .before .before .before .loop in
-    let r = c .before .before .before .before .before .before .before .round in
-    let z : a .more .now - l .left ≡ 0 = let t = c .if2 .taken in let i = l .inv .1 in omega (arith, t, i) in
-    let y : a .more .now - l .left ≡ a .more .now - l .more = let t = c .if2 .taken in omega (arith, t) in
-    let s = stateOf (a .regs .now) (a .counter .now) (a .bank) level (a .flags .now) spare in
-    ap (λ (x : ℕ). after (Refused (c .before .before .before .w .given .0 .0)) (stateOf (r .last .1 .1 .1 .0) x (a .bank) level (r .last .1 .1 .0) spare) (r .last .1 .1 .1 .1 .0)) (l .inv .2)
-    ∙ first-not (a .f) (a .at) (a .counter .now) (a .bank) level spare (a .ram .now) (a .rom .now) (stateOf (a .regs .now) (a .at) (a .bank) level (a .flags .now) spare) (c .before .before .before .before .before .before .before .before .before .before .before .before .before .before .before .before .pre) (a .more .now - l .left) (l .regs) (l .flags) (l .ram) (l .inv .4) (l .inv .5 level spare) (r .result) (r .last .1 .1 .1 .0) (r .last .1 .1 .0) (r .last .1 .1 .1 .1 .0) (r .ensures (a .counter .now) level spare)
-    (c .before .before .before .w .given .0 .0) (c .before .before .before .w .given .1) (a .regs .now) (a .flags .now) refl z
-    ∙ ap (λ (x : ℕ). leaves s (a .ram .now) (timesOf (suc x) (stateOf (a .regs .now) (a .at) (a .bank) level (a .flags .now) spare) (a .ram .now) (a .rom .now))) y)
-
-add-more : tie.Need-add-more Inv-loop μ-loop
-add-more c = let h = c .before .before .before .before .before .before .before .before .before .before .before .loop .inv .0 in let i = c .before .before .before .before .before .before .before .before .before .before .before .loop .inv .1 in let f = c .if2 .left in omega (arith, h, i, f)
-
 same-length-3 : tie.Need-same-length-3 Inv-loop μ-loop
-same-length-3 c = c .before .before .before .before .before .before .before .round .kept .1 .1 .1 .1 .0 ∙ c .before .before .before .before .before .before .before .before .before .before .before .loop .inv .3
+same-length-3 c = c .before .before .before .before .before .before .before .before .before .before .before .round .kept .1 .1 .1 .1 .0 ∙ c .before .before .before .before .before .before .before .before .before .before .before .before .before .before .before .loop .inv .3
 
 returns-3 : tie.Need-returns-3 Inv-loop μ-loop
-returns-3 c =
-    let a = c .before .before .before .before .before .before .before .before .before .before .before .before .before .before .before .before .args in
-    let l = c .before .before .before .before .before .before .before .before .before .before .before .loop in
-    let r = c .before .before .before .before .before .before .before .round in
-    let h = l .inv .0 in
-    let i = l .inv .1 in
-    let n = c .if2 .left in
-    let k : a .more .now - l .left ≡ suc (a .more .now - (l .left + 1)) = omega (arith, h, i, n) in (
-      omega (arith, h, i, n),
-      λ level spare.
-      let s = stateOf (a .regs .now) (a .at) (a .bank) level (a .flags .now) spare in
-      let p = stateOf (a .regs .now) (a .counter .now) (a .bank) level (a .flags .now) spare in
-      later-not (a .f) (a .at) (a .counter .now) (a .bank) level spare (a .ram .now) (a .rom .now) s (c .before .before .before .before .before .before .before .before .before .before .before .before .before .before .before .before .pre) (a .more .now - l .left) (l .regs) (l .flags) (l .ram) (l .inv .4) (l .inv .5 level spare) (r .result) (r .last .1 .1 .1 .0) (r .last .1 .1 .0) (r .last .1 .1 .1 .1 .0) (r .ensures (a .counter .now) level spare)
-      (c .before .before .before .w .given .0 .0) (c .before .before .before .w .given .1) p
-      ∙ ap (λ (x : ℕ). leaves p (a .ram .now) (timesOf x s (a .ram .now) (a .rom .now))) k,
-    )
+returns-3 c = (
+  c .before .before .before .before .before .before .before .before .before .before .before .before .before .before .before .loop .inv .0,
+  λ level spare.
+      let a = c .before .before .before .before .before .before .before .before .before .before .before .before .before .before .before .before .before .before .before .before .args in
+      let r = c .before .before .before .before .before .before .before .before .before .before .before .round in
+      ap (λ (s : State). after Done s (r .last .1 .1 .1 .1 .0)) (c .ended .ensures level spare ∙ ap (λ (x : ℕ). endsAt (a .f) (a .at) (stateOf (r .last .1 .1 .1 .0) x (a .bank) level (r .last .1 .1 .0) spare)) (c .before .before .before .before .before .before .before .before .before .before .before .before .before .before .before .loop .inv .2))
+      ∙ ap (leaves (stateOf (a .regs .now) (a .counter .now) (a .bank) level (a .flags .now) spare) (a .ram .now)) (sym (done-of (c .before .before .before .before .before .before .before .before .before .before .before) level spare (c .before .before .before .before .before .before .before .enum-told .given .1))),
+)
 
 pub block-spec : {M : Type 1} → statement M
 block-spec =
@@ -156,17 +162,17 @@ block-spec =
     in-rom-requires
     loop-holds
     round-requires
+    enum-known-a
+    same-length
+    returns
+    add-more
+    same-length-2
+    returns-2
     enum-told
     again-requires
     sub-left
     loop-less
     loop-again
     ended-requires
-    same-length
-    returns
-    enum-known-w
-    same-length-2
-    returns-2
-    add-more
     same-length-3
     returns-3)

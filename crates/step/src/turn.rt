@@ -1,0 +1,182 @@
+// One call: what stands at the counter, done or refused, and further rounds of a form that goes on.
+ghost use mathlib.Core.Path.{_≡_};
+ghost use Prim.Native.Nat.{ℕ, suc, _-_};
+ghost use Rattle.memory.specs.Access.{codeAt};
+ghost use Rattle.state.specs.State.{stateOf};
+ghost use Rattle.code.specs.Listed.{decodeOf};
+ghost use Rattle.step.specs.Try.{after, leaves, andThen};
+ghost use Rattle.step.specs.Block.{roundOf, endsAt};
+ghost use Rattle.step.specs.Exec.{effectOf};
+ghost use Rattle.step.specs.Times.{timesOf, Fewer, Stands};
+use crate::block::again;
+use crate::block::ended;
+use crate::block::in_rom;
+use crate::block::round;
+use crate::compute::puts;
+use crate::control::control;
+use crate::control::short_jump;
+use crate::kind::Kind;
+use crate::kind::kind_of;
+use crate::operand::number_in;
+use crate::register::register;
+use crate::stack::stack;
+use answer::Answer;
+use answer::Why;
+use code::Decoded;
+use code::Form;
+use code::Instruction;
+use code::Op;
+use code::Operand;
+use code::first::size_of;
+use little::Size;
+
+// A round of the form that stands at an address, and as many more as there are steps for and the form goes on; the counter is
+// past it. In ROM the form stays what it is, so that it is not read again for each round.
+fn block(
+    f: Form,
+    at: u32,
+    bank: u8,
+    flags: &mut u8,
+    regs: &mut [u32; 20],
+    counter: &mut u32,
+    ram: &mut [u8],
+    rom: &[u8],
+    more: &mut u32,
+) -> Answer
+    requires { ⌜ Stands at (now counter) (now ram) (now rom) (λ s m. andThen (roundOf f s m (now rom)) (endsAt f at)) ⌝ }
+    ensures { λ a. ⌜ Fewer a (now (more .entry)) (now (more .exit)) ⌝ }
+    ensures { λ a. ⌜ ((level spare : ℕ) → after a (stateOf (now (regs .exit)) (now (counter .exit)) bank level (now (flags .exit)) spare) (now (ram .exit)) ≡ leaves (stateOf (now (regs .entry)) (now (counter .entry)) bank level (now (flags .entry)) spare) (now (ram .entry)) (timesOf (suc (now (more .entry) - now (more .exit))) (stateOf (now (regs .entry)) at bank level (now (flags .entry)) spare) (now (ram .entry)) (now (rom .entry)))) ⌝ }
+{
+    let stays = in_rom(ram.len(), rom.len(), at);
+    let mut left = *more;
+    loop {
+        let a = round(f, bank, &mut *flags, &mut *regs, &mut *ram, rom);
+        if let Answer::Refused(w) = a {
+            if left == *more {
+                return Answer::Refused(w);
+            }
+            // The rounds before it are done; the refused one is for the next call.
+            *more = left + 1;
+            *counter = at;
+            return Answer::Done;
+        }
+        if again(f, stays, left, bank, *flags, &*regs) {
+            left -= 1;
+        } else {
+            *counter = ended(f, at, bank, *flags, &*regs, *counter);
+            *more = left;
+            return Answer::Done;
+        }
+    }
+}
+
+// The counter is past the instruction, which stands at an address. Each kind's function is called here alone, so that the
+// compiler lays it into this one.
+fn effect(
+    op: Op,
+    size: Size,
+    operand: Operand,
+    at: u32,
+    regs: &mut [u32; 20],
+    counter: &mut u32,
+    bank: &mut u8,
+    flags: &mut u8,
+    spare: &mut u8,
+    ram: &mut [u8],
+    rom: &[u8],
+    more: &mut u32,
+) -> Answer
+    requires { ⌜ Stands at (now counter) (now ram) (now rom) (λ s m. effectOf op size operand at s m (now rom)) ⌝ }
+    ensures { λ a. ⌜ Fewer a (now (more .entry)) (now (more .exit)) ⌝ }
+    ensures { λ a. ⌜ ((level : ℕ) → after a (stateOf (now (regs .exit)) (now (counter .exit)) (now (bank .exit)) level (now (flags .exit)) (now (spare .exit))) (now (ram .exit)) ≡ leaves (stateOf (now (regs .entry)) (now (counter .entry)) (now (bank .entry)) level (now (flags .entry)) (now (spare .entry))) (now (ram .entry)) (timesOf (suc (now (more .entry) - now (more .exit))) (stateOf (now (regs .entry)) at (now (bank .entry)) level (now (flags .entry)) (now (spare .entry))) (now (ram .entry)) (now (rom .entry)))) ⌝ }
+{
+    let b = *bank;
+    match kind_of(op) {
+        Kind::Puts(how) => puts(how, size, operand, b, flags, regs, ram, rom),
+        Kind::Sets(r) => {
+            state::write(regs, b, size, r, number_in(operand));
+            Answer::Done
+        }
+        Kind::Controls(what) => {
+            control(what, number_in(operand), counter, bank, flags, spare);
+            Answer::Done
+        }
+        Kind::Stacks(what) => stack(what, size, operand, b, flags, regs, counter, ram, rom),
+        Kind::Blocks(f) => block(f, at, b, flags, regs, counter, ram, rom, more),
+    }
+}
+
+// A refused instruction leaves the counter at it.
+fn execute(
+    i: Instruction,
+    regs: &mut [u32; 20],
+    counter: &mut u32,
+    bank: &mut u8,
+    flags: &mut u8,
+    spare: &mut u8,
+    ram: &mut [u8],
+    rom: &[u8],
+    more: &mut u32,
+) -> Answer
+    requires { ⌜ decodeOf (codeAt (now ram) (now rom) (now counter)) ≡ Decoded.Whole i ⌝ }
+    ensures { λ a. ⌜ Fewer a (now (more .entry)) (now (more .exit)) ⌝ }
+    ensures { λ a. ⌜ ((level : ℕ) → after a (stateOf (now (regs .exit)) (now (counter .exit)) (now (bank .exit)) level (now (flags .exit)) (now (spare .exit))) (now (ram .exit)) ≡ leaves (stateOf (now (regs .entry)) (now (counter .entry)) (now (bank .entry)) level (now (flags .entry)) (now (spare .entry))) (now (ram .entry)) (timesOf (suc (now (more .entry) - now (more .exit))) (stateOf (now (regs .entry)) (now (counter .entry)) (now (bank .entry)) level (now (flags .entry)) (now (spare .entry))) (now (ram .entry)) (now (rom .entry)))) ⌝ }
+{
+    let here = *counter;
+    let n = (i.length % 16777216) as u32;
+    *counter = std::num::wrapping_add_u32(here, n) % 16777216;
+    let op = i.op;
+    let size = i.size;
+    let operand = i.operand;
+    match effect(
+        op,
+        size,
+        operand,
+        here,
+        regs,
+        &mut *counter,
+        bank,
+        flags,
+        spare,
+        ram,
+        rom,
+        more,
+    ) {
+        Answer::Done => Answer::Done,
+        Answer::Refused(w) => {
+            *counter = here;
+            Answer::Refused(w)
+        }
+    }
+}
+
+// What stands at the counter, done or refused, whatever the state is: the checks before it are the caller's. A form that goes on
+// may use some of the `more` steps that the caller has left. The state's parts lie apart and are changed where they lie.
+pub fn once(
+    regs: &mut [u32; 20],
+    counter: &mut u32,
+    bank: &mut u8,
+    flags: &mut u8,
+    spare: &mut u8,
+    ram: &mut [u8],
+    rom: &[u8],
+    more: &mut u32,
+) -> Answer
+    ensures { λ a. ⌜ Fewer a (now (more .entry)) (now (more .exit)) ⌝ }
+    ensures { λ a. ⌜ ((level : ℕ) → after a (stateOf (now (regs .exit)) (now (counter .exit)) (now (bank .exit)) level (now (flags .exit)) (now (spare .exit))) (now (ram .exit)) ≡ leaves (stateOf (now (regs .entry)) (now (counter .entry)) (now (bank .entry)) level (now (flags .entry)) (now (spare .entry))) (now (ram .entry)) (timesOf (suc (now (more .entry) - now (more .exit))) (stateOf (now (regs .entry)) (now (counter .entry)) (now (bank .entry)) level (now (flags .entry)) (now (spare .entry))) (now (ram .entry)) (now (rom .entry)))) ⌝ }
+{
+    let code = memory::fetch(&*ram, rom, *counter);
+    if code.len() == 0 {
+        return Answer::Refused(Why::NoCode);
+    }
+    let b = code[0];
+    match b / 8 {
+        12 | 13 => short_jump(code, b % 16, *flags, counter),
+        25 | 27 | 29 => register(code, size_of(b / 16), b % 8, *bank, flags, regs, counter),
+        _ => match code::decode(code) {
+            Decoded::Whole(i) => execute(i, regs, counter, bank, flags, spare, ram, rom, more),
+            Decoded::Short => Answer::Refused(Why::NoCode),
+            Decoded::Unlisted => Answer::Refused(Why::Unlisted),
+        },
+    }
+}
