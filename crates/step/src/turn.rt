@@ -151,7 +151,8 @@ fn execute(
 }
 
 // What stands at the counter, done or refused, whatever the state is: the checks before it are the caller's. A form that goes on
-// may use some of the `more` steps that the caller has left. The state's parts lie apart and are changed where they lie.
+// may use some of the `more` steps that the caller has left. The state's parts lie apart and are changed where they lie. Register
+// forms and short jumps are done as they are read: a firmware has many, and this is quickest.
 pub fn once(
     regs: &mut [u32; 20],
     counter: &mut u32,
