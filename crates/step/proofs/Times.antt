@@ -25,13 +25,13 @@ use Rattle.code.specs.declared.Decoded.{Decoded}
 use Rattle.code.specs.declared.Decoded.the-variants as decoded
 use Rattle.code.specs.declared.Form.{Form}
 use Rattle.code.specs.declared.Instruction.{Instruction}
-use Rattle.code.specs.declared.Op.{Op}
 use Rattle.code.specs.declared.Operand.{Operand}
+use Rattle.step.specs.declared.kind.Kind.{Kind}
 use Rattle.step.specs.declared.kind.Kind.the-variants.{Blocks}
 use Rattle.step.specs.Try.{Try, did, no, Outcome, after, leaves, andThen}
 use Rattle.step.specs.Block.{roundOf, goesOn, endsAt}
 use Rattle.step.specs.Exec.{effectOf, executedOf, pastOf}
-use Rattle.step.specs.Kind.{kindOf}
+use Rattle.step.specs.Kind.{kindOf, kindDone}
 use Rattle.step.specs.Step.{done, onceOf}
 use Rattle.step.specs.Times.{onward, timesOf, Fewer, Stands, inRom, againOf}
 use Rattle.step.proofs.Division.{effect-by}
@@ -95,20 +95,23 @@ module _ (at past : ℕ) (ram rom : List ℕ) where
       sym (times-one n (stateOf registers at bank level flags spare) ram rom ∙ h ram refl registers bank level flags spare)
 
   pub stands-block :
-      (op : Op) (z : Size) (o : Operand) (f : Form) → Stands at past ram rom (λ s m. effectOf op z o at s m rom) → kindOf op ≡ Blocks f
+      (k : Kind) (z : Size) (o : Operand) (f : Form) → Stands at past ram rom (λ s m. kindDone k z o at s m rom) → k ≡ Blocks f
       → Stands at past ram rom (λ s m. andThen (roundOf f s m rom) (endsAt f at))
-  stands-block op z o f h e m same registers bank level flags spare =
-      h m same registers bank level flags spare ∙ sym (effect-by op z o at (stateOf registers past bank level flags spare) m rom (Blocks f) e)
+  stands-block k z o f h e m same registers bank level flags spare =
+      h m same registers bank level flags spare
+      ∙ ap (λ (x : Kind). kindDone x z o at (stateOf registers past bank level flags spare) m rom) e
 
 pub stands-decoded :
-    (i : Instruction) (at r : ℕ) (ram rom : List ℕ) → decodeOf (codeAt ram rom at) ≡ decoded.Whole i → r ≡ (at + i .length % 16777216) % 2 ^ 32
-    → Stands at (r % 2 ^ 24) ram rom (λ s m. effectOf (i .op) (i .size) (i .operand) at s m rom)
+    (i : Instruction) (at r : ℕ) (ram rom : List ℕ) (k : Kind) → decodeOf (codeAt ram rom at) ≡ decoded.Whole i → r ≡ (at + i .length % 16777216) % 2 ^ 32
+    → k ≡ kindOf (i .op) → Stands at (r % 2 ^ 24) ram rom (λ s m. kindDone k (i .size) (i .operand) at s m rom)
 unfolding onceOf executedOf withCounter
-stands-decoded i at r ram rom d e m same registers bank level flags spare =
+stands-decoded i at r ram rom k d e g m same registers bank level flags spare =
     let s = stateOf registers at bank level flags spare in
+    let t = stateOf registers (r % 2 ^ 24) bank level flags spare in
     ap (λ (x : List ℕ). done (decodeOf x) s m rom) same
     ∙ ap (λ (x : Decoded). done x s m rom) d
     ∙ ap (λ (p : State). effectOf (i .op) (i .size) (i .operand) at p m rom) (sym (past-is (i .length) s r e))
+    ∙ sym (effect-by (i .op) (i .size) (i .operand) at t m rom k (sym g))
 
 -- ---- in ROM
 module _ (ram rom : List ℕ) (a : ℕ) where

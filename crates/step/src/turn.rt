@@ -6,7 +6,7 @@ ghost use Rattle.state.specs.State.{stateOf};
 ghost use Rattle.code.specs.Listed.{decodeOf};
 ghost use Rattle.step.specs.Try.{after, leaves, andThen};
 ghost use Rattle.step.specs.Block.{roundOf, endsAt};
-ghost use Rattle.step.specs.Exec.{effectOf};
+ghost use Rattle.step.specs.Kind.{kindDone};
 ghost use Rattle.step.specs.Times.{timesOf, Fewer, Stands};
 use crate::block::again;
 use crate::block::ended;
@@ -25,7 +25,6 @@ use answer::Why;
 use code::Decoded;
 use code::Form;
 use code::Instruction;
-use code::Op;
 use code::Operand;
 use code::first::size_of;
 use little::Size;
@@ -70,10 +69,10 @@ fn block(
     }
 }
 
-// The counter is past the instruction, which stands at an address. Each kind's function is called here alone, so that the
-// compiler lays it into this one.
+// The work of a kind. The counter is past the instruction, which stands at an address. Each kind's function is called here
+// alone, so that the compiler lays it into this one.
 fn effect(
-    op: Op,
+    kind: Kind,
     size: Size,
     operand: Operand,
     at: u32,
@@ -86,12 +85,12 @@ fn effect(
     rom: &[u8],
     more: &mut u32,
 ) -> Answer
-    requires { ⌜ Stands at (now counter) (now ram) (now rom) (λ s m. effectOf op size operand at s m (now rom)) ⌝ }
+    requires { ⌜ Stands at (now counter) (now ram) (now rom) (λ s m. kindDone kind size operand at s m (now rom)) ⌝ }
     ensures { λ a. ⌜ Fewer a (now (more .entry)) (now (more .exit)) ⌝ }
     ensures { λ a. ⌜ ((level : ℕ) → after a (stateOf (now (regs .exit)) (now (counter .exit)) (now (bank .exit)) level (now (flags .exit)) (now (spare .exit))) (now (ram .exit)) ≡ leaves (stateOf (now (regs .entry)) (now (counter .entry)) (now (bank .entry)) level (now (flags .entry)) (now (spare .entry))) (now (ram .entry)) (timesOf (suc (now (more .entry) - now (more .exit))) (stateOf (now (regs .entry)) at (now (bank .entry)) level (now (flags .entry)) (now (spare .entry))) (now (ram .entry)) (now (rom .entry)))) ⌝ }
 {
     let b = *bank;
-    match kind_of(op) {
+    match kind {
         Kind::Puts(how) => puts(how, size, operand, b, flags, regs, ram, rom),
         Kind::Sets(r) => {
             state::write(regs, b, size, r, number_in(operand));
@@ -126,10 +125,11 @@ fn execute(
     let n = (i.length % 16777216) as u32;
     *counter = std::num::wrapping_add_u32(here, n) % 16777216;
     let op = i.op;
+    let kind = kind_of(op);
     let size = i.size;
     let operand = i.operand;
     match effect(
-        op,
+        kind,
         size,
         operand,
         here,

@@ -18,10 +18,13 @@ cast-n c = search needs
 wrapping-add-u32-requires : tie.Need-wrapping-add-u32-requires
 wrapping-add-u32-requires c κs = search needs
 
+kind-of-requires : tie.Need-kind-of-requires
+kind-of-requires c κs = search needs
+
 effect-requires : tie.Need-effect-requires
 effect-requires c κs =
-    let a = c .before .before .before .before .before .before .before .before .before .before .before .before .args in
-    stands-decoded (a .i) (a .counter .now) (c .before .before .before .before .before .before .before .wrapping-add-u32 .result) (a .ram .now) (a .rom .now) (c .before .before .before .before .before .before .before .before .before .before .before .before .pre) (c .before .before .before .before .before .before .before .wrapping-add-u32 .ensures)
+    let a = c .before .before .before .before .before .before .before .before .before .before .before .before .before .args in
+    stands-decoded (a .i) (a .counter .now) (c .before .before .before .before .before .before .before .before .wrapping-add-u32 .result) (a .ram .now) (a .rom .now) (c .before .before .before .before .before .before .before .kind-of .result) (c .before .before .before .before .before .before .before .before .before .before .before .before .before .pre) (c .before .before .before .before .before .before .before .before .wrapping-add-u32 .ensures) (c .before .before .before .before .before .before .before .kind-of .ensures)
 
 enum-told : tie.Need-enum-told
 enum-told c = search needs
@@ -35,12 +38,12 @@ same-length c = search needs
 returns : tie.Need-returns
 unfolding withCounter
 returns c = (
-  subst (λ (x : Answer). Fewer x (c .before .before .before .before .before .before .before .before .before .before .before .before .before .before .before .before .before .args .more .now) (c .before .before .before .before .effect .last .1 .1 .1 .1 .1 .1 .1 .1 .1 .1 .1 .0)) (c .enum-told .given .1) (c .before .before .before .before .effect .ensures .0),
+  subst (λ (x : Answer). Fewer x (c .before .before .before .before .before .before .before .before .before .before .before .before .before .before .before .before .before .before .args .more .now) (c .before .before .before .before .effect .last .1 .1 .1 .1 .1 .1 .1 .1 .1 .1 .1 .0)) (c .enum-told .given .1) (c .before .before .before .before .effect .ensures .0),
   λ level.
-      let a = c .before .before .before .before .before .before .before .before .before .before .before .before .before .before .before .before .before .args in
+      let a = c .before .before .before .before .before .before .before .before .before .before .before .before .before .before .before .before .before .before .args in
       let i = a .i in
       let s = stateOf (a .regs .now) (a .counter .now) (a .bank .now) level (a .flags .now) (a .spare .now) in
-      let p : stateOf (a .regs .now) (c .before .before .before .before .before .before .before .before .before .before .before .before .wrapping-add-u32 .result % 16777216) (a .bank .now) level (a .flags .now) (a .spare .now) ≡ pastOf (i .length) s = past-is (i .length) s (c .before .before .before .before .before .before .before .before .before .before .before .before .wrapping-add-u32 .result) (c .before .before .before .before .before .before .before .before .before .before .before .before .wrapping-add-u32 .ensures) in
+      let p : stateOf (a .regs .now) (c .before .before .before .before .before .before .before .before .before .before .before .before .before .wrapping-add-u32 .result % 16777216) (a .bank .now) level (a .flags .now) (a .spare .now) ≡ pastOf (i .length) s = past-is (i .length) s (c .before .before .before .before .before .before .before .before .before .before .before .before .before .wrapping-add-u32 .result) (c .before .before .before .before .before .before .before .before .before .before .before .before .before .wrapping-add-u32 .ensures) in
       let l = c .before .before .before .before .effect .last .1 .1 .1 .1 in
       let u = stateOf (l .0) (l .1 .0) (l .1 .1 .0) level (l .1 .1 .1 .0) (l .1 .1 .1 .1 .0) in
       let m = l .1 .1 .1 .1 .1 .0 in
@@ -57,12 +60,12 @@ same-length-2 c = search needs
 returns-2 : tie.Need-returns-2
 unfolding withCounter
 returns-2 c = (
-  subst (λ (x : Answer). Fewer x (c .before .before .before .before .before .before .before .before .before .before .before .before .before .before .before .before .before .before .args .more .now) (c .before .before .before .before .before .effect .last .1 .1 .1 .1 .1 .1 .1 .1 .1 .1 .1 .0)) (c .before .w .given .1) (c .before .before .before .before .before .effect .ensures .0),
+  subst (λ (x : Answer). Fewer x (c .before .before .before .before .before .before .before .before .before .before .before .before .before .before .before .before .before .before .before .args .more .now) (c .before .before .before .before .before .effect .last .1 .1 .1 .1 .1 .1 .1 .1 .1 .1 .1 .0)) (c .before .w .given .1) (c .before .before .before .before .before .effect .ensures .0),
   λ level.
-      let a = c .before .before .before .before .before .before .before .before .before .before .before .before .before .before .before .before .before .before .args in
+      let a = c .before .before .before .before .before .before .before .before .before .before .before .before .before .before .before .before .before .before .before .args in
       let i = a .i in
       let s = stateOf (a .regs .now) (a .counter .now) (a .bank .now) level (a .flags .now) (a .spare .now) in
-      let p : stateOf (a .regs .now) (c .before .before .before .before .before .before .before .before .before .before .before .before .before .wrapping-add-u32 .result % 16777216) (a .bank .now) level (a .flags .now) (a .spare .now) ≡ pastOf (i .length) s = past-is (i .length) s (c .before .before .before .before .before .before .before .before .before .before .before .before .before .wrapping-add-u32 .result) (c .before .before .before .before .before .before .before .before .before .before .before .before .before .wrapping-add-u32 .ensures) in
+      let p : stateOf (a .regs .now) (c .before .before .before .before .before .before .before .before .before .before .before .before .before .before .wrapping-add-u32 .result % 16777216) (a .bank .now) level (a .flags .now) (a .spare .now) ≡ pastOf (i .length) s = past-is (i .length) s (c .before .before .before .before .before .before .before .before .before .before .before .before .before .before .wrapping-add-u32 .result) (c .before .before .before .before .before .before .before .before .before .before .before .before .before .before .wrapping-add-u32 .ensures) in
       let l = c .before .before .before .before .before .effect .last .1 .1 .1 .1 in
       let u = stateOf (l .0) (l .1 .0) (l .1 .1 .0) level (l .1 .1 .1 .0) (l .1 .1 .1 .1 .0) in
       let m = l .1 .1 .1 .1 .1 .0 in
@@ -79,6 +82,7 @@ execute-spec =
     (tie.spec
     cast-n
     wrapping-add-u32-requires
+    kind-of-requires
     effect-requires
     enum-told
     enum-known-w
