@@ -44,6 +44,7 @@ pub const GROUPS: &[Group] = &[
     Group("block-rounds", blocks::rounds),
     Group("overlapping-copies", blocks::overlapping_copies),
     Group("repeats-by-hand", blocks::repeats_by_hand),
+    Group("repeats-cut-short", blocks::repeats_cut_short),
     Group("large-repeats", blocks::large_repeats),
     Group("record-bits", records::bits),
     Group("record-lengths", records::lengths),

@@ -179,6 +179,45 @@ fn rounds_by_hand(bench: &mut Bench, code: [u8; 2], case: &mut Case) -> (u32, u8
     }
 }
 
+/// A repeating form whose steps run out in the middle, and goes on in the
+/// next call, to its end: each call against the second interpreter, and all
+/// together against one call.
+pub fn repeats_cut_short(bench: &mut Bench) {
+    for _ in 0..4_000 * bench.rounds {
+        let mut code = block_code(&mut bench.chance);
+        code[1] |= 1;
+        let case = repeat_case(&mut bench.chance, code);
+        repeat_in_pieces(bench, case);
+        if bench.judge.weary() {
+            return;
+        }
+    }
+}
+
+fn repeat_in_pieces(bench: &mut Bench, case: Case) {
+    const STEPS: u32 = 200;
+    let mut at_once = case.clone();
+    let whole = bench.judge.hold_and_carry(&mut at_once);
+
+    let mut in_pieces = case.clone();
+    let mut count = 0;
+    let mut number = 0;
+    while number == 0 && count < STEPS {
+        let piece = (1 + bench.chance.below(12)).min(STEPS - count);
+        in_pieces.call = Call::Run(piece);
+        let answer = bench.judge.hold_and_carry(&mut in_pieces);
+        count += answer.count;
+        number = answer.number;
+    }
+    let agreed = whole.count == count
+        && whole.number == number
+        && at_once.record == in_pieces.record
+        && at_once.ram == in_pieces.ram;
+    bench.judge.expect(agreed, || {
+        format!("a repeat is not its pieces: --case '{}'", case.text())
+    });
+}
+
 /// Repeats of up to 65,536 rounds over the largest memories, against a loop
 /// of single forms in code.
 pub fn large_repeats(bench: &mut Bench) {
