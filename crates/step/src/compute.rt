@@ -28,7 +28,7 @@ pub struct Work {
     pub into: Operand,
 }
 
-// A result with its flags as the byte F: small enough to be returned in registers.
+// A result with its flags as the byte F: two things to hand back, not a value and six flags.
 pub struct Packed {
     pub value: u32,
     pub flags: u8,

@@ -104,6 +104,11 @@ fn copy_apart(bench: &mut Bench, code: [u8; 2], to: u8, from: u8, apart: u32) {
     }
 }
 
+/// Whether two cases have come to the same state and RAM.
+fn alike(one: &Case, other: &Case) -> bool {
+    one.record == other.record && one.ram == other.ram
+}
+
 /// A repeating form run to its end, against its single form stepped by hand
 /// with the counter put back after every round.
 pub fn repeats_by_hand(bench: &mut Bench) {
@@ -148,10 +153,7 @@ fn repeat_by_hand(bench: &mut Bench, code: [u8; 2], case: Case) {
     by_hand.call = Call::Step;
     by_hand.rom = rom_with(&[code[0], code[1] & !1]);
     let (rounds, number) = rounds_by_hand(bench, code, &mut by_hand);
-    let agreed = answer.count == rounds
-        && answer.number == number
-        && at_once.record == by_hand.record
-        && at_once.ram == by_hand.ram;
+    let agreed = (answer.count, answer.number) == (rounds, number) && alike(&at_once, &by_hand);
     bench.judge.expect(agreed, || {
         format!("a repeat is not its rounds: --case '{}'", case.text())
     });
@@ -209,10 +211,7 @@ fn repeat_in_pieces(bench: &mut Bench, case: Case) {
         count += answer.count;
         number = answer.number;
     }
-    let agreed = whole.count == count
-        && whole.number == number
-        && at_once.record == in_pieces.record
-        && at_once.ram == in_pieces.ram;
+    let agreed = (whole.count, whole.number) == (count, number) && alike(&at_once, &in_pieces);
     bench.judge.expect(agreed, || {
         format!("a repeat is not its pieces: --case '{}'", case.text())
     });
@@ -270,10 +269,8 @@ fn large_repeat(bench: &mut Bench, count: u32, code: [u8; 2]) {
     let in_a_loop = bench.judge.hold_and_carry(&mut looped);
     let past = aim::get_long(&repeat.record, COUNTER);
     aim::put_long(&mut looped.record, COUNTER, ROM_START + 2);
-    let same = past == ROM_START + 2
-        && at_once.number == in_a_loop.number
-        && repeat.record == looped.record
-        && repeat.ram == looped.ram;
+    let same =
+        past == ROM_START + 2 && at_once.number == in_a_loop.number && alike(&repeat, &looped);
     bench.judge.expect(same, || {
         format!("a repeat is not a loop of rounds: --case '{text}'")
     });
