@@ -49,7 +49,7 @@ Open (number n f) = ((v : ℕ) → Can (f v)) × ((v : ℕ) → Open (f v))
 abbrev Ends : Said → List ℕ → ℕ → Type 0
 Ends j s i = (t : List ℕ) × (x : Instruction) × (Bytes t) × (judge j (s ++ t) i ≡ Whole x)
 
-bytes-append : (p q : List ℕ) → Bytes p → Bytes q → Bytes (p ++ q)
+pub bytes-append : (p q : List ℕ) → Bytes p → Bytes q → Bytes (p ++ q)
 bytes-append [] q g h k = h k
 bytes-append (b ∷ p) q g h zero = g 0
 bytes-append (b ∷ p) q g h (suc k) = bytes-append p q (λ j. g (suc j)) h k

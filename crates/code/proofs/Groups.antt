@@ -75,7 +75,7 @@ not-both : (kss : List (List ℕ)) (x : ℕ) → Missed kss x → matched kss x 
 not-both [] x m e = let z : _≡_ {A = ℕ} 0 1 = cc in omega arith
 not-both (ks ∷ kss) x m e = elim (or-cases (hasKey ks x) (matched kss x) e) [ inl t ↦ m .1 (hit ks x t) | inr f ↦ not-both kss x (m .0) f ]
 
-same-or-not : (x y : ℕ) → (x ≡ y) ⊎ (x ≡ y → ⊥)
+pub same-or-not : (x y : ℕ) → (x ≡ y) ⊎ (x ≡ y → ⊥)
 same-or-not x y = go (eqb x y) refl
   where
     go : (t : Bool) → eqb x y ≡ t → (x ≡ y) ⊎ (x ≡ y → ⊥)

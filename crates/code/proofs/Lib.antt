@@ -11,3 +11,9 @@ pub mod Ranges
 pub mod Begins
 pub mod Keeps
 pub mod Kept
+pub mod Holds
+pub mod Tables
+pub mod Says
+pub mod EachByte
+pub mod ReadsBack
+pub mod Exact

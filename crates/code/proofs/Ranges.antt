@@ -25,7 +25,7 @@ use Rattle.code.specs.Rows.{Row, lookup, byRows}
 use Rattle.code.specs.Registers.{registerRows, placesRows, notByte, shiftOf}
 use Rattle.code.specs.Memory.{form, memoryRows, storeRows, copies, compares, blocks, blockRows, indirectRows}
 use Rattle.code.specs.Listed.{formWith, absoluteRows, bankNumberRows, bankRows, flagRows, constantRows, stackRows, jumpRows, relativeRows, registerFormRows, memoryFormRows, memoryAtRows, storeFormRows, firstRows, decodeOf}
-use Rattle.code.specs.Range.{InRange, MemoryIn, PlaceIn, NotByte, NotLong, PointersIn, placeBytes, lengthOf}
+use Rattle.code.specs.Range.{Holds, InRange, memoryRange, placeRange, noByte, NotLong, PointersIn, placeBytes, lengthOf}
 use Rattle.code.specs.Laws.{LengthFits, LengthIs, Ranges, BlockLength}
 use Rattle.code.specs.declared.Instruction.{Instruction}
 use Rattle.code.specs.declared.Decoded.the-variants.{Whole}
@@ -43,7 +43,7 @@ run-in lo hi b = go (leb lo b) (leb b hi) refl refl
     go true false e f h = let z : _≡_ {A = ℕ} 0 1 = cc in let y : ⊥ = omega arith in absurd y
     go false u e f h = let z : _≡_ {A = ℕ} 0 1 = cc in let y : ⊥ = omega arith in absurd y
 
-place-in : (o : Operand) → MemoryIn o → PlaceIn o
+place-in : (o : Operand) → Holds (memoryRange o) → Holds (placeRange o)
 place-in (Register r) h = absurd h
 place-in (Constant v) h = absurd h
 place-in (Memory m) h = h
@@ -64,7 +64,7 @@ module _ (Y : Type 0) where
   unfolding placesRows
   places-rows z r shift q = (λ b h k. let x = run-in 0 15 b h in (omega arith, refl, λ y. (omega arith, q)), tt)
 
-  extension : (op : Op) (z : Size) (r : ℕ) → ((z : Size) → Y → NotByte z → InRange op z (Register r)) → ((z : Size) → lengthOf op z (Register r) ≡ 2) → Every Fit Fine (notByte z (whole op z (Register r))) 2
+  extension : (op : Op) (z : Size) (r : ℕ) → ((z : Size) → Y → Holds (noByte z) → InRange op z (Register r)) → ((z : Size) → lengthOf op z (Register r) ≡ 2) → Every Fit Fine (notByte z (whole op z (Register r))) 2
   extension op Byte r q l = tt
   extension op Word r q l = (omega arith, sym (l Word), λ y. q Word y tt)
   extension op Long r q l = (omega arith, sym (l Long), λ y. q Long y tt)
@@ -106,7 +106,7 @@ module _ (Y : Type 0) where
       )
 
   -- ---- memory forms
-  module _ (z : Size) (o : Operand) (i : ℕ) (l : i ≤ 6) (e : i ≡ placeBytes o + 1) (q : Y → MemoryIn o) where
+  module _ (z : Size) (o : Operand) (i : ℕ) (l : i ≤ 6) (e : i ≡ placeBytes o + 1) (q : Y → Holds (memoryRange o)) where
     memory-rows : Rows (memoryRows z o) i
     unfolding memoryRows
     memory-rows = (
@@ -190,10 +190,10 @@ module _ (Y : Type 0) where
       more Long = tt
 
   -- the same with a number: of memory and of stores
-  displaced : (rows : Operand → List Row) (r : ℕ) → r < 8 → ((o : Operand) (i : ℕ) → i ≤ 6 → i ≡ placeBytes o + 1 → (Y → MemoryIn o) → Rows (rows o) i) → Every Fit Fine (formWith (Displaced r) 1 rows) 1
+  displaced : (rows : Operand → List Row) (r : ℕ) → r < 8 → ((o : Operand) (i : ℕ) → i ≤ 6 → i ≡ placeBytes o + 1 → (Y → Holds (memoryRange o)) → Rows (rows o) i) → Every Fit Fine (formWith (Displaced r) 1 rows) 1
   displaced rows r q f v g = by-rows Fit Fine (rows (form (Displaced r) v)) 2 (f (form (Displaced r) v) 3 (omega arith) refl (λ y. (q, g y)))
 
-  absolute : (a : ℕ) (rows : Operand → List Row) → ((o : Operand) (i : ℕ) → i ≤ 6 → i ≡ placeBytes o + 1 → (Y → MemoryIn o) → Rows (rows o) i) → Rows (absoluteRows a rows) 1
+  absolute : (a : ℕ) (rows : Operand → List Row) → ((o : Operand) (i : ℕ) → i ≤ 6 → i ≡ placeBytes o + 1 → (Y → Holds (memoryRange o)) → Rows (rows o) i) → Rows (absoluteRows a rows) 1
   unfolding absoluteRows
   absolute a rows f = (
     λ b h k v g. by-rows Fit Fine (rows (form Absolute8 v)) 2 (f (form Absolute8 v) 3 (omega arith) refl (λ y. g y)),
@@ -209,15 +209,15 @@ module _ (Y : Type 0) where
   -- ---- the first byte
   bank-number-rows : Rows bankNumberRows 2
   unfolding bankNumberRows
-  bank-number-rows = (λ b h k. let x = run-in 0 3 b h in (omega arith, refl, λ y. omega arith), tt)
+  bank-number-rows = (λ b h k. let x = run-in 0 3 b h in (omega arith, refl, λ y. (tt, omega arith)), tt)
 
   bank-rows : Rows bankRows 1
   unfolding bankRows
-  bank-rows = (λ b h k. (omega arith, refl, λ y. omega arith), (λ b h k. (omega arith, refl, λ y. omega arith), (λ b h k. (omega arith, refl, λ y. omega arith), (λ b h k. by-rows Fit Fine bankNumberRows 1 bank-number-rows, tt))))
+  bank-rows = (λ b h k. (omega arith, refl, λ y. (tt, omega arith)), (λ b h k. (omega arith, refl, λ y. (tt, omega arith)), (λ b h k. (omega arith, refl, λ y. (tt, omega arith)), (λ b h k. by-rows Fit Fine bankNumberRows 1 bank-number-rows, tt))))
 
   flag-rows : Rows flagRows 1
   unfolding flagRows
-  flag-rows = (λ b h k. (omega arith, refl, λ y. omega arith), (λ b h k. (omega arith, refl, λ y. omega arith), (λ b h k. (omega arith, refl, λ y. omega arith), (λ b h k. (omega arith, refl, λ y. omega arith), (λ b h k. (omega arith, refl, λ y. omega arith), (λ b h k. (omega arith, refl, λ y. omega arith), (λ b h k. (omega arith, refl, λ y. omega arith), tt)))))))
+  flag-rows = (λ b h k. (omega arith, refl, λ y. (tt, omega arith)), (λ b h k. (omega arith, refl, λ y. (tt, omega arith)), (λ b h k. (omega arith, refl, λ y. (tt, omega arith)), (λ b h k. (omega arith, refl, λ y. (tt, omega arith)), (λ b h k. (omega arith, refl, λ y. (tt, omega arith)), (λ b h k. (omega arith, refl, λ y. (tt, omega arith)), (λ b h k. (omega arith, refl, λ y. (tt, omega arith)), tt)))))))
 
   constant-rows : Rows constantRows 1
   unfolding constantRows
@@ -241,11 +241,11 @@ module _ (Y : Type 0) where
 
   jump-rows : Rows jumpRows 1
   unfolding jumpRows
-  jump-rows = (λ b h k v g. (omega arith, refl, λ y. g y), (λ b h k v g. (omega arith, refl, λ y. g y), (λ b h k v g. (omega arith, refl, λ y. g y), (λ b h k v g. (omega arith, refl, λ y. g y), (λ b h k v g. (omega arith, refl, λ y. g y), (λ b h k. (omega arith, refl, λ y. omega arith), tt))))))
+  jump-rows = (λ b h k v g. (omega arith, refl, λ y. (tt, g y)), (λ b h k v g. (omega arith, refl, λ y. (tt, g y)), (λ b h k v g. (omega arith, refl, λ y. (tt, g y)), (λ b h k v g. (omega arith, refl, λ y. (tt, g y)), (λ b h k v g. (omega arith, refl, λ y. (tt, g y)), (λ b h k. (omega arith, refl, λ y. (tt, omega arith)), tt))))))
 
   relative-rows : Rows relativeRows 1
   unfolding relativeRows
-  relative-rows = (λ b h k v g. (omega arith, refl, λ y. (mod-lt b (omega arith), g y)), (λ b h k v g. (omega arith, refl, λ y. (mod-lt b (omega arith), g y)), tt))
+  relative-rows = (λ b h k v g. (omega arith, refl, λ y. (mod-lt b (omega arith), (tt, g y))), (λ b h k v g. (omega arith, refl, λ y. (mod-lt b (omega arith), (tt, g y))), tt))
 
   register-form-rows : Rows registerFormRows 1
   unfolding registerFormRows

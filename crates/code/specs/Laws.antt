@@ -1,15 +1,21 @@
 -- What holds of every code: statements, each proved in proofs/.
 use Prim.Native.Nat.{ℕ, _<_, _≤_}
 use mathlib.Core.Path.{_≡_}
+use mathlib.Core.Bool.{true}
+use mathlib.Core.Logic.{_↔_}
 use mathlib.Core.List.{List, [], _∷_, _++_}
 use lib.ListN.{length, getD, take}
+use Rattle.little.specs.declared.Size.{Size}
 use Rattle.code.specs.declared.Form.{Form}
+use Rattle.code.specs.declared.Op.{Op}
 use Rattle.code.specs.declared.Op.the-variants.{Block}
+use Rattle.code.specs.declared.Operand.{Operand}
 use Rattle.code.specs.declared.Instruction.{Instruction}
 use Rattle.code.specs.declared.Decoded.the-variants.{Whole, Short, Unlisted}
 use Rattle.little.specs.Bytes.{Bytes}
 use Rattle.code.specs.Listed.{decodeOf}
-use Rattle.code.specs.Range.{InRange, lengthOf}
+use Rattle.code.specs.Said.{wholeOf}
+use Rattle.code.specs.Range.{inRange, InRange, lengthOf}
 use Rattle.code.specs.Written.{codeOf}
 
 -- an instruction has 1 to 6 bytes, and they are all there
@@ -44,6 +50,16 @@ ShortBegins = (s : List ℕ) → decodeOf s ≡ Short → (t : List ℕ) × (i :
 abbrev pub Ranges : Type 0
 Ranges = (s : List ℕ) (i : Instruction) → Bytes s → decodeOf s ≡ Whole i → InRange (i .op) (i .size) (i .operand)
 
+-- the range as a test and as a statement
+abbrev pub RangeTest : Type 0
+RangeTest = (op : Op) (z : Size) (o : Operand) → (inRange op z o ≡ true) ↔ InRange op z o
+
+-- an instruction is within its range exactly where some bytes are that instruction
+abbrev pub RangeExact : Type 0
+RangeExact =
+    (op : Op) (z : Size) (o : Operand) →
+    (inRange op z o ≡ true) ↔ ((s : List ℕ) × (n : ℕ) × (Bytes s) × (decodeOf s ≡ wholeOf op z o n))
+
 -- the length is that of the operation and its operand
 abbrev pub LengthIs : Type 0
 LengthIs = (s : List ℕ) (i : Instruction) → decodeOf s ≡ Whole i → i .length ≡ lengthOf (i .op) (i .size) (i .operand)
@@ -57,6 +73,22 @@ abbrev pub NoTwins : Type 0
 NoTwins =
     (s t : List ℕ) (i : Instruction) → Bytes s → Bytes t → decodeOf s ≡ Whole i → decodeOf t ≡ Whole i →
     take (i .length) s ≡ take (i .length) t
+
+-- an instruction within its range is what its bytes are, whatever comes after them
+abbrev pub ReadsBack : Type 0
+ReadsBack =
+    (op : Op) (z : Size) (o : Operand) (t : List ℕ) → inRange op z o ≡ true →
+    decodeOf (codeOf op z o ++ t) ≡ wholeOf op z o (length (codeOf op z o))
+
+-- they are bytes, as many as its length
+abbrev pub CodeFits : Type 0
+CodeFits = (op : Op) (z : Size) (o : Operand) → inRange op z o ≡ true → (Bytes (codeOf op z o)) × (length (codeOf op z o) ≡ lengthOf op z o)
+
+-- no instruction's bytes begin another's, and no two instructions have the same bytes
+abbrev pub NoneBegins : Type 0
+NoneBegins =
+    (op op′ : Op) (z z′ : Size) (o o′ : Operand) (t : List ℕ) → inRange op z o ≡ true → inRange op′ z′ o′ ≡ true →
+    codeOf op z o ++ t ≡ codeOf op′ z′ o′ → (op ≡ op′) × (z ≡ z′) × (o ≡ o′) × (t ≡ [])
 
 -- a copy or a compare has two bytes
 abbrev pub BlockLength : Type 0

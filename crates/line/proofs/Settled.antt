@@ -3,7 +3,7 @@ use mathlib.Core.Path.{refl, sym, _∙_}
 use Rattle.little.specs.Bytes.{valueOf}
 use Rattle.memory.specs.Access.{loadOf, codeAt}
 use Rattle.memory.specs.Place.{placeOf}
-use Rattle.state.specs.Register.{getBits, setBits, getSlot, setSlot, slotOf, getRegister, setRegister}
+use Rattle.state.specs.Register.{getBits, setBits, slotIn, setSlot, slotOf, registerAt, setRegister}
 use Rattle.state.specs.State.{zeroState, resetState, validOf, longOf, withLong, withCounter, withBothFlags, withFlags}
 use Rattle.alu.specs.Flag.{byteOf, flagsOf}
 use Rattle.alu.specs.Operation.{operated}
@@ -14,7 +14,7 @@ use Rattle.code.specs.Rows.{lookup}
 use Rattle.code.specs.Said.{numberAt, judge}
 use Rattle.step.specs.Exec.{pastOf, effectOf, executedOf}
 use Rattle.step.specs.Flag.{flagged}
-use Rattle.step.specs.Operand.{valueAt, storing}
+use Rattle.step.specs.Operand.{valueIn, storing}
 use Rattle.step.specs.Reset.{resetOf}
 use Rattle.step.specs.Step.{guarded, onceOf, tryOf}
 use Rattle.run.specs.Run.{goOf, runOf}
@@ -26,5 +26,5 @@ pub settled : Settled
 settled image r r' e f = e ∙ sym f
 
 pub example-line : ExampleLine
-unfolding valueOf loadOf codeAt placeOf getBits setBits getSlot setSlot slotOf getRegister setRegister zeroState resetState validOf longOf withLong withCounter withBothFlags withFlags byteOf flagsOf operated computedOf sumOf bankNumberRows bankRows flagRows constantRows stackRows jumpRows relativeRows registerFormRows absoluteRows memoryFormRows memoryAtRows storeFormRows firstRows decodeOf placesRows registerRows lookup numberAt judge pastOf effectOf executedOf flagged valueAt storing resetOf guarded onceOf tryOf goOf runOf ranLine lineFor hexOf decimalIn
+unfolding valueOf loadOf codeAt placeOf getBits setBits slotIn setSlot slotOf registerAt setRegister zeroState resetState validOf longOf withLong withCounter withBothFlags withFlags byteOf flagsOf operated computedOf sumOf bankNumberRows bankRows flagRows constantRows stackRows jumpRows relativeRows registerFormRows absoluteRows memoryFormRows memoryAtRows storeFormRows firstRows decodeOf placesRows registerRows lookup numberAt judge pastOf effectOf executedOf flagged valueIn storing resetOf guarded onceOf tryOf goOf runOf ranLine lineFor hexOf decimalIn
 example-line = refl

@@ -1,5 +1,5 @@
 -- Loads, stores and fetches.
-use Prim.Native.Nat.{ℕ}
+use Prim.Native.Nat.{ℕ, _+_}
 use mathlib.Core.List.{List, []}
 use lib.ListN.{length, take, drop}
 use Rattle.answer.specs.declared.Answer.{Answer}
@@ -57,3 +57,9 @@ codeFrom Missing ram rom = []
 -- the same by address; empty where there is no memory
 unfoldable pub codeAt : List ℕ → List ℕ → ℕ → List ℕ
 codeAt ram rom a = codeFrom (placeOf (length ram) (length rom) a 1) ram rom
+
+-- where code stands: in the memory that holds it, at its offset; with no memory, where ROM begins
+abbrev pub standsAt : Place → ℕ × ℕ → ℕ × ℕ → ℕ × ℕ
+standsAt (Ram o) ram rom = (ram .0, o + ram .1)
+standsAt (Rom o) ram rom = (rom .0, o + rom .1)
+standsAt Missing ram rom = rom

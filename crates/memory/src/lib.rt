@@ -1,8 +1,9 @@
 // The two memories: where an operand lies, loads and stores, and the part of a memory that holds code.
 ghost use mathlib.Core.Path.{_≡_};
 ghost use lib.ListN.{length};
+ghost use denote.Ref.{ptr};
 ghost use Rattle.memory.specs.Place.{placeOf};
-ghost use Rattle.memory.specs.Access.{loadOf, storeOf, ramAfter, codeAt};
+ghost use Rattle.memory.specs.Access.{loadOf, storeOf, ramAfter, codeAt, standsAt};
 use answer::Answer;
 use answer::Why;
 use little::Size;
@@ -91,6 +92,7 @@ pub fn store(ram: &mut [u8], rom: &[u8], address: u32, size: Size, v: u32) -> An
 // What stands from an address to the end of the memory that holds it: a part of that memory, never a copy.
 pub fn fetch<'a>(ram: &'a [u8], rom: &'a [u8], address: u32) -> &'a [u8]
     ensures { λ r. ⌜ now r ≡ codeAt (now (ram .entry)) (now (rom .entry)) address ⌝ }
+    ensures { λ r. ⌜ ptr r ≡ standsAt (placeOf (length (now (ram .entry))) (length (now (rom .entry))) address 1) (ptr (ram .entry)) (ptr (rom .entry)) ⌝ }
 {
     match find(ram.len(), rom.len(), address, 1) {
         Place::Ram(o) => &ram[o..],

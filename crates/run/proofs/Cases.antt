@@ -12,13 +12,13 @@ use Rattle.little.specs.Bytes.{valueOf, bytesFrom, replaced}
 use Rattle.memory.specs.Place.{placeOf}
 use Rattle.memory.specs.Access.{loadOf, storeOf, ramAfter, codeAt}
 use Rattle.state.specs.State.{zeroState, resetState, validOf, longOf, withLong, withCounter, withBank, withBothFlags, withFlags}
-use Rattle.state.specs.Register.{getBits, setBits, getSlot, setSlot, slotOf, getRegister, setRegister}
+use Rattle.state.specs.Register.{getBits, setBits, slotIn, setSlot, slotOf, registerAt, setRegister}
 use Rattle.code.specs.Said.{numberAt, judge}
 use Rattle.code.specs.Rows.{lookup}
 use Rattle.code.specs.Registers.{placesRows, registerRows}
 use Rattle.code.specs.Memory.{memoryRows, storeRows, copies, compares, blocks, indirectRows}
 use Rattle.code.specs.Listed.{bankNumberRows, bankRows, flagRows, constantRows, stackRows, jumpRows, relativeRows, registerFormRows, absoluteRows, memoryFormRows, memoryAtRows, storeFormRows, firstRows, decodeOf}
-use Rattle.step.specs.Operand.{addressOf, valueAt, storing}
+use Rattle.step.specs.Operand.{addressOf, valueIn, storing}
 use Rattle.step.specs.Flag.{flagged}
 use Rattle.step.specs.Jump.{jumpOf}
 use Rattle.step.specs.Block.{counted, moved, copied, compared, roundOf, goesOn, endsAt}
@@ -29,5 +29,5 @@ use Rattle.run.specs.Table.{Hold, filled, begin}
 use Rattle.run.specs.Cases.{cases, CasesHold}
 
 pub cases-hold : CasesHold
-unfolding Hold filled begin cases byteOf flagsOf basic holdsOf onesOf evenOnes parityOf computedOf sumOf differenceOf plain andOf orOf xorOf operated placesOf shiftOf shiftBy incOf decOf valueOf bytesFrom replaced placeOf loadOf storeOf ramAfter codeAt resetState validOf longOf withLong withCounter withBank withBothFlags withFlags getBits setBits getSlot setSlot slotOf getRegister setRegister numberAt judge lookup placesRows registerRows memoryRows copies compares blocks indirectRows bankRows flagRows constantRows stackRows jumpRows relativeRows registerFormRows memoryFormRows memoryAtRows absoluteRows storeFormRows firstRows decodeOf valueAt storing flagged jumpOf counted moved copied compared roundOf goesOn endsAt pastOf effectOf executedOf guarded onceOf tryOf goOf runOf
+unfolding Hold filled begin cases byteOf flagsOf basic holdsOf onesOf evenOnes parityOf computedOf sumOf differenceOf plain andOf orOf xorOf operated placesOf shiftOf shiftBy incOf decOf valueOf bytesFrom replaced placeOf loadOf storeOf ramAfter codeAt resetState validOf longOf withLong withCounter withBank withBothFlags withFlags getBits setBits slotIn setSlot slotOf registerAt setRegister numberAt judge lookup placesRows registerRows memoryRows copies compares blocks indirectRows bankRows flagRows constantRows stackRows jumpRows relativeRows registerFormRows memoryFormRows memoryAtRows absoluteRows storeFormRows firstRows decodeOf valueIn storing flagged jumpOf counted moved copied compared roundOf goesOn endsAt pastOf effectOf executedOf guarded onceOf tryOf goOf runOf
 cases-hold = ((refl, (refl, (refl, (refl, (refl, (refl, (refl, (refl, (refl, (refl, (refl, (refl, tt)))))))))))), (refl, (refl, (refl, (refl, (refl, (refl, (refl, (refl, (refl, (refl, (refl, (refl, tt)))))))))))))

@@ -13,7 +13,7 @@ use Rattle.little.specs.Bytes.{valueOf, bytesFrom, replaced}
 use Rattle.memory.specs.Place.{placeOf}
 use Rattle.memory.specs.Access.{loadOf, storeOf, ramAfter, codeAt}
 use Rattle.state.specs.State.{resetState, validOf, longOf, withLong, withCounter, withBothFlags, withFlags}
-use Rattle.state.specs.Register.{getBits, setBits, getSlot, setSlot, slotOf, getRegister, setRegister}
+use Rattle.state.specs.Register.{getBits, setBits, slotIn, setSlot, slotOf, registerAt, setRegister}
 use Rattle.code.specs.Said.{numberAt, judge}
 use Rattle.code.specs.Rows.{lookup}
 use Rattle.code.specs.Memory.{memoryRows, copies, compares, blocks, indirectRows}
@@ -28,7 +28,7 @@ use Rattle.run.specs.Evidence.{ldir, lddr, cpir, cpdr, copying, toRomSta
 use Rattle.run.proofs.Tests.{below, fits, present, differs, copy-met, find-met, exhaust-met, before-met}
 
 pub small-met : SmallMet
-unfolding below fits present differs countOf passed roundsOf filled begin byteOf flagsOf computedOf differenceOf valueOf bytesFrom replaced placeOf loadOf storeOf ramAfter codeAt resetState validOf longOf withLong withCounter withBothFlags withFlags getBits setBits getSlot setSlot slotOf getRegister setRegister numberAt judge lookup memoryRows copies compares blocks indirectRows bankRows flagRows constantRows stackRows jumpRows relativeRows registerFormRows absoluteRows memoryFormRows memoryAtRows storeFormRows firstRows decodeOf storing flagged counted moved copied compared roundOf
+unfolding below fits present differs countOf passed roundsOf filled begin byteOf flagsOf computedOf differenceOf valueOf bytesFrom replaced placeOf loadOf storeOf ramAfter codeAt resetState validOf longOf withLong withCounter withBothFlags withFlags getBits setBits slotIn setSlot slotOf registerAt setRegister numberAt judge lookup memoryRows copies compares blocks indirectRows bankRows flagRows constantRows stackRows jumpRows relativeRows registerFormRows absoluteRows memoryFormRows memoryAtRows storeFormRows firstRows decodeOf storing flagged counted moved copied compared roundOf
 small-met = (
   copy-met ldir ldirStart ldirRam [] tt refl refl refl refl tt tt tt,
   copy-met lddr lddrStart lddrRam [] tt refl refl refl refl tt tt tt,

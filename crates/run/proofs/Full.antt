@@ -18,7 +18,7 @@ use Rattle.memory.specs.declared.Loaded.{Loaded}
 use Rattle.memory.specs.declared.Loaded.the-variants.{Value}
 use Rattle.memory.proofs.Laws.{place-ram, place-rom}
 use Rattle.state.specs.State.{resetState, validOf, longOf, withLong, withCounter, withBothFlags, withFlags}
-use Rattle.state.specs.Register.{getBits, setBits, getSlot, setSlot, slotOf, getRegister, setRegister}
+use Rattle.state.specs.Register.{getBits, setBits, slotIn, setSlot, slotOf, registerAt, getRegister, setRegister}
 use Rattle.code.specs.Said.{judge}
 use Rattle.code.specs.Rows.{lookup}
 use Rattle.code.specs.Memory.{memoryRows, copies, compares, blocks, indirectRows}
@@ -42,19 +42,19 @@ unfolding fullRam
 full-zero i h = getD-replicate 65536 i 0 0 h
 
 copy-count : countOf fullCopy ≡ 65536
-unfolding countOf fullCopy filled begin resetState longOf withLong withCounter withBothFlags withFlags getBits setBits getSlot setSlot slotOf getRegister setRegister
+unfolding countOf fullCopy filled begin resetState longOf withLong withCounter withBothFlags withFlags getBits setBits slotIn setSlot slotOf registerAt setRegister
 copy-count = refl
 
 seek-count : countOf fullSeek ≡ 65536
-unfolding countOf fullSeek filled begin resetState longOf withLong withCounter withBothFlags withFlags getBits setBits getSlot setSlot slotOf getRegister setRegister
+unfolding countOf fullSeek filled begin resetState longOf withLong withCounter withBothFlags withFlags getBits setBits slotIn setSlot slotOf registerAt setRegister
 seek-count = refl
 
 copy-at : At ldir fullCopy fullRam fullRom
-unfolding fits fullRam fullRom fullCopy filled begin resetState validOf longOf withLong withCounter withBothFlags withFlags getBits setBits getSlot setSlot slotOf getRegister setRegister placeOf codeAt judge lookup memoryRows copies compares blocks indirectRows bankRows flagRows constantRows stackRows jumpRows relativeRows registerFormRows absoluteRows memoryFormRows memoryAtRows storeFormRows firstRows decodeOf
+unfolding fits fullRam fullRom fullCopy filled begin resetState validOf longOf withLong withCounter withBothFlags withFlags getBits setBits slotIn setSlot slotOf registerAt setRegister placeOf codeAt judge lookup memoryRows copies compares blocks indirectRows bankRows flagRows constantRows stackRows jumpRows relativeRows registerFormRows absoluteRows memoryFormRows memoryAtRows storeFormRows firstRows decodeOf
 copy-at = at-by ldir fullCopy fullRam fullRom tt refl refl refl
 
 seek-at : At cpir fullSeek fullRam seekRom
-unfolding fits fullRam seekRom fullSeek filled begin resetState validOf longOf withLong withCounter withBothFlags withFlags getBits setBits getSlot setSlot slotOf getRegister setRegister placeOf codeAt judge lookup memoryRows copies compares blocks indirectRows bankRows flagRows constantRows stackRows jumpRows relativeRows registerFormRows absoluteRows memoryFormRows memoryAtRows storeFormRows firstRows decodeOf
+unfolding fits fullRam seekRom fullSeek filled begin resetState validOf longOf withLong withCounter withBothFlags withFlags getBits setBits slotIn setSlot slotOf registerAt setRegister placeOf codeAt judge lookup memoryRows copies compares blocks indirectRows bankRows flagRows constantRows stackRows jumpRows relativeRows registerFormRows absoluteRows memoryFormRows memoryAtRows storeFormRows firstRows decodeOf
 seek-at = at-by cpir fullSeek fullRam seekRom tt refl refl refl
 
 -- ---- the elements and the targets
@@ -66,15 +66,15 @@ near x i h =
     ∙ mod-eq-of-lt h
 
 copy-element : (i : ℕ) → i < 65536 → elementOf ldir fullCopy i ≡ 0xFF0000 + i
-unfolding passed fullCopy filled begin resetState longOf withLong withCounter withBothFlags withFlags getBits setBits getSlot setSlot slotOf getRegister setRegister
+unfolding passed fullCopy filled begin resetState longOf withLong withCounter withBothFlags withFlags getBits setBits slotIn setSlot slotOf registerAt setRegister
 copy-element i h = near 0xFF0000 i (omega arith)
 
 copy-target : (i : ℕ) → i < 65536 → targetOf ldir fullCopy i ≡ i
-unfolding passed fullCopy filled begin resetState longOf withLong withCounter withBothFlags withFlags getBits setBits getSlot setSlot slotOf getRegister setRegister
+unfolding passed fullCopy filled begin resetState longOf withLong withCounter withBothFlags withFlags getBits setBits slotIn setSlot slotOf registerAt setRegister
 copy-target i h = near 0 i (omega arith) ∙ zero-add i
 
 seek-element : (i : ℕ) → i < 65536 → elementOf cpir fullSeek i ≡ i
-unfolding passed fullSeek filled begin resetState longOf withLong withCounter withBothFlags withFlags getBits setBits getSlot setSlot slotOf getRegister setRegister
+unfolding passed fullSeek filled begin resetState longOf withLong withCounter withBothFlags withFlags getBits setBits slotIn setSlot slotOf registerAt setRegister
 seek-element i h = near 0 i (omega arith) ∙ zero-add i
 
 copy-there : ElementsThere 65536 ldir fullCopy fullRam fullRom
@@ -115,7 +115,7 @@ unfolding loadOf
 seek-loads i h = ap (λ (p : Place). loadFrom p fullRam seekRom 1) (seek-place i h) ∙ ap Value (first-of fullRam i ∙ full-zero i h)
 
 seek-one : getRegister fullSeek Byte 1 ≡ 1
-unfolding fullSeek filled begin resetState longOf withLong withCounter withBothFlags withFlags getBits setBits getSlot setSlot slotOf getRegister setRegister
+unfolding fullSeek filled begin resetState longOf withLong withCounter withBothFlags withFlags getBits setBits slotIn setSlot slotOf registerAt setRegister
 seek-one = refl
 
 seek-none : NoneEqual 65536 cpir fullSeek fullRam seekRom

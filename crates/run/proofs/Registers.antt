@@ -15,10 +15,10 @@ use Rattle.alu.specs.declared.Flags.{Flags}
 use Rattle.alu.proofs.Packed.{packed-lt}
 use Rattle.state.specs.State.{longOf, withFlags, withBothFlags, withLong}
 use Rattle.state.specs.Sound.{Sound}
-use Rattle.state.specs.Register.{indexOf, slotOf, namedIn, getSlot, setSlot, getRegister, setRegister}
+use Rattle.state.specs.Register.{indexOf, slotOf, namedIn, slotIn, setSlot, registerAt, getRegister, setRegister}
 use Rattle.state.specs.declared.State.{State}
 use Rattle.state.specs.declared.Slot.{Slot}
-use Rattle.state.proofs.Laws.{Apart, registers, register-same, register-apart, sound-register, register-lt}
+use Rattle.state.proofs.Laws.{sound-lent, Apart, registers, register-same, register-apart, sound-register, register-lt}
 use Rattle.code.specs.declared.Form.{Form}
 use Rattle.step.specs.Stack.{less, plus}
 use Rattle.step.specs.Flag.{flagged}
@@ -138,18 +138,10 @@ module _ (s : State) (g : Flags) where
   pub flagged-sound : Sound s → Sound (flagged s g)
   unfolding flagged withFlags withBothFlags
   flagged-sound ok =
-      record {
-        twenty = ok .twenty;
-        fit = ok .fit;
-        counter-fit = ok .counter-fit;
-        bank-fit = ok .bank-fit;
-        level-fit = ok .level-fit;
-        flags-fit = packed-lt g;
-        spare-fit = ok .spare-fit;
-      }
+      sound-lent s (s .registers) (s .counter) (s .bank .0) (byteOf g) (s .spare) ok (ok .twenty) (ok .fit) (ok .counter-fit) (ok .bank-fit) (packed-lt g) (ok .spare-fit)
 
   pub flagged-register : (z : Size) (c : ℕ) → getRegister (flagged s g) z c ≡ getRegister s z c
-  unfolding flagged withFlags withBothFlags getRegister getSlot longOf
+  unfolding flagged withFlags withBothFlags registerAt slotIn longOf
   flagged-register z c = refl
 
   pub flagged-acc : (z : Size) → accumulator (flagged s g) z ≡ accumulator s z

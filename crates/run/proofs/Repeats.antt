@@ -16,7 +16,7 @@ use Rattle.little.specs.declared.Size.the-variants.{Long}
 use Rattle.little.specs.Width.{bytesOf}
 use Rattle.memory.specs.Place.{placeOf}
 use Rattle.memory.specs.Access.{loadOf}
-use Rattle.memory.specs.declared.Place.the-variants.{Missing}
+use Rattle.memory.specs.declared.Place.the-variants.{Rom, Missing}
 use Rattle.memory.specs.declared.Loaded.{Loaded}
 use Rattle.memory.specs.declared.Loaded.the-variants.{Value, Refused}
 use Rattle.state.specs.Register.{getRegister}
@@ -31,11 +31,11 @@ use Rattle.step.specs.Exec.{pastOf}
 use Rattle.step.specs.Step.{tryOf}
 use Rattle.step.proofs.Rounds.{round-copies, round-compares, round-refused}
 use Rattle.run.specs.Run.{Result, ends, goOf, runOf}
-use Rattle.run.specs.Repeat.{At, ElementsThere, TargetsInRam, Spares, EqualAt, NoneEqual, countOf, roundsOf, passed, elementOf, targetOf}
+use Rattle.run.specs.Repeat.{At, ElementsThere, TargetsInRam, Spares, EqualAt, NoneEqual, RefusedAt, noElement, noTarget, romTarget, countOf, roundsOf, passed, elementOf, targetOf, elementPlace, targetPlace}
 use Rattle.run.proofs.Bytes.{loaded-fits}
 use Rattle.run.proofs.Laws.{go-none, go-did, go-no, run-goes}
 use Rattle.run.proofs.Registers.{once, once-lt}
-use Rattle.run.proofs.Rounds.{Pointers, Rounded, Left, left-length, left-compare, round-leaves, ready-did, round-why, refused-not, same-did, compared-equal, copy-unequal}
+use Rattle.run.proofs.Rounds.{Pointers, Rounded, Left, left-length, left-compare, round-leaves, ready-did, round-no-element, round-no-target, round-why, refused-not, same-did, compared-equal, copy-unequal}
 use Rattle.run.proofs.Counts.{count-some, count-round, count-bc, goes-on, goes-not, rounds-none, rounds-did, rounds-no, passed-more, passed-none}
 use Rattle.run.proofs.Steps.{at-pointers, at-valid, within, step-did, step-no, at-next}
 
@@ -289,6 +289,22 @@ module _ (n k d : ℕ) (f : Form) (s : State) (ram rom : List ℕ) (t : State) (
         ∙ q .1
         ∙ ap Value (g .acc),
   )
+
+  -- it is refused where the start tells so
+  element-there : placeOf (length m) (length rom) (pointerOf t (f .from)) (bytesOf (f .size)) ≡ elementPlace f s ram rom n
+  element-there =
+      ap (λ (x : ℕ). placeOf x (length rom) (pointerOf t (f .from)) (bytesOf (f .size))) (g .size)
+      ∙ ap (λ (x : ℕ). placeOf (length ram) (length rom) x (bytesOf (f .size))) (sym (element-first f t) ∙ element-at)
+
+  target-there : f .copies ≡ true → placeOf (length m) (length rom) (pointerOf t (f .to)) (bytesOf (f .size)) ≡ targetPlace f s ram rom n
+  target-there c =
+      ap (λ (x : ℕ). placeOf x (length rom) (pointerOf t (f .to)) (bytesOf (f .size))) (g .size)
+      ∙ ap (λ (x : ℕ). placeOf (length ram) (length rom) x (bytesOf (f .size))) (sym (target-first f t) ∙ target-at c)
+
+  pub refused-at : (w : Why) → RefusedAt f s ram rom n w → roundOf f t m rom ≡ no w
+  refused-at _ (noElement h) = round-no-element f t m rom (element-there ∙ h)
+  refused-at _ (noTarget c h k) = round-no-target f t m rom Missing why.Missing c (λ e. h (sym element-there ∙ e)) (target-there c ∙ k) refl
+  refused-at _ (romTarget c h o k) = round-no-target f t m rom (Rom o) why.ToRom c (λ e. h (sym element-there ∙ e)) (target-there c ∙ k) refl
 
 -- a pointer that passed j elements and then one more
 once-passed : (f : Form) (j x : ℕ) → x < 2 ^ 32 → once f (passed f x j) ≡ passed f x (suc j)

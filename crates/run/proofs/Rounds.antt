@@ -229,7 +229,7 @@ left-compare e (wrote c v) = let z : _≡_ {A = ℕ} 0 1 = cc in absurd (omega a
 
 -- ---- a round that finds what it needs is done; one that does not is refused with 5 or 6
 module _ (f : Form) (s : State) (ram rom : List ℕ) where
-  loaded-there : (a : ℕ) (z : Size) → placeOf (length ram) (length rom) a (bytesOf z) ≢ Missing → (v : ℕ) × (loadOf ram rom a z ≡ Value v)
+  pub loaded-there : (a : ℕ) (z : Size) → placeOf (length ram) (length rom) a (bytesOf z) ≢ Missing → (v : ℕ) × (loadOf ram rom a z ≡ Value v)
   unfolding loadOf
   loaded-there a z h = go (operandAt ram rom a z) refl
     where
@@ -237,6 +237,13 @@ module _ (f : Form) (s : State) (ram rom : List ℕ) where
       go (Ram o) e = (_, refl)
       go (Rom o) e = (_, refl)
       go Missing e = absurd (h e)
+
+  pub missing-load : (a : ℕ) (z : Size) (v : ℕ) → placeOf (length ram) (length rom) a (bytesOf z) ≡ Missing → loadOf ram rom a z ≡ Value v → ⊥
+  unfolding loadOf
+  missing-load a z v h e =
+      let x : Refused why.Missing ≡ Value v = sym (ap (λ (q : Place). loadFrom q ram rom (bytesOf z)) h) ∙ e in
+      let y : _≡_ {A = ℕ} 0 1 = cc in
+      omega arith
 
   stored-there :
       (t : State) (a : ℕ) (z : Size) (v : ℕ) → a + bytesOf z ≤ length ram → storing t ram rom a z v ≡ did t (ramAfter ram rom a z v)
@@ -275,6 +282,28 @@ module _ (f : Form) (s : State) (ram rom : List ℕ) where
       go (Ram o) h = refused-not (sym h)
       go (Rom o) h = inr (cc)
       go Missing h = inl (cc)
+
+  -- a round whose element is missing, and a copy's whose target is not RAM
+  pub round-no-element :
+      placeOf (length ram) (length rom) (pointerOf s (f .from)) (bytesOf (f .size)) ≡ Missing → roundOf f s ram rom ≡ no why.Missing
+  unfolding loadOf
+  round-no-element h = round-refused f s ram rom why.Missing (ap (λ (q : Place). loadFrom q ram rom (bytesOf (f .size))) h)
+
+  stored-no :
+      (t : State) (a : ℕ) (z : Size) (v : ℕ) (q : Place) (w : Why) → operandAt ram rom a z ≡ q → storeTo q ≡ answer.Refused w →
+      storing t ram rom a z v ≡ no w
+  unfolding storing storeOf
+  stored-no t a z v q w h e =
+      ap (λ (p : Place). storedBy (storeTo p) t (ramAfter ram rom a z v)) h ∙ ap (λ (r : Answer). storedBy r t (ramAfter ram rom a z v)) e
+
+  pub round-no-target :
+      (q : Place) (w : Why) → f .copies ≡ true
+      → placeOf (length ram) (length rom) (pointerOf s (f .from)) (bytesOf (f .size)) ≢ Missing
+      → placeOf (length ram) (length rom) (pointerOf s (f .to)) (bytesOf (f .size)) ≡ q → storeTo q ≡ answer.Refused w
+      → roundOf f s ram rom ≡ no w
+  round-no-target q w c h k e =
+      let x = loaded-there (pointerOf s (f .from)) (f .size) h in
+      round-copies f s ram rom (x .0) (x .1) c ∙ stored-no (copied f s) (pointerOf s (f .to)) (f .size) (x .0) q w k e
 
   pub round-why : (w : Why) → roundOf f s ram rom ≡ no w → (w ≡ why.Missing) ⊎ (w ≡ why.ToRom)
   round-why w e = go (loadOf ram rom (pointerOf s (f .from)) (f .size)) refl (f .copies) refl

@@ -8,14 +8,14 @@ use Rattle.answer.specs.declared.Why.{Why}
 use Rattle.answer.specs.declared.Why.the-variants.{Missing, ToRom}
 use Rattle.little.specs.declared.Size.the-variants.{Byte}
 use Rattle.state.specs.State.{resetState, longOf, withLong, withCounter, withBothFlags}
-use Rattle.state.specs.Register.{getBits, setBits, getSlot, setSlot, slotOf, getRegister, setRegister}
+use Rattle.state.specs.Register.{getBits, setBits, slotIn, setSlot, slotOf, registerAt, setRegister}
 use Rattle.state.specs.declared.State.{State}
 use Rattle.code.specs.declared.Form.{Form}
 use Rattle.run.specs.Repeat.{NoneEqual, countOf}
-use Rattle.run.specs.Demand.{EndsAfter, GoesOnAfter}
+use Rattle.run.specs.Demand.{EndsAfter, GoesOnAfter, StopsAfter}
 use Rattle.run.specs.Table.{filled, begin, _▹_, A, WA, BC, XIX}
 use Rattle.run.specs.Runs.{ldirRam, ldirStart, lddrRam, lddrStart, cpirRam, cpirStart, cpdrRam, cpdrStart}
-use Rattle.run.specs.Evidence.{CopyMet, FindMet, ExhaustMet, BeforeMet, RefusalMet, StopsAfter, copying, ldir, lddr, cpir, cpdr, fullRam, fullRom, seekRom, fullCopy, fullSeek, toRomStart, toRomRam, toRomRom, DemandSays}
+use Rattle.run.specs.Evidence.{CopyMet, FindMet, ExhaustMet, BeforeMet, RefusalMet, copying, ldir, lddr, cpir, cpdr, fullRam, fullRom, seekRom, fullCopy, fullSeek, toRomStart, toRomRam, toRomRom, DemandSays}
 use Rattle.run.proofs.Demand.{copy-repeats, compare-finds, compare-exhausts, not-before, stops-at-refusal}
 use Rattle.run.proofs.Evidence.{small-met}
 use Rattle.run.proofs.Full.{full-met}
@@ -66,7 +66,7 @@ module _ (f : Form) (s : State) (ram rom : List ℕ) where
   )
 
 pub demand-says : DemandSays
-unfolding countOf filled begin resetState longOf withLong withCounter withBothFlags getBits setBits getSlot setSlot slotOf getRegister setRegister
+unfolding countOf filled begin resetState longOf withLong withCounter withBothFlags getBits setBits slotIn setSlot slotOf registerAt setRegister
 demand-says = (
   copies-end ldir ldirStart ldirRam [] 3 refl (small-met .0),
   copies-end lddr lddrStart lddrRam [] 2 refl (small-met .1),

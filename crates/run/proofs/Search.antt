@@ -10,7 +10,7 @@ use Rattle.answer.specs.declared.Answer.the-variants.{Done}
 use Rattle.little.specs.declared.Size.the-variants.{Long}
 use Rattle.little.specs.Width.{bytesOf}
 use Rattle.state.specs.State.{longOf, withCounter}
-use Rattle.state.specs.Register.{getSlot, getRegister}
+use Rattle.state.specs.Register.{slotIn, registerAt, getRegister}
 use Rattle.state.specs.declared.State.{State}
 use Rattle.code.specs.declared.Form.{Form}
 use Rattle.step.specs.Flag.{flagsIn}
@@ -26,11 +26,11 @@ use Rattle.run.proofs.Demand.{compare-clear, copy-none}
 
 -- ---- the state past the form has the registers and flags of the last round
 past-register : (t : State) (r : ℕ) → getRegister (pastOf 2 t) Long r ≡ getRegister t Long r
-unfolding pastOf withCounter getRegister getSlot longOf
+unfolding pastOf withCounter registerAt slotIn longOf
 past-register t r = refl
 
 past-count : (t : State) → countIn (pastOf 2 t) ≡ countIn t
-unfolding pastOf withCounter getRegister getSlot longOf
+unfolding pastOf withCounter registerAt slotIn longOf
 past-count t = refl
 
 past-flags : (t : State) → flagsIn (pastOf 2 t) .z ≡ flagsIn t .z

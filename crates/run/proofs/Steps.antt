@@ -27,7 +27,7 @@ use Rattle.memory.specs.declared.Loaded.{Loaded}
 use Rattle.memory.specs.declared.Loaded.the-variants.{Value, Refused}
 use Rattle.memory.proofs.Laws.{ram-fits, after-length, after-below, after-above, code-in}
 use Rattle.state.specs.State.{validOf, longOf, withLong, withCounter, withFlags, withBothFlags}
-use Rattle.state.specs.Register.{getSlot, setSlot, getRegister, setRegister}
+use Rattle.state.specs.Register.{slotIn, setSlot, registerAt, setRegister}
 use Rattle.state.specs.declared.State.{State}
 use Rattle.state.proofs.Valid.{Valid, valid-says, valid-from}
 use Rattle.code.specs.Listed.{decodeOf}
@@ -55,11 +55,11 @@ use Rattle.run.proofs.Rounds.{Pointers, pointers, Rounded, Left, unchan
 
 -- ---- the counter has no part in a round
 pointer-free : (s : State) (c r : ℕ) → pointerOf (withCounter s c) r ≡ pointerOf s r
-unfolding getRegister getSlot longOf withCounter
+unfolding registerAt slotIn longOf withCounter
 pointer-free s c r = refl
 
 copied-free : (f : Form) (s : State) (c : ℕ) → copied f (withCounter s c) ≡ withCounter (copied f s) c
-unfolding copied flagged withFlags withBothFlags counted moved getRegister setRegister getSlot setSlot longOf withLong withCounter
+unfolding copied flagged withFlags withBothFlags counted moved registerAt setRegister slotIn setSlot longOf withLong withCounter
 copied-free f s c = refl
 
 unfoldable comparedWith : ℕ → Form → ℕ → State → State
@@ -68,11 +68,11 @@ comparedWith a f x s =
     flagged t (comparedOf (flagsIn s) (differenceOf (bitsOf (f .size)) a x false .flags) (moreIn t))
 
 with-free : (a : ℕ) (f : Form) (x : ℕ) (s : State) (c : ℕ) → comparedWith a f x (withCounter s c) ≡ withCounter (comparedWith a f x s) c
-unfolding comparedWith flagged withFlags withBothFlags counted moved getRegister setRegister getSlot setSlot longOf withLong withCounter
+unfolding comparedWith flagged withFlags withBothFlags counted moved registerAt setRegister slotIn setSlot longOf withLong withCounter
 with-free a f x s c = refl
 
 acc-free : (s : State) (c : ℕ) (z : Size) → accumulator (withCounter s c) z ≡ accumulator s z
-unfolding getRegister getSlot longOf withCounter
+unfolding registerAt slotIn longOf withCounter
 acc-free s c Byte = refl
 acc-free s c Word = refl
 acc-free s c Long = refl
@@ -83,7 +83,7 @@ compared-free f x s c =
     ap (λ (a : ℕ). comparedWith a f x (withCounter s c)) (acc-free s c (f .size)) ∙ with-free (accumulator s (f .size)) f x s c
 
 goes-free : (f : Form) (s : State) (c : ℕ) → goesOn f (withCounter s c) ≡ goesOn f s
-unfolding goesOn getRegister getSlot longOf withCounter
+unfolding goesOn registerAt slotIn longOf withCounter
 goes-free f s c = refl
 
 storing-free :

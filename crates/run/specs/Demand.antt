@@ -13,7 +13,7 @@ use Rattle.step.specs.Try.{did, no}
 use Rattle.step.specs.Block.{roundOf}
 use Rattle.step.specs.Exec.{pastOf}
 use Rattle.run.specs.Run.{mostSteps, ends, runOf}
-use Rattle.run.specs.Repeat.{At, ElementsThere, TargetsInRam, Spares, EqualAt, NoneEqual, countOf, roundsOf}
+use Rattle.run.specs.Repeat.{At, ElementsThere, TargetsInRam, Spares, EqualAt, NoneEqual, RefusedAt, countOf, roundsOf}
 
 -- n rounds are done, and n steps end there: registers, flags and memory are those of n rounds, the counter is past it
 abbrev pub EndsAfter : ℕ → Form → State → List ℕ → List ℕ → Type 0
@@ -24,6 +24,11 @@ EndsAfter n f s ram rom =
 abbrev pub GoesOnAfter : ℕ → Form → State → List ℕ → List ℕ → Type 0
 GoesOnAfter n f s ram rom =
     (t : State) × (m : List ℕ) × (roundsOf n f s ram rom ≡ did t m) × (runOf n s ram rom ≡ ends n t m Done) × (t .counter ≡ s .counter)
+
+-- n rounds are done, and the next one stops a run of so many steps with this number: nothing of that one is done
+abbrev pub StopsAfter : ℕ → ℕ → Why → Form → State → List ℕ → List ℕ → Type 0
+StopsAfter n steps w f s ram rom =
+    (t : State) × (m : List ℕ) × (roundsOf n f s ram rom ≡ did t m) × (runOf steps s ram rom ≡ ends n t m (Refused w))
 
 -- a copy ends after exactly as many steps as the counter says
 abbrev pub CopyRepeats : Type 0
@@ -61,3 +66,11 @@ StopsAtRefusal =
     ElementsThere n f s ram rom → TargetsInRam n f s ram → Spares n f s → NoneEqual n f s ram rom →
     roundsOf n f s ram rom ≡ did t m → roundOf f t m rom ≡ no w →
     (runOf steps s ram rom ≡ ends n t m (Refused w)) × ((w ≡ Missing) ⊎ (w ≡ ToRom))
+
+-- the same by the start alone: element n is missing, or its target is missing or ROM, and n earlier rounds are done
+abbrev pub StopsByStart : Type 0
+StopsByStart =
+    (f : Form) (s : State) (ram rom : List ℕ) (n steps : ℕ) (w : Why) → At f s ram rom → n < countOf s →
+    n < steps → steps ≤ mostSteps →
+    ElementsThere n f s ram rom → TargetsInRam n f s ram → Spares n f s → NoneEqual n f s ram rom →
+    RefusedAt f s ram rom n w → StopsAfter n steps w f s ram rom

@@ -4,7 +4,6 @@ use mathlib.Core.Path.{_≡_}
 use mathlib.Core.List.{List, [], _∷_}
 use mathlib.Core.Bool.{Bool, true, false}
 use lib.ListN.{replicate}
-use Rattle.answer.specs.declared.Answer.the-variants.{Refused}
 use Rattle.answer.specs.declared.Why.{Why}
 use Rattle.answer.specs.declared.Why.the-variants.{Missing, ToRom}
 use Rattle.little.specs.declared.Size.{Size}
@@ -13,9 +12,9 @@ use Rattle.state.specs.declared.State.{State}
 use Rattle.code.specs.declared.Form.{Form}
 use Rattle.step.specs.Try.{did, no}
 use Rattle.step.specs.Block.{roundOf}
-use Rattle.run.specs.Run.{ends, runOf}
 use Rattle.run.specs.Repeat.{At, ElementsThere, TargetsInRam, Spares, EqualAt, NoneEqual, countOf, roundsOf}
-use Rattle.run.specs.Demand.{EndsAfter, GoesOnAfter}
+use Rattle.run.specs.Demand.{EndsAfter, GoesOnAfter, StopsAfter}
+use Rattle.run.specs.Endings.{atCount, atEqual, atRefusal, Told}
 use Rattle.run.specs.Table.{begin, _▹_, A, WA, BC, XDE, XHL, XIX, Counter}
 use Rattle.run.specs.Runs.{ldirRam, ldirStart, lddrRam, lddrStart, cpirRam, cpirStart, cpdrRam, cpdrStart}
 
@@ -100,6 +99,16 @@ SmallMet =
     × RefusalMet cpir (cpirStart ▹ A 0x44 ▹ XIX 5 ▹ BC 9) cpirRam [] 2 Missing
     × RefusalMet (copying Byte false 2 3) toRomStart toRomRam toRomRom 2 ToRom
 
+-- and tells its ending: each ending, and each way to be refused, is told somewhere
+abbrev pub SmallTold : Type 0
+SmallTold =
+    Told atCount ldir ldirStart ldirRam []
+    × Told atCount cpir (cpirStart ▹ A 0x44) cpirRam []
+    × Told (atEqual 2) cpir (cpirStart ▹ A 0x33) cpirRam []
+    × Told (atRefusal 2 Missing) cpir (cpirStart ▹ A 0x44 ▹ XIX 5 ▹ BC 9) cpirRam []
+    × Told (atRefusal 2 ToRom) (copying Byte false 2 3) toRomStart toRomRam toRomRom
+    × Told (atRefusal 0 Missing) ldir (ldirStart ▹ XDE 0x1000) ldirRam []
+
 -- ---- BC 0, with memories of 65,536 bytes
 -- ROM begins with LDIR, and is copied whole to RAM
 unfoldable pub fullRam : List ℕ
@@ -126,11 +135,6 @@ FullMet =
     × ExhaustMet cpir fullSeek fullRam seekRom
 
 -- ---- what demand 3 says at these starts
--- n rounds are done, and the next one stops the run with this number
-abbrev pub StopsAfter : ℕ → ℕ → Why → Form → State → List ℕ → List ℕ → Type 0
-StopsAfter n steps w f s ram rom =
-    (t : State) × (m : List ℕ) × (roundsOf n f s ram rom ≡ did t m) × (runOf steps s ram rom ≡ ends n t m (Refused w))
-
 -- how each of these runs ends
 abbrev pub DemandSays : Type 0
 DemandSays =

@@ -6,12 +6,15 @@ use mathlib.Core.List.{List}
 use mathlib.Core.Bool.{Bool, true, false, cond}
 use lib.Dec.{eqb}
 use lib.ListN.{length}
+use Rattle.answer.specs.declared.Why.{Why}
+use Rattle.answer.specs.declared.Why.the-variants as why
 use Rattle.little.specs.declared.Size.the-variants.{Long}
 use Rattle.little.specs.Width.{bytesOf}
 use Rattle.little.specs.Bytes.{Bytes}
 use Rattle.memory.specs.Place.{placeOf}
 use Rattle.memory.specs.Access.{loadOf, codeAt}
-use Rattle.memory.specs.declared.Place.the-variants.{Missing}
+use Rattle.memory.specs.declared.Place.{Place}
+use Rattle.memory.specs.declared.Place.the-variants.{Rom, Missing}
 use Rattle.memory.specs.declared.Loaded.the-variants.{Value}
 use Rattle.state.specs.State.{validOf}
 use Rattle.state.specs.Sound.{Sound}
@@ -85,3 +88,17 @@ EqualAt f s ram rom i = (f .copies ≡ false) × (loadOf ram rom (elementOf f s 
 -- none of the first n does
 abbrev pub NoneEqual : ℕ → Form → State → List ℕ → List ℕ → Type 0
 NoneEqual n f s ram rom = (i : ℕ) → i < n → EqualAt f s ram rom i → ⊥
+
+-- where element i lies, and where a copy writes it to
+abbrev pub elementPlace : Form → State → List ℕ → List ℕ → ℕ → Place
+elementPlace f s ram rom i = placeOf (length ram) (length rom) (elementOf f s i) (bytesOf (f .size))
+
+abbrev pub targetPlace : Form → State → List ℕ → List ℕ → ℕ → Place
+targetPlace f s ram rom i = placeOf (length ram) (length rom) (targetOf f s i) (bytesOf (f .size))
+
+-- the round of element i is refused with this number, in the order of check: 5, the element is missing;
+-- or a copy finds it, and 5, its target is missing, or 6, its target is ROM
+pub data RefusedAt (f : Form) (s : State) (ram rom : List ℕ) (i : ℕ) : Why → Type 0 where
+  noElement : elementPlace f s ram rom i ≡ Missing → RefusedAt f s ram rom i why.Missing
+  noTarget : f .copies ≡ true → elementPlace f s ram rom i ≢ Missing → targetPlace f s ram rom i ≡ Missing → RefusedAt f s ram rom i why.Missing
+  romTarget : f .copies ≡ true → elementPlace f s ram rom i ≢ Missing → (o : ℕ) → targetPlace f s ram rom i ≡ Rom o → RefusedAt f s ram rom i why.ToRom

@@ -40,7 +40,6 @@ fn go(s: State, ram: &mut [u8], rom: &[u8], steps: u32) -> Ran
     let mut regs = s.registers;
     let mut counter = s.counter;
     let b = s.bank;
-    let level = s.level;
     let mut bank = b.0;
     let mut flags = s.flags;
     let mut spare = s.spare;
@@ -58,11 +57,11 @@ fn go(s: State, ram: &mut [u8], rom: &[u8], steps: u32) -> Ran
             &mut left,
         );
         if let Answer::Refused(w) = a {
-            let t = state::whole(regs, counter, bank, level, flags, spare);
+            let t = state::whole(s, regs, counter, bank, flags, spare);
             return stop(t, steps - 1 - left, Answer::Refused(w));
         }
     }
-    let t = state::whole(regs, counter, bank, level, flags, spare);
+    let t = state::whole(s, regs, counter, bank, flags, spare);
     stop(t, steps, Answer::Done)
 }
 

@@ -12,8 +12,8 @@ use borrow.Author.Tests.{ltb-true, ltb-false, eqb-true, eqb-false}
 use Rattle.little.specs.declared.Size.{Size}
 use Rattle.little.specs.declared.Size.the-variants.{Byte, Word, Long}
 use Rattle.little.specs.Width.{bitsOf}
-use Rattle.state.specs.State.{longOf, withLong}
-use Rattle.state.specs.Register.{getBits, setBits, startOf, widthOf, getSlot, setSlot, indexOf, slotOf, namedIn, getRegister, setRegister}
+use Rattle.state.specs.State.{lent, banked, longOf, withLong}
+use Rattle.state.specs.Register.{getBits, setBits, startOf, widthOf, slotIn, getSlot, setSlot, indexOf, slotOf, namedIn, registerAt, getRegister, setRegister}
 use Rattle.state.specs.declared.Slot.{Slot}
 use Rattle.state.specs.declared.State.{State}
 use Rattle.state.specs.declared.Part.{Part}
@@ -34,21 +34,21 @@ long-other s i j v ne = getD-set-other (s .registers) i j v 0 ne
 pub long-none : (s : State) (i v : ℕ) → Sound s → 20 ≤ i → withLong s i v ≡ s
 unfolding withLong
 long-none s i v ok h =
-    ap (λ (l : List ℕ). record { registers = l; counter = s .counter; bank = s .bank; level = s .level; flags = s .flags; spare = s .spare })
+    ap (λ (l : List ℕ). banked s l (s .bank .0))
     (set-out (s .registers) i v (omega (arith, ok .twenty)))
+
+-- a sound state with parts laid over it that fit
+pub sound-lent :
+    (s : State) (registers : List ℕ) (counter bank flags spare : ℕ) → Sound s → length registers ≡ 20 → ((i : ℕ) → getD registers i 0 < 2 ^ 32)
+    → counter < 2 ^ 32 → bank < 2 ^ 8 → flags < 2 ^ 8 → spare < 2 ^ 8 → Sound (lent s registers counter bank flags spare)
+sound-lent s registers counter bank flags spare ok t r c b f g =
+    record { twenty = t; fit = r; counter-fit = c; bank-fit = b; level-fit = ok .level-fit; flags-fit = f; spare-fit = g }
 
 pub sound-with : (s : State) (i v : ℕ) → Sound s → v < 2 ^ 32 → Sound (withLong s i v)
 unfolding withLong
 sound-with s i v ok h =
-    record {
-      twenty = simp length-set (ok .twenty);
-      fit = fits (s .registers) i (ok .fit);
-      counter-fit = ok .counter-fit;
-      bank-fit = ok .bank-fit;
-      level-fit = ok .level-fit;
-      flags-fit = ok .flags-fit;
-      spare-fit = ok .spare-fit;
-    }
+    sound-lent s (set (s .registers) i v) (s .counter) (s .bank .0) (s .flags) (s .spare) ok (simp length-set (ok .twenty)) (fits (s .registers) i (ok .fit))
+    (ok .counter-fit) (ok .bank-fit) (ok .flags-fit) (ok .spare-fit)
   where
     fits : (l : List ℕ) (j : ℕ) → ((k : ℕ) → getD l k 0 < 2 ^ 32) → (k : ℕ) → getD (set l j v) k 0 < 2 ^ 32
     fits [] j q k = q k
@@ -59,7 +59,7 @@ sound-with s i v ok h =
 
 -- ---- slots
 pub slot-lt : (s : State) (t : Slot) → getSlot s t < 2 ^ widthOf (t .part)
-unfolding getSlot
+unfolding slotIn longOf
 slot-lt s t = get-lt (startOf (t .part)) (widthOf (t .part)) (longOf s (t .index))
 
 pub sound-set : (s : State) (t : Slot) (v : ℕ) → Sound s → Sound (setSlot s t v)
@@ -68,7 +68,7 @@ sound-set s t v ok = sound-with s (t .index) _ ok (set-part-lt (t .part) (getD (
 
 -- what is written reads back
 pub slot-same : (s : State) (t : Slot) (v : ℕ) → Sound s → t .index < 20 → getSlot (setSlot s t v) t ≡ v % 2 ^ widthOf (t .part)
-unfolding getSlot setSlot
+unfolding slotIn setSlot longOf
 slot-same s t v ok h =
     let o = startOf (t .part) in
     let k = widthOf (t .part) in
@@ -87,14 +87,14 @@ part-apart o k p q x v (inl h) = get-below (o - (p + q)) o k p q x v (omega arit
 part-apart o k p q x v (inr h) = get-above (p - (o + k)) o k p q x v (omega arith)
 
 other-register : (s : State) (t u : Slot) (v : ℕ) → (u .index ≡ t .index → ⊥) → getSlot (setSlot s t v) u ≡ getSlot s u
-unfolding getSlot setSlot
+unfolding slotIn setSlot longOf
 other-register s t u v ne = ap (getBits (startOf (u .part)) (widthOf (u .part))) (long-other s (t .index) (u .index) _ ne)
 
 other-part :
     (s : State) (t u : Slot) (v : ℕ) → Sound s → t .index < 20 → u .index ≡ t .index
     → (startOf (u .part) + widthOf (u .part) ≤ startOf (t .part)) ⊎ (startOf (t .part) + widthOf (t .part) ≤ startOf (u .part))
     → getSlot (setSlot s t v) u ≡ getSlot s u
-unfolding getSlot setSlot
+unfolding slotIn setSlot longOf
 other-part s t u v ok h e ends =
     let o = startOf (t .part) in
     let k = widthOf (t .part) in
@@ -160,7 +160,7 @@ pub slot-held : (b : ℕ) (z : Size) (c : ℕ) (t : Slot) → t ≡ slotOf (b % 
 slot-held b z c t e = rw e (slot-known (b % 4) z (c % 8) (omega arith) (omega arith))
 
 pub register-lt : (s : State) (z : Size) (c : ℕ) → getRegister s z c < 2 ^ bitsOf z
-unfolding getRegister
+unfolding registerAt
 register-lt s z c = rw (← width-of (s .bank .0 % 4) z (c % 8)) (slot-lt s (namedIn s z c))
 
 pub sound-register : (s : State) (z : Size) (c v : ℕ) → Sound s → Sound (setRegister s z c v)
@@ -168,7 +168,7 @@ unfolding setRegister
 sound-register s z c v ok = sound-set s (namedIn s z c) v ok
 
 pub register-same : (s : State) (z : Size) (c v : ℕ) → Sound s → getRegister (setRegister s z c v) z c ≡ v % 2 ^ bitsOf z
-unfolding getRegister setRegister
+unfolding registerAt setRegister
 register-same s z c v ok =
     rw named-kept
     (slot-same s (namedIn s z c) v ok (named-known s z c) ∙ ap (λ (k : ℕ). v % 2 ^ k) (width-of (s .bank .0 % 4) z (c % 8)))
@@ -176,5 +176,5 @@ register-same s z c v ok =
 pub register-apart :
     (s : State) (z : Size) (c : ℕ) (y : Size) (d v : ℕ) → Sound s → Apart (namedIn s z c) (namedIn s y d)
     → getRegister (setRegister s z c v) y d ≡ getRegister s y d
-unfolding getRegister setRegister
+unfolding registerAt setRegister
 register-apart s z c y d v ok far = rw named-kept (slot-apart s (namedIn s z c) (namedIn s y d) v ok far)

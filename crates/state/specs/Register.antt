@@ -1,6 +1,8 @@
 -- Registers by size and code, through one naming of the parts of the twenty longs.
 use Prim.Native.Nat.{ℕ, _+_, _*_, _/_, _%_, _^_}
 use mathlib.Core.Bool.{cond}
+use mathlib.Core.List.{List}
+use lib.ListN.{getD}
 use lib.Dec.{ltb, eqb}
 use Rattle.little.specs.declared.Size.{Size}
 use Rattle.little.specs.declared.Size.the-variants.{Byte, Word, Long}
@@ -38,9 +40,13 @@ widthOf Half0 = 16
 widthOf Half1 = 16
 widthOf Whole = 32
 
+-- what a slot of twenty longs holds
+unfoldable pub slotIn : List ℕ → Slot → ℕ
+slotIn registers t = getBits (startOf (t .part)) (widthOf (t .part)) (getD registers (t .index) 0)
+
 -- what a slot holds
-unfoldable pub getSlot : State → Slot → ℕ
-getSlot s t = getBits (startOf (t .part)) (widthOf (t .part)) (longOf s (t .index))
+abbrev pub getSlot : State → Slot → ℕ
+getSlot s t = slotIn (s .registers) t
 
 -- the state with v written there
 unfoldable pub setSlot : State → Slot → ℕ → State
@@ -64,9 +70,13 @@ slotOf bank Long code = record { index = indexOf bank code; part = Whole }
 abbrev pub namedIn : State → Size → ℕ → Slot
 namedIn s size code = slotOf (s .bank .0 % 4) size (code % 8)
 
--- what that register holds
-unfoldable pub getRegister : State → Size → ℕ → ℕ
-getRegister s size code = getSlot s (namedIn s size code)
+-- what that register holds, among twenty longs and in a bank
+unfoldable pub registerAt : List ℕ → ℕ → Size → ℕ → ℕ
+registerAt registers bank size code = slotIn registers (slotOf (bank % 4) size (code % 8))
+
+-- and in a state
+abbrev pub getRegister : State → Size → ℕ → ℕ
+getRegister s size code = registerAt (s .registers) (s .bank .0) size code
 
 -- the state with v written to it
 unfoldable pub setRegister : State → Size → ℕ → ℕ → State

@@ -6,17 +6,6 @@ use lib.ListN.{getD, set, replicate}
 use lib.Dec.{ltb, eqb}
 use Rattle.state.specs.declared.State.{State}
 
--- a state from its parts, where they lie apart: the registers, the counter, the numbers of the bank and of the level, F and F'
-abbrev pub stateOf : List ℕ → ℕ → ℕ → ℕ → ℕ → ℕ → State
-stateOf registers counter bank level flags spare = record {
-  registers = registers;
-  counter = counter;
-  bank = record { 0 = bank };
-  level = record { 0 = level };
-  flags = flags;
-  spare = spare;
-}
-
 -- all zero
 unfoldable pub zeroState : State
 zeroState = record {
@@ -56,49 +45,61 @@ validOf s =
 unfoldable pub longOf : State → ℕ → ℕ
 longOf s i = getD (s .registers) i 0
 
+-- ---- a state whose parts lie apart: s with what a function is lent in the place of its own; the rest is as it is in s
+-- all that a turn is lent: the registers, the counter, the number of the bank, F and F'
+abbrev pub lent : State → List ℕ → ℕ → ℕ → ℕ → ℕ → State
+lent s registers counter bank flags spare = record {
+  registers = registers;
+  counter = counter;
+  bank = record { 0 = bank };
+  flags = flags;
+  spare = spare;
+  level = s .level;
+}
+
+-- the registers and the bank
+abbrev pub banked : State → List ℕ → ℕ → State
+banked s registers bank = lent s registers (s .counter) bank (s .flags) (s .spare)
+
+-- these and F
+abbrev pub bankedWith : State → List ℕ → ℕ → ℕ → State
+bankedWith s registers bank flags = lent s registers (s .counter) bank flags (s .spare)
+
+-- these and the counter
+abbrev pub bankedAt : State → List ℕ → ℕ → ℕ → State
+bankedAt s registers bank counter = lent s registers counter bank (s .flags) (s .spare)
+
+-- these, the counter and F
+abbrev pub bankedAtWith : State → List ℕ → ℕ → ℕ → ℕ → State
+bankedAtWith s registers bank counter flags = lent s registers counter bank flags (s .spare)
+
+-- all but the registers
+abbrev pub controlled : State → ℕ → ℕ → ℕ → ℕ → State
+controlled s counter bank flags spare = lent s (s .registers) counter bank flags spare
+
+-- the counter and F
+abbrev pub flaggedAt : State → ℕ → ℕ → State
+flaggedAt s counter flags = lent s (s .registers) counter (s .bank .0) flags (s .spare)
+
+-- the counter alone, as it is
+abbrev pub standingAt : State → ℕ → State
+standingAt s counter = lent s (s .registers) counter (s .bank .0) (s .flags) (s .spare)
+
 -- ---- a state with one thing changed
 unfoldable pub withLong : State → ℕ → ℕ → State
-withLong s i v = record {
-  registers = set (s .registers) i v;
-  counter = s .counter;
-  bank = s .bank;
-  level = s .level;
-  flags = s .flags;
-  spare = s .spare;
-}
+withLong s i v = banked s (set (s .registers) i v) (s .bank .0)
 
 -- the counter is taken modulo 2^24
 unfoldable pub withCounter : State → ℕ → State
-withCounter s c = record {
-  counter = c % 2 ^ 24;
-  registers = s .registers;
-  bank = s .bank;
-  level = s .level;
-  flags = s .flags;
-  spare = s .spare;
-}
+withCounter s c = standingAt s (c % 2 ^ 24)
 
 -- the bank number is taken modulo 4
 unfoldable pub withBank : State → ℕ → State
-withBank s b = record {
-  bank = record { 0 = b % 4 };
-  registers = s .registers;
-  counter = s .counter;
-  level = s .level;
-  flags = s .flags;
-  spare = s .spare;
-}
+withBank s b = banked s (s .registers) (b % 4)
 
 -- F and F'
 unfoldable pub withBothFlags : State → ℕ → ℕ → State
-withBothFlags s f f' = record {
-  flags = f;
-  spare = f';
-  registers = s .registers;
-  counter = s .counter;
-  bank = s .bank;
-  level = s .level;
-}
+withBothFlags s f f' = controlled s (s .counter) (s .bank .0) f f'
 
 -- F alone
 unfoldable pub withFlags : State → ℕ → State

@@ -1,8 +1,8 @@
 // The machine's state: twenty long registers, the counter, the bank, the interrupt level and two sets of flags.
 ghost use mathlib.Core.Path.{_≡_};
-ghost use Prim.Native.Nat.{ℕ, _%_, _<_};
-ghost use Rattle.state.specs.State.{stateOf, zeroState, resetState, flagsValid, validOf, longOf};
-ghost use Rattle.state.specs.Register.{getBits, setBits, startOf, widthOf, getSlot, indexOf, bytePart, slotOf, getRegister, setRegister};
+ghost use Prim.Native.Nat.{_%_, _<_};
+ghost use Rattle.state.specs.State.{lent, banked, zeroState, resetState, flagsValid, validOf, longOf};
+ghost use Rattle.state.specs.Register.{getBits, setBits, startOf, widthOf, getSlot, indexOf, bytePart, slotOf, registerAt, getRegister, setRegister};
 use little::Size;
 
 // A bank number: which of the four banks the codes 0 to 3 name.
@@ -199,7 +199,7 @@ pub fn slot_of(bank: Bank, size: Size, code: u8) -> Slot
 
 // The register of a size and a code, in a bank.
 pub fn read(registers: &[u32; 20], bank: u8, size: Size, code: u8) -> u32
-    ensures { λ r. ⌜ ((counter level flags spare : ℕ) → r ≡ getRegister (stateOf (now (registers .entry)) counter bank level flags spare) size code) ⌝ }
+    ensures { λ r. ⌜ r ≡ registerAt (now (registers .entry)) bank size code ⌝ }
 {
     let t = slot_of(Bank(bank), size, code);
     let i = t.index;
@@ -208,7 +208,7 @@ pub fn read(registers: &[u32; 20], bank: u8, size: Size, code: u8) -> u32
 }
 
 pub fn write(registers: &mut [u32; 20], bank: u8, size: Size, code: u8, v: u32)
-    ensures { λ _. ⌜ ((counter level flags spare : ℕ) → stateOf (now (registers .exit)) counter bank level flags spare ≡ setRegister (stateOf (now (registers .entry)) counter bank level flags spare) size code v) ⌝ }
+    ensures { λ _. ⌜ ((s : State) → banked s (now (registers .exit)) bank ≡ setRegister (banked s (now (registers .entry)) bank) size code v) ⌝ }
 {
     let t = slot_of(Bank(bank), size, code);
     let i = t.index;
@@ -216,23 +216,16 @@ pub fn write(registers: &mut [u32; 20], bank: u8, size: Size, code: u8, v: u32)
     registers[i] = with_bits(p, registers[i], v);
 }
 
-// A state from its parts.
-pub fn whole(
-    registers: [u32; 20],
-    counter: u32,
-    bank: u8,
-    level: Level,
-    flags: u8,
-    spare: u8,
-) -> State
-    ensures { λ r. ⌜ r ≡ stateOf registers counter bank (level .0) flags spare ⌝ }
+// A state with these parts in the place of its own.
+pub fn whole(s: State, registers: [u32; 20], counter: u32, bank: u8, flags: u8, spare: u8) -> State
+    ensures { λ r. ⌜ r ≡ lent s registers counter bank flags spare ⌝ }
 {
-    State {
-        registers: registers,
-        counter: counter,
-        bank: Bank(bank),
-        level: level,
-        flags: flags,
-        spare: spare,
-    }
+    let b = Bank(bank);
+    let mut t = s;
+    t.registers = registers;
+    t.counter = counter;
+    t.bank = b;
+    t.flags = flags;
+    t.spare = spare;
+    t
 }

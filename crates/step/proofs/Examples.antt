@@ -4,7 +4,7 @@ use Rattle.little.specs.Bytes.{valueOf, bytesFrom, replaced}
 use Rattle.memory.specs.Place.{placeOf}
 use Rattle.memory.specs.Access.{loadOf, storeOf, ramAfter, codeAt}
 use Rattle.state.specs.State.{zeroState, validOf, longOf, withLong, withCounter, withBank, withBothFlags, withFlags}
-use Rattle.state.specs.Register.{getBits, setBits, getSlot, setSlot, slotOf, getRegister, setRegister}
+use Rattle.state.specs.Register.{getBits, setBits, slotIn, setSlot, slotOf, registerAt, setRegister}
 use Rattle.alu.specs.Flag.{byteOf, flagsOf}
 use Rattle.alu.specs.Condition.{basic, holdsOf}
 use Rattle.alu.specs.Parity.{onesOf, evenOnes, parityOf}
@@ -19,7 +19,7 @@ use Rattle.code.specs.Rows.{lookup}
 use Rattle.code.specs.Registers.{placesRows, registerRows}
 use Rattle.code.specs.Memory.{memoryRows, storeRows, copies, compares, blocks, indirectRows}
 use Rattle.code.specs.Listed.{bankNumberRows, bankRows, flagRows, constantRows, stackRows, jumpRows, relativeRows, registerFormRows, absoluteRows, memoryFormRows, memoryAtRows, storeFormRows, firstRows, decodeOf}
-use Rattle.step.specs.Operand.{addressOf, valueAt, storing}
+use Rattle.step.specs.Operand.{addressIn, valueIn, storing}
 use Rattle.step.specs.Stack.{pushOf, popOf}
 use Rattle.step.specs.Flag.{flagged}
 use Rattle.step.specs.Jump.{jumpOf}
@@ -30,5 +30,5 @@ use Rattle.alu.specs.Cases.{every}
 use Rattle.step.specs.Examples.{given, sameBytes, reaches, right, examples}
 
 pub examples-hold : T (every right examples)
-unfolding valueOf bytesFrom replaced placeOf loadOf storeOf ramAfter codeAt zeroState validOf longOf withLong withCounter withBank withBothFlags withFlags getBits setBits getSlot setSlot slotOf getRegister setRegister byteOf flagsOf basic holdsOf onesOf evenOnes parityOf computedOf sumOf differenceOf plain andOf orOf xorOf operated placesOf shiftBy shiftOf incOf decOf extzOf extsOf numberAt judge lookup placesRows registerRows memoryRows storeRows copies compares blocks indirectRows bankNumberRows bankRows flagRows constantRows stackRows jumpRows relativeRows registerFormRows absoluteRows memoryFormRows memoryAtRows storeFormRows firstRows decodeOf addressOf valueAt storing pushOf popOf flagged jumpOf counted moved copied compared roundOf goesOn endsAt pastOf effectOf executedOf guarded onceOf tryOf stepOf given sameBytes reaches right every examples
+unfolding valueOf bytesFrom replaced placeOf loadOf storeOf ramAfter codeAt zeroState validOf longOf withLong withCounter withBank withBothFlags withFlags getBits setBits slotIn setSlot slotOf registerAt setRegister byteOf flagsOf basic holdsOf onesOf evenOnes parityOf computedOf sumOf differenceOf plain andOf orOf xorOf operated placesOf shiftBy shiftOf incOf decOf extzOf extsOf numberAt judge lookup placesRows registerRows memoryRows storeRows copies compares blocks indirectRows bankNumberRows bankRows flagRows constantRows stackRows jumpRows relativeRows registerFormRows absoluteRows memoryFormRows memoryAtRows storeFormRows firstRows decodeOf addressIn valueIn storing pushOf popOf flagged jumpOf counted moved copied compared roundOf goesOn endsAt pastOf effectOf executedOf guarded onceOf tryOf stepOf given sameBytes reaches right every examples
 examples-hold = tt

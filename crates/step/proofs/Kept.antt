@@ -1,5 +1,5 @@
 -- A step keeps a valid state valid, a sound one sound, and RAM's length.
-use Prim.Native.Nat.{ℕ}
+use Prim.Native.Nat.{ℕ, _%_, _^_}
 use mathlib.Core.Path.{_≡_, ap, _∙_}
 use mathlib.Core.List.{List}
 use native.Mathlib.Omega.{arith}
@@ -13,7 +13,7 @@ use Rattle.state.specs.State.{withCounter, withBank, withFlags, withBothFlags}
 use Rattle.state.specs.Register.{setRegister}
 use Rattle.state.specs.Sound.{Sound}
 use Rattle.state.specs.declared.State.{State}
-use Rattle.state.proofs.Laws.{sound-register}
+use Rattle.state.proofs.Laws.{sound-lent, sound-register}
 use Rattle.state.proofs.Valid.{Valid, valid-says, valid-from, valid-register, valid-counter, valid-bank, valid-flags, valid-both}
 use Rattle.code.specs.declared.Form.{Form}
 use Rattle.code.specs.declared.Instruction.{Instruction}
@@ -56,22 +56,22 @@ compared-valid f v s ok = compared-kept Valid valid-kept f v s ok
 sound-counter : (s : State) (c : ℕ) → Sound s → Sound (withCounter s c)
 unfolding withCounter
 sound-counter s c ok =
-    record { twenty = ok .twenty; fit = ok .fit; counter-fit = omega arith; bank-fit = ok .bank-fit; level-fit = ok .level-fit; flags-fit = ok .flags-fit; spare-fit = ok .spare-fit }
+    sound-lent s (s .registers) (c % 2 ^ 24) (s .bank .0) (s .flags) (s .spare) ok (ok .twenty) (ok .fit) (omega arith) (ok .bank-fit) (ok .flags-fit) (ok .spare-fit)
 
 sound-bank : (s : State) (b : ℕ) → Sound s → Sound (withBank s b)
 unfolding withBank
 sound-bank s b ok =
-    record { twenty = ok .twenty; fit = ok .fit; counter-fit = ok .counter-fit; bank-fit = omega arith; level-fit = ok .level-fit; flags-fit = ok .flags-fit; spare-fit = ok .spare-fit }
+    sound-lent s (s .registers) (s .counter) (b % 4) (s .flags) (s .spare) ok (ok .twenty) (ok .fit) (ok .counter-fit) (omega arith) (ok .flags-fit) (ok .spare-fit)
 
 sound-flagged : (s : State) (f : Flags) → Sound s → Sound (flagged s f)
 unfolding flagged withFlags withBothFlags
 sound-flagged s f ok =
-    record { twenty = ok .twenty; fit = ok .fit; counter-fit = ok .counter-fit; bank-fit = ok .bank-fit; level-fit = ok .level-fit; flags-fit = packed-lt f; spare-fit = ok .spare-fit }
+    sound-lent s (s .registers) (s .counter) (s .bank .0) (byteOf f) (s .spare) ok (ok .twenty) (ok .fit) (ok .counter-fit) (ok .bank-fit) (packed-lt f) (ok .spare-fit)
 
 sound-exchanged : (s : State) → Sound s → Sound (exchanged s)
 unfolding withBothFlags
 sound-exchanged s ok =
-    record { twenty = ok .twenty; fit = ok .fit; counter-fit = ok .counter-fit; bank-fit = ok .bank-fit; level-fit = ok .level-fit; flags-fit = ok .spare-fit; spare-fit = ok .flags-fit }
+    sound-lent s (s .registers) (s .counter) (s .bank .0) (s .spare) (s .flags) ok (ok .twenty) (ok .fit) (ok .counter-fit) (ok .bank-fit) (ok .spare-fit) (ok .flags-fit)
 
 pub sound-kept : Kept Sound
 sound-kept = record { registers = sound-register; counters = sound-counter; banks = sound-bank; flags = sound-flagged; exchanges = sound-exchanged }

@@ -19,11 +19,8 @@ use Rattle.memory.specs.Access.{loadOf, storeOf, ramAfter}
 use Rattle.memory.specs.declared.Loaded.the-variants as loaded
 use Rattle.memory.proofs.Laws.{refused-keeps}
 use Rattle.state.specs.declared.State.{State}
-use Rattle.state.specs.State.{stateOf, longOf, withCounter, withFlags, withBothFlags}
-use Rattle.state.specs.Register.{getRegister, getSlot}
-use Rattle.code.specs.declared.MemoryForm.{MemoryForm}
-use Rattle.code.specs.declared.Base.{Base}
-use Rattle.code.specs.declared.Base.the-variants.{Indirect, Displaced, Absolute8, Absolute16, Absolute24}
+use Rattle.state.specs.State.{standingAt, withCounter}
+use Rattle.state.specs.Register.{getRegister}
 use Rattle.step.specs.Try.{Try, did, no, Outcome, after, leaves, andThen}
 use Rattle.code.specs.Listed.{decodeOf}
 use Rattle.code.specs.declared.Decoded.{Decoded}
@@ -33,7 +30,7 @@ use lib.ListN.{length}
 use Rattle.step.specs.Exec.{pastOf}
 use Rattle.step.specs.Step.{done}
 use Rattle.step.specs.Show.{lengthIn}
-use Rattle.step.specs.Operand.{displaced, pointerOf, addressOf, addressFrom, storing}
+use Rattle.step.specs.Operand.{displaced, pointerOf, storing}
 use Rattle.step.specs.Stack.{less, plus, withStack, popOf}
 
 -- ---- sums that wrap
@@ -90,19 +87,6 @@ module _ (s t : State) (ram rom : List ℕ) (a : ℕ) (z : Size) (v : ℕ) (m : 
   pub not-stored : (w : Why) → storeOf ram rom a z ≡ Refused w → _≡_ {A = Outcome} (record { state = s; ram = m; answer = Refused w }) (leaves s ram (storing t ram rom a z v))
   unfolding storing
   not-stored w e = rw (e, after ∙ refused-keeps ram rom a z v w e) refl
-
--- ---- flags
--- new flags move no operand
-pub address-flags : (s : State) (f : ℕ) (m : MemoryForm) → addressOf (withFlags s f) m ≡ addressOf s m
-unfolding addressOf getRegister getSlot longOf withFlags withBothFlags
-address-flags s f m = go (m .base)
-  where
-    go : (b : Base) → addressFrom (withFlags s f) b (m .number) ≡ addressFrom s b (m .number)
-    go (Indirect r) = refl
-    go (Displaced r) = refl
-    go Absolute8 = refl
-    go Absolute16 = refl
-    go Absolute24 = refl
 
 -- ---- pops
 module _ (s : State) (ram rom : List ℕ) (z : Size) (rest : State → ℕ → State) where
@@ -173,7 +157,7 @@ went s p ram a u m (no w) e d =
 
 -- the state with the counter that it had, not cut
 backAt : State → ℕ → State
-backAt s at = stateOf (s .registers) at (s .bank .0) (s .level .0) (s .flags) (s .spare)
+backAt s at = standingAt s at
 
 back-is : (n : ℕ) (s : State) → backAt (pastOf n s) (s .counter) ≡ s
 unfolding pastOf withCounter backAt
@@ -182,7 +166,7 @@ back-is n s = refl
 pub came-back :
     (s : State) (n : ℕ) (ram : List ℕ) (a : Answer) (u : State) (m : List ℕ) (w : Why) (t : Try) →
     after a u m ≡ leaves (pastOf n s) ram t → a ≡ Refused w →
-    after (Refused w) (stateOf (u .registers) (s .counter) (u .bank .0) (u .level .0) (u .flags) (u .spare)) m ≡ leaves s ram t
+    after (Refused w) (standingAt u (s .counter)) m ≡ leaves s ram t
 unfolding backAt
 came-back s n ram a u m w (did v l) e d =
     let b : a ≡ Done = ap (λ (o : Outcome). o .answer) e in

@@ -29,29 +29,29 @@ use Rattle.code.proofs.Judge.{next-there, number-read, number-lacks}
 use Rattle.step.specs.Try.{Outcome, after, leaves}
 use Rattle.step.specs.Exec.{executedOf}
 use Rattle.step.specs.Step.{done}
-use Rattle.step.specs.Register.{onRegister, secondLeaves}
+use Rattle.step.specs.Register.{onRegister, secondDone}
 use Rattle.step.proofs.Laws.{judged}
 
 module _ (z : Size) (r : ℕ) (s : State) (code ram rom : List ℕ) where
   pub second :
-      (o : Outcome) → 1 < length code → o ≡ secondLeaves code (getD code 1 0) z r s ram rom
+      (o : Outcome) → 1 < length code → o ≡ leaves s ram (secondDone code (getD code 1 0) z r s ram rom)
       → o ≡ leaves s ram (done (judge (byRows (registerRows z (Register r))) code 1) s ram rom)
   second o h e = judged s ram rom o _ _ (next-there (lookup (registerRows z (Register r))) code 1 _ h refl) e
 
   -- the second byte says the whole
-  pub says-whole : (op : Op) (c : ℕ) (o : Outcome) → lookup (registerRows z (Register r)) c ≡ whole op z (Register r) → o ≡ onRegister op 2 z r s ram rom → o ≡ secondLeaves code c z r s ram rom
+  pub says-whole : (op : Op) (c : ℕ) (o : Outcome) → lookup (registerRows z (Register r)) c ≡ whole op z (Register r) → o ≡ leaves s ram (onRegister op 2 z r s ram rom) → o ≡ leaves s ram (secondDone code c z r s ram rom)
   unfolding judge executedOf
   says-whole op c o e h = rw e h
 
   -- it asks for a constant
   module _ (op : ℕ → Op) (c n : ℕ) (e : lookup (registerRows z (Register r)) c ≡ number (bytesOf z) (λ v. whole (op v) z (Register r))) (f : n ≡ bytesOf z) where
-    pub says-number : (v : ℕ) (o : Outcome) → 2 + n ≤ length code → v ≡ valueOf (take n (drop 2 code)) → o ≡ onRegister (op v) (2 + n) z r s ram rom → o ≡ secondLeaves code c z r s ram rom
+    pub says-number : (v : ℕ) (o : Outcome) → 2 + n ≤ length code → v ≡ valueOf (take n (drop 2 code)) → o ≡ leaves s ram (onRegister (op v) (2 + n) z r s ram rom) → o ≡ leaves s ram (secondDone code c z r s ram rom)
     unfolding judge executedOf
     says-number v o h g k =
         rw (e, ← f)
         (judged s ram rom o (wholeOf (op v) z (Register r) (2 + n)) _ (number-read (λ w. whole (op w) z (Register r)) code 2 n v _ h g refl) k)
 
-    pub lacks-number : length code < 2 + n → after (Refused NoCode) s ram ≡ secondLeaves code c z r s ram rom
+    pub lacks-number : length code < 2 + n → after (Refused NoCode) s ram ≡ leaves s ram (secondDone code c z r s ram rom)
     lacks-number h = rw (e, ← f) (judged s ram rom _ Short _ (number-lacks (λ w. whole (op w) z (Register r)) code 2 n h) refl)
 
 -- ---- an extension is of words and longs only

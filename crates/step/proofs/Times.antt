@@ -18,7 +18,7 @@ use Rattle.memory.specs.Place.{placeOf}
 use Rattle.memory.specs.declared.Place.{Place}
 use Rattle.memory.specs.declared.Place.the-variants.{Ram, Rom, Missing}
 use Rattle.memory.proofs.Laws.{rom-fits, code-in}
-use Rattle.state.specs.State.{stateOf, withCounter}
+use Rattle.state.specs.State.{bankedAtWith, standingAt, withCounter}
 use Rattle.state.specs.declared.State.{State}
 use Rattle.code.specs.Listed.{decodeOf}
 use Rattle.code.specs.declared.Decoded.{Decoded}
@@ -89,25 +89,22 @@ fewer-same (Refused w) n = refl
 -- ---- what stands at an address
 module _ (at past : ℕ) (ram rom : List ℕ) where
   pub one-step :
-      (does : State → List ℕ → Try) → Stands at past ram rom does → (n : ℕ) (registers : List ℕ) (bank level flags spare : ℕ)
-      → does (stateOf registers past bank level flags spare) ram ≡ timesOf (suc (n - n)) (stateOf registers at bank level flags spare) ram rom
-  one-step does h n registers bank level flags spare =
-      sym (times-one n (stateOf registers at bank level flags spare) ram rom ∙ h ram refl registers bank level flags spare)
+      (does : State → List ℕ → Try) → Stands at past ram rom does → (n : ℕ) (s : State)
+      → does (standingAt s past) ram ≡ timesOf (suc (n - n)) (standingAt s at) ram rom
+  one-step does h n s = sym (times-one n (standingAt s at) ram rom ∙ h ram refl s)
 
   pub stands-block :
       (k : Kind) (z : Size) (o : Operand) (f : Form) → Stands at past ram rom (λ s m. kindDone k z o at s m rom) → k ≡ Blocks f
       → Stands at past ram rom (λ s m. andThen (roundOf f s m rom) (endsAt f at))
-  stands-block k z o f h e m same registers bank level flags spare =
-      h m same registers bank level flags spare
-      ∙ ap (λ (x : Kind). kindDone x z o at (stateOf registers past bank level flags spare) m rom) e
+  stands-block k z o f h e m same s = h m same s ∙ ap (λ (x : Kind). kindDone x z o at (standingAt s past) m rom) e
 
 pub stands-decoded :
     (i : Instruction) (at r : ℕ) (ram rom : List ℕ) (k : Kind) → decodeOf (codeAt ram rom at) ≡ decoded.Whole i → r ≡ (at + i .length % 16777216) % 2 ^ 32
     → k ≡ kindOf (i .op) → Stands at (r % 2 ^ 24) ram rom (λ s m. kindDone k (i .size) (i .operand) at s m rom)
 unfolding onceOf executedOf withCounter
-stands-decoded i at r ram rom k d e g m same registers bank level flags spare =
-    let s = stateOf registers at bank level flags spare in
-    let t = stateOf registers (r % 2 ^ 24) bank level flags spare in
+stands-decoded i at r ram rom k d e g m same rest =
+    let s = standingAt rest at in
+    let t = standingAt rest (r % 2 ^ 24) in
     ap (λ (x : List ℕ). done (decodeOf x) s m rom) same
     ∙ ap (λ (x : Decoded). done x s m rom) d
     ∙ ap (λ (p : State). effectOf (i .op) (i .size) (i .operand) at p m rom) (sym (past-is (i .length) s r e))
@@ -133,25 +130,25 @@ module _ (ram rom : List ℕ) (a : ℕ) where
 
 -- ---- one round more of a form that stands at an address, after k steps that were done
 module _
-    (f : Form) (at past bank level spare : ℕ) (ram rom : List ℕ) (start : State)
+    (f : Form) (at past bank : ℕ) (rest : State) (ram rom : List ℕ) (start : State)
     (h : Stands at past ram rom (λ s m. andThen (roundOf f s m rom) (endsAt f at)))
     (k : ℕ) (registers : List ℕ) (flags : ℕ) (m : List ℕ)
     (same : codeAt m rom at ≡ codeAt ram rom at)
-    (so-far : timesOf k start ram rom ≡ did (stateOf registers at bank level flags spare) m)
+    (so-far : timesOf k start ram rom ≡ did (bankedAtWith rest registers bank at flags) m)
     (a : Answer) (registers′ : List ℕ) (flags′ : ℕ) (m′ : List ℕ)
-    (e : after a (stateOf registers′ past bank level flags′ spare) m′
-    ≡ leaves (stateOf registers past bank level flags spare) m (roundOf f (stateOf registers past bank level flags spare) m rom)) where
-  next-is : timesOf (suc k) start ram rom ≡ andThen (roundOf f (stateOf registers past bank level flags spare) m rom) (endsAt f at)
-  next-is = times-more k start ram rom (stateOf registers at bank level flags spare) m so-far ∙ h m same registers bank level flags spare
+    (e : after a (bankedAtWith rest registers′ bank past flags′) m′
+    ≡ leaves (bankedAtWith rest registers bank past flags) m (roundOf f (bankedAtWith rest registers bank past flags) m rom)) where
+  next-is : timesOf (suc k) start ram rom ≡ andThen (roundOf f (bankedAtWith rest registers bank past flags) m rom) (endsAt f at)
+  next-is = times-more k start ram rom (bankedAtWith rest registers bank at flags) m so-far ∙ h m same (bankedAtWith rest registers bank at flags)
 
-  pub round-done : a ≡ Done → timesOf (suc k) start ram rom ≡ did (endsAt f at (stateOf registers′ past bank level flags′ spare)) m′
+  pub round-done : a ≡ Done → timesOf (suc k) start ram rom ≡ did (endsAt f at (bankedAtWith rest registers′ bank past flags′)) m′
   round-done d =
       next-is
       ∙ ap (λ (t : Try). andThen t (endsAt f at))
-      (was-done (stateOf registers past bank level flags spare) m a (stateOf registers′ past bank level flags′ spare) m′ (roundOf f (stateOf registers past bank level flags spare) m rom) e d)
+      (was-done (bankedAtWith rest registers bank past flags) m a (bankedAtWith rest registers′ bank past flags′) m′ (roundOf f (bankedAtWith rest registers bank past flags) m rom) e d)
 
-  pub round-again : a ≡ Done → goesOn f (stateOf registers′ past bank level flags′ spare) ≡ true → at < 2 ^ 24
-      → timesOf (suc k) start ram rom ≡ did (stateOf registers′ at bank level flags′ spare) m′
+  pub round-again : a ≡ Done → goesOn f (bankedAtWith rest registers′ bank past flags′) ≡ true → at < 2 ^ 24
+      → timesOf (suc k) start ram rom ≡ did (bankedAtWith rest registers′ bank at flags′) m′
   unfolding endsAt withCounter
   round-again d g l = round-done d ∙ rw (g, mod-eq-of-lt l) refl
 
@@ -159,28 +156,28 @@ module _
   round-not w d =
       next-is
       ∙ ap (λ (t : Try). andThen t (endsAt f at))
-      (was-refused (stateOf registers past bank level flags spare) m a (stateOf registers′ past bank level flags′ spare) m′ w (roundOf f (stateOf registers past bank level flags spare) m rom) e d .0)
+      (was-refused (bankedAtWith rest registers bank past flags) m a (bankedAtWith rest registers′ bank past flags′) m′ w (roundOf f (bankedAtWith rest registers bank past flags) m rom) e d .0)
 
   -- a refusal of the first round, and of a later one
   pub first-not :
-      (w : Why) → a ≡ Refused w → (registers₀ : List ℕ) (flags₀ : ℕ) → start ≡ stateOf registers₀ at bank level flags₀ spare → k ≡ 0
-      → after (Refused w) (stateOf registers′ past bank level flags′ spare) m′
-      ≡ leaves (stateOf registers₀ past bank level flags₀ spare) ram (timesOf (suc k) start ram rom)
+      (w : Why) → a ≡ Refused w → (registers₀ : List ℕ) (flags₀ : ℕ) → start ≡ bankedAtWith rest registers₀ bank at flags₀ → k ≡ 0
+      → after (Refused w) (bankedAtWith rest registers′ bank past flags′) m′
+      ≡ leaves (bankedAtWith rest registers₀ bank past flags₀) ram (timesOf (suc k) start ram rom)
   unfolding timesOf
   first-not w d registers₀ flags₀ s z =
-      let g = was-refused (stateOf registers past bank level flags spare) m a (stateOf registers′ past bank level flags′ spare) m′ w (roundOf f (stateOf registers past bank level flags spare) m rom) e d in
-      let b : did start ram ≡ did (stateOf registers at bank level flags spare) m = ap (λ (n : ℕ). timesOf n start ram rom) (sym z) ∙ so-far in
-      let v : stateOf registers′ past bank level flags′ spare ≡ stateOf registers₀ past bank level flags₀ spare =
-      g .1 ∙ sym (ap (λ (x : State). stateOf (x .registers) past bank level (x .flags) spare) (sym s ∙ ap (stateOr start) b)) in
+      let g = was-refused (bankedAtWith rest registers bank past flags) m a (bankedAtWith rest registers′ bank past flags′) m′ w (roundOf f (bankedAtWith rest registers bank past flags) m rom) e d in
+      let b : did start ram ≡ did (bankedAtWith rest registers bank at flags) m = ap (λ (n : ℕ). timesOf n start ram rom) (sym z) ∙ so-far in
+      let v : bankedAtWith rest registers′ bank past flags′ ≡ bankedAtWith rest registers₀ bank past flags₀ =
+      g .1 ∙ sym (ap (λ (x : State). bankedAtWith rest (x .registers) bank past (x .flags)) (sym s ∙ ap (stateOr start) b)) in
       let r : m′ ≡ ram = g .2 ∙ sym (ap (ramOr ram) b) in
-      ap (λ (x : State). after (Refused w) x m′) v ∙ ap (λ (x : List ℕ). after (Refused w) (stateOf registers₀ past bank level flags₀ spare) x) r
-      ∙ ap (leaves (stateOf registers₀ past bank level flags₀ spare) ram) (sym (round-not w d))
+      ap (λ (x : State). after (Refused w) x m′) v ∙ ap (λ (x : List ℕ). after (Refused w) (bankedAtWith rest registers₀ bank past flags₀) x) r
+      ∙ ap (leaves (bankedAtWith rest registers₀ bank past flags₀) ram) (sym (round-not w d))
 
   pub later-not :
-      (w : Why) → a ≡ Refused w → (p : State) → after Done (stateOf registers′ at bank level flags′ spare) m′ ≡ leaves p ram (timesOf k start ram rom)
+      (w : Why) → a ≡ Refused w → (p : State) → after Done (bankedAtWith rest registers′ bank at flags′) m′ ≡ leaves p ram (timesOf k start ram rom)
   later-not w d p =
-      let g = was-refused (stateOf registers past bank level flags spare) m a (stateOf registers′ past bank level flags′ spare) m′ w (roundOf f (stateOf registers past bank level flags spare) m rom) e d in
-      let v : stateOf registers′ at bank level flags′ spare ≡ stateOf registers at bank level flags spare =
-      ap (λ (x : State). stateOf (x .registers) at bank level (x .flags) spare) (g .1) in
-      ap (λ (x : State). after Done x m′) v ∙ ap (λ (x : List ℕ). after Done (stateOf registers at bank level flags spare) x) (g .2)
+      let g = was-refused (bankedAtWith rest registers bank past flags) m a (bankedAtWith rest registers′ bank past flags′) m′ w (roundOf f (bankedAtWith rest registers bank past flags) m rom) e d in
+      let v : bankedAtWith rest registers′ bank at flags′ ≡ bankedAtWith rest registers bank at flags =
+      ap (λ (x : State). bankedAtWith rest (x .registers) bank at (x .flags)) (g .1) in
+      ap (λ (x : State). after Done x m′) v ∙ ap (λ (x : List ℕ). after Done (bankedAtWith rest registers bank at flags) x) (g .2)
       ∙ ap (leaves p ram) (sym so-far)

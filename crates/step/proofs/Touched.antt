@@ -20,7 +20,7 @@ use Rattle.memory.specs.Access.{loadOf, loadFrom, storeOf, ramAfter, operandAt}
 use Rattle.memory.specs.declared.Place.{Place}
 use Rattle.memory.specs.declared.Place.the-variants.{Ram, Rom, Missing}
 use Rattle.memory.proofs.Laws.{after-length, after-below, after-above}
-use Rattle.state.specs.State.{withCounter, withBank, withFlags}
+use Rattle.state.specs.State.{withCounter, withBank, withFlags, withBothFlags}
 use Rattle.state.specs.Register.{getRegister, setRegister}
 use Rattle.state.specs.declared.State.{State}
 use Rattle.code.specs.declared.Form.{Form}
@@ -30,7 +30,7 @@ use Rattle.code.specs.declared.Op.{Op}
 use Rattle.code.specs.declared.Op.the-variants.{Nop, Incf, Decf, Ldf, Rcf, Scf, Ccf, Zcf, Exf, PushF, PopF, Set, Push, Pop, Jp16, Jp24, Call16, Call24, Calr, Ret, Jr, Jrl, LoadConstant, Load, Into, Compute, ComputeInto, ComputeConstant, Inc, Dec, Shifted, Extz, Exts, Store, Block}
 use Rattle.alu.specs.Condition.{holdsOf}
 use Rattle.step.specs.Try.{Try, did, no, andThen, withLoaded}
-use Rattle.step.specs.Operand.{pointerOf, valueAt, storing, storedBy, putAt}
+use Rattle.step.specs.Operand.{pointerOf, valueAt, valueIn, storing, storedBy, putAt}
 use Rattle.step.specs.Stack.{plus, pushOf, popOf}
 use Rattle.step.specs.Flag.{flagsIn, flagged, exchanged}
 use Rattle.step.specs.Jump.{jumpOf}
@@ -38,7 +38,6 @@ use Rattle.step.specs.Compute.{computed, resultIn, storesOf, answerIn}
 use Rattle.step.specs.Block.{counted, moved, copied, compared, roundOf, goesOn, endsAt}
 use Rattle.step.specs.Exec.{pastOf, effectOf}
 use Rattle.step.specs.Touched.{Span, none, bytes, operandSpan, onStack, belowStack, readOf, targetOf, loadTo, readAnswer, storeAnswer, answerBy, Spares}
-use Rattle.step.proofs.Laws.{address-flags}
 
 -- what no change of the state breaks
 pub record Kept (P : State → Type 0) : Type 0 where
@@ -134,7 +133,7 @@ module _ (P : State → Type 0) (ram rom : List ℕ) where
       go Missing e = ap (λ (p : Place). firstRefusal (loadTo p) (storeAnswer ram rom g)) e
 
   fair-value : (s : State) (z : Size) (o : Operand) (g : Span) (f : ℕ → Try) → ((v : ℕ) → Fair none g (f v)) → Fair (operandSpan s z o) g (withLoaded (valueAt s ram rom z o) f)
-  unfolding valueAt
+  unfolding valueIn
   fair-value s z (Register r) g f h = h _
   fair-value s z (Constant n) g f h = h _
   fair-value s z (Memory m) g f h = fair-loaded _ z g f h
@@ -160,9 +159,10 @@ module _ (P : State → Type 0) (ram rom : List ℕ) where
 
   -- new flags move no operand
   span-flags : (s : State) (f : ℕ) (z : Size) (o : Operand) → operandSpan (withFlags s f) z o ≡ operandSpan s z o
+  unfolding withFlags withBothFlags
   span-flags s f z (Register r) = refl
   span-flags s f z (Constant n) = refl
-  span-flags s f z (Memory m) = ap (λ (a : ℕ). bytes a (bytesOf z)) (address-flags s f m)
+  span-flags s f z (Memory m) = refl
 
   fair-flagged : (s : State) (f : ℕ) (z : Size) (o : Operand) (v : ℕ) → Kept P → P (withFlags s f) → Fair none (operandSpan s z o) (putAt (withFlags s f) ram rom z o v)
   fair-flagged s f z o v k ok = subst (λ (g : Span). Fair none g (putAt (withFlags s f) ram rom z o v)) (span-flags s f z o) (fair-put (withFlags s f) z o v k ok)

@@ -11,7 +11,7 @@ use Rattle.alu.specs.Sums.{differenceOf}
 use Rattle.code.specs.declared.Form.{Form}
 use Rattle.memory.specs.Access.{loadOf}
 use Rattle.state.specs.State.{withCounter}
-use Rattle.state.specs.Register.{getRegister, setRegister}
+use Rattle.state.specs.Register.{registerAt, getRegister, setRegister}
 use Rattle.state.specs.declared.State.{State}
 use Rattle.step.specs.Try.{Try, did, withLoaded}
 use Rattle.step.specs.Operand.{pointerOf, storing}
@@ -44,10 +44,13 @@ copied f s =
     flagged t (copiedOf (flagsIn s) (moreIn t))
 
 -- A of a byte's compare, WA of a word's
+abbrev pub accumulatorIn : List ℕ → ℕ → Size → ℕ
+accumulatorIn registers bank Byte = registerAt registers bank Byte 1
+accumulatorIn registers bank Word = registerAt registers bank Word 0
+accumulatorIn registers bank Long = registerAt registers bank Long 0
+
 abbrev pub accumulator : State → Size → ℕ
-accumulator s Byte = getRegister s Byte 1
-accumulator s Word = getRegister s Word 0
-accumulator s Long = getRegister s Long 0
+accumulator s z = accumulatorIn (s .registers) (s .bank .0) z
 
 -- the registers and flags after a compare's round with the element v: the pointer, BC, and the flags of CPI and CPD
 unfoldable pub compared : Form → ℕ → State → State

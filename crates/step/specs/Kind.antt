@@ -22,7 +22,7 @@ use Rattle.code.specs.Written.{constantIn, registerIn}
 use Rattle.memory.specs.declared.Loaded.{Loaded}
 use Rattle.memory.specs.declared.Loaded.the-variants.{Value}
 use Rattle.state.specs.State.{withBank, withCounter, withFlags}
-use Rattle.state.specs.Register.{getRegister, setRegister}
+use Rattle.state.specs.Register.{registerAt, getRegister, setRegister}
 use Rattle.state.specs.declared.State.{State}
 use Rattle.step.specs.declared.kind.Kind.{Kind}
 use Rattle.step.specs.declared.kind.Kind.the-variants.{Puts, Sets, Controls, Stacks, Blocks}
@@ -37,7 +37,7 @@ use Rattle.step.specs.declared.kind.Stack.the-variants as stack
 use Rattle.step.specs.declared.compute.Work.{Work}
 use Rattle.step.specs.declared.compute.Packed.{Packed}
 use Rattle.step.specs.Try.{Try, did, andThen, withLoaded}
-use Rattle.step.specs.Operand.{displaced, valueAt, putAt}
+use Rattle.step.specs.Operand.{displaced, valueIn, putAt}
 use Rattle.step.specs.Flag.{flagsIn, flagged, exchanged}
 use Rattle.step.specs.Jump.{jumpOf}
 use Rattle.step.specs.Stack.{withStack, pushOf, popOf, callOf, retOf, pushFOf, popFOf}
@@ -96,20 +96,20 @@ readsOf uses.Extz = true
 readsOf uses.Exts = true
 
 -- what is put where it is not
-abbrev pub givenOf : Use → State → Size → ℕ
-givenOf (uses.Number n) s z = n
-givenOf (uses.From r) s z = getRegister s z r
-givenOf (uses.Load r) s z = 0
-givenOf (uses.Compute a other) s z = 0
-givenOf (uses.Inc n) s z = 0
-givenOf (uses.Dec n) s z = 0
-givenOf (uses.Shift shift n) s z = 0
-givenOf uses.Extz s z = 0
-givenOf uses.Exts s z = 0
+abbrev pub givenOf : Use → List ℕ → ℕ → Size → ℕ
+givenOf (uses.Number n) registers bank z = n
+givenOf (uses.From r) registers bank z = registerAt registers bank z r
+givenOf (uses.Load r) registers bank z = 0
+givenOf (uses.Compute a other) registers bank z = 0
+givenOf (uses.Inc n) registers bank z = 0
+givenOf (uses.Dec n) registers bank z = 0
+givenOf (uses.Shift shift n) registers bank z = 0
+givenOf uses.Extz registers bank z = 0
+givenOf uses.Exts registers bank z = 0
 
 -- the one or the other
-abbrev pub sourceOf : Use → State → List ℕ → List ℕ → Size → Operand → Loaded
-sourceOf how s ram rom z o = cond (readsOf how) (valueAt s ram rom z o) (Value (givenOf how s z))
+abbrev pub sourceOf : Use → List ℕ → ℕ → List ℕ → List ℕ → Size → Operand → Loaded
+sourceOf how registers bank ram rom z o = cond (readsOf how) (valueIn registers bank ram rom z o) (Value (givenOf how registers bank z))
 
 -- a result with its flags, and a value that keeps the flags
 abbrev pub resultOf : Computed → Operand → Work
@@ -119,15 +119,15 @@ abbrev pub keptOf : ℕ → ℕ → Operand → Work
 keptOf flags v o = record { value = v; flags = flags; into = o }
 
 -- the two operands, and where the result goes; CP puts nothing, as into a constant
-abbrev pub firstOf : Side → State → Size → ℕ → ℕ
-firstOf (side.Register r) s z v = getRegister s z r
-firstOf (side.Into r) s z v = v
-firstOf (side.With n) s z v = v
+abbrev pub firstOf : Side → List ℕ → ℕ → Size → ℕ → ℕ
+firstOf (side.Register r) registers bank z v = registerAt registers bank z r
+firstOf (side.Into r) registers bank z v = v
+firstOf (side.With n) registers bank z v = v
 
-abbrev pub secondOf : Side → State → Size → ℕ → ℕ
-secondOf (side.Register r) s z v = v
-secondOf (side.Into r) s z v = getRegister s z r
-secondOf (side.With n) s z v = n
+abbrev pub secondOf : Side → List ℕ → ℕ → Size → ℕ → ℕ
+secondOf (side.Register r) registers bank z v = v
+secondOf (side.Into r) registers bank z v = registerAt registers bank z r
+secondOf (side.With n) registers bank z v = n
 
 abbrev pub intoOf : Side → Operand → Operand
 intoOf (side.Register r) o = operand.Register r
@@ -143,7 +143,7 @@ packedOf r = record { value = r .value; flags = byteOf (r .flags) }
 
 -- an operation on two operands
 abbrev pub arithmeticOf : Arith → Side → State → Size → Operand → ℕ → Work
-arithmeticOf a other s z o v = resultOf (computed s a z (firstOf other s z v) (secondOf other s z v)) (targetOf a (intoOf other o))
+arithmeticOf a other s z o v = resultOf (computed s a z (firstOf other (s .registers) (s .bank .0) z v) (secondOf other (s .registers) (s .bank .0) z v)) (targetOf a (intoOf other o))
 
 -- what is made of the value v
 abbrev pub workOf : Use → State → Size → Operand → ℕ → Work
@@ -163,7 +163,7 @@ putWork s ram rom z w = putAt (withFlags s (w .flags)) ram rom z (w .into) (w .v
 
 -- the three together
 abbrev pub putsOf : Use → State → List ℕ → List ℕ → Size → Operand → Try
-putsOf how s ram rom z o = withLoaded (sourceOf how s ram rom z o) (λ v. putWork s ram rom z (workOf how s z o v))
+putsOf how s ram rom z o = withLoaded (sourceOf how (s .registers) (s .bank .0) ram rom z o) (λ v. putWork s ram rom z (workOf how s z o v))
 
 -- ---- what changes the counter, the bank and the flags alone, with the operand's number n
 abbrev pub controlOf : Control → ℕ → State → State

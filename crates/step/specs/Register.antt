@@ -8,14 +8,14 @@ use Rattle.code.specs.declared.Operand.the-variants.{Register}
 use Rattle.code.specs.Said.{judge}
 use Rattle.code.specs.Rows.{lookup}
 use Rattle.code.specs.Registers.{registerRows}
-use Rattle.step.specs.Try.{Outcome, leaves}
+use Rattle.step.specs.Try.{Try}
 use Rattle.step.specs.Exec.{pastOf, effectOf}
 use Rattle.step.specs.Step.{done}
 
--- what an operation of n bytes on the register r leaves
-abbrev pub onRegister : Op → ℕ → Size → ℕ → State → List ℕ → List ℕ → Outcome
-onRegister op n z r s ram rom = leaves s ram (effectOf op z (Register r) (s .counter) (pastOf n s) ram rom)
+-- what an operation of n bytes on the register r does
+abbrev pub onRegister : Op → ℕ → Size → ℕ → State → List ℕ → List ℕ → Try
+onRegister op n z r s ram rom = effectOf op z (Register r) (s .counter) (pastOf n s) ram rom
 
--- what the code leaves whose second byte is c
-abbrev pub secondLeaves : List ℕ → ℕ → Size → ℕ → State → List ℕ → List ℕ → Outcome
-secondLeaves code c z r s ram rom = leaves s ram (done (judge (lookup (registerRows z (Register r)) c) code 2) s ram rom)
+-- what the code does whose second byte is c
+abbrev pub secondDone : List ℕ → ℕ → Size → ℕ → State → List ℕ → List ℕ → Try
+secondDone code c z r s ram rom = done (judge (lookup (registerRows z (Register r)) c) code 2) s ram rom

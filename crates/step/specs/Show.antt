@@ -3,11 +3,12 @@ use Prim.Native.Nat.{ℕ, _^_}
 use mathlib.Core.List.{List, []}
 use mathlib.Core.Bool.{cond}
 use lib.ListN.{length, take}
-use lib.Dec.{ltb}
+use lib.Dec.{ltb, eqb}
 use Rattle.answer.specs.declared.Answer.{Answer}
 use Rattle.answer.specs.declared.Answer.the-variants.{Done, Refused}
 use Rattle.answer.specs.declared.Why.the-variants.{TooLong, Invalid, NoCode, Unlisted}
-use Rattle.memory.specs.Access.{codeAt}
+use Rattle.memory.specs.Access.{codeAt, standsAt}
+use Rattle.memory.specs.Place.{placeOf}
 use Rattle.code.specs.Listed.{decodeOf}
 use Rattle.code.specs.declared.Decoded.{Decoded}
 use Rattle.code.specs.declared.Decoded.the-variants as decoded
@@ -36,3 +37,7 @@ unfoldable pub shownOf : List ℕ → List ℕ → ℕ → List ℕ
 shownOf ram rom at =
     cond (tooLong (length ram) (length rom)) []
     (cond (ltb at (2 ^ 24)) (take (lengthIn (decodeOf (codeAt ram rom at))) (codeAt ram rom at)) [])
+
+-- where they stand: in the memory that holds them; a refusal shows a part of ROM
+unfoldable pub shownFrom : List ℕ → List ℕ → ℕ → ℕ × ℕ → ℕ × ℕ → ℕ × ℕ
+shownFrom ram rom at p q = cond (eqb (length (shownOf ram rom at)) 0) q (standsAt (placeOf (length ram) (length rom) at 1) p q)

@@ -10,7 +10,7 @@ use Rattle.memory.specs.Access.{codeAt}
 use Rattle.memory.specs.declared.Place.{Place}
 use Rattle.memory.specs.declared.Place.the-variants.{Ram, Rom, Missing}
 use Rattle.code.specs.declared.Form.{Form}
-use Rattle.state.specs.State.{stateOf}
+use Rattle.state.specs.State.{standingAt}
 use Rattle.state.specs.declared.State.{State}
 use Rattle.step.specs.Try.{Try, did, no}
 use Rattle.step.specs.Block.{goesOn}
@@ -35,8 +35,7 @@ Fewer (Refused w) m n = n ≡ m
 -- What stands at the address `at`, and will while the bytes there are the same, does this to a state whose counter is past it.
 abbrev pub Stands : ℕ → ℕ → List ℕ → List ℕ → (State → List ℕ → Try) → Type 0
 Stands at past ram rom does =
-    (m : List ℕ) → codeAt m rom at ≡ codeAt ram rom at → (registers : List ℕ) (bank level flags spare : ℕ)
-    → onceOf (stateOf registers at bank level flags spare) m rom ≡ does (stateOf registers past bank level flags spare) m
+    (m : List ℕ) → codeAt m rom at ≡ codeAt ram rom at → (s : State) → onceOf (standingAt s at) m rom ≡ does (standingAt s past) m
 
 -- whether a place is in ROM
 abbrev pub inRom : Place → Bool

@@ -1,5 +1,6 @@
 -- A step that is tried, and what a call leaves.
 use Prim.Native.Nat.{ℕ}
+use mathlib.Core.Path.{_≡_}
 use mathlib.Core.List.{List}
 use Rattle.answer.specs.declared.Why.{Why}
 use Rattle.answer.specs.declared.Answer.{Answer}
@@ -39,6 +40,10 @@ refusedWith s w = record { state = s; answer = Refused w }
 abbrev pub leaves : State → List ℕ → Try → Outcome
 leaves s ram (did t m) = record { state = t; ram = m; answer = Done }
 leaves s ram (no w) = record { state = s; ram = ram; answer = Refused w }
+
+-- what a function does on a state and RAM: it answers a, and leaves t and m
+abbrev pub Does : (State → List ℕ → Try) → State → List ℕ → Answer → State → List ℕ → Type 0
+Does tried s ram a t m = after a t m ≡ leaves s ram (tried s ram)
 
 -- a tried step, and then a change of the state where it is done
 abbrev pub andThen : Try → (State → State) → Try

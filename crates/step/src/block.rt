@@ -1,12 +1,16 @@
 // Copies and compares: each round is a step.
 ghost use mathlib.Core.Path.{_≡_};
-ghost use Prim.Native.Nat.{ℕ};
-ghost use Rattle.state.specs.State.{stateOf};
-ghost use Rattle.step.specs.Try.{after, leaves, andThen};
+ghost use mathlib.Core.Bool.{not};
+ghost use lib.Dec.{eqb};
+ghost use Rattle.little.specs.declared.Size.the-variants.{Word};
+ghost use Rattle.state.specs.declared.State.{State};
+ghost use Rattle.state.specs.Register.{registerAt};
+ghost use Rattle.state.specs.State.{banked, bankedWith, bankedAtWith};
+ghost use Rattle.step.specs.Try.{Does};
 ghost use Rattle.step.specs.Operand.{pointerOf, storing};
 ghost use Rattle.memory.specs.Place.{placeOf};
 ghost use Rattle.step.specs.Times.{inRom, againOf};
-ghost use Rattle.step.specs.Block.{moreIn, counted, steppedOf, moved, copied, accumulator, compared, roundOf, goesOn, endsAt};
+ghost use Rattle.step.specs.Block.{counted, steppedOf, moved, copied, accumulatorIn, compared, roundOf, goesOn, endsAt};
 use crate::operand::pointer;
 use answer::Answer;
 use code::Form;
@@ -16,14 +20,14 @@ use memory::Place;
 
 // Whether BC is not 0.
 fn more(bank: u8, regs: &[u32; 20]) -> bool
-    ensures { λ r. ⌜ ((counter level flags spare : ℕ) → r ≡ moreIn (stateOf (now (regs .entry)) counter bank level flags spare)) ⌝ }
+    ensures { λ r. ⌜ r ≡ not (eqb (registerAt (now (regs .entry)) bank Word 1) 0) ⌝ }
 {
     state::read(regs, bank, Size::Word, 1) != 0
 }
 
 // BC less one.
 fn counted(bank: u8, regs: &mut [u32; 20])
-    ensures { λ _. ⌜ ((counter level flags spare : ℕ) → stateOf (now (regs .exit)) counter bank level flags spare ≡ counted (stateOf (now (regs .entry)) counter bank level flags spare)) ⌝ }
+    ensures { λ _. ⌜ ((s : State) → banked s (now (regs .exit)) bank ≡ counted (banked s (now (regs .entry)) bank)) ⌝ }
 {
     let bc = (state::read(&*regs, bank, Size::Word, 1) % 65536) as u16;
     state::write(
@@ -49,7 +53,7 @@ fn stepped(f: Form, x: u32) -> u32
 
 // A pointer past its element.
 fn moved(f: Form, r: u8, bank: u8, regs: &mut [u32; 20])
-    ensures { λ _. ⌜ ((counter level flags spare : ℕ) → stateOf (now (regs .exit)) counter bank level flags spare ≡ moved f r (stateOf (now (regs .entry)) counter bank level flags spare)) ⌝ }
+    ensures { λ _. ⌜ ((s : State) → banked s (now (regs .exit)) bank ≡ moved f r (banked s (now (regs .entry)) bank)) ⌝ }
 {
     let x = state::read(&*regs, bank, Size::Long, r);
     let y = stepped(f, x);
@@ -57,7 +61,8 @@ fn moved(f: Form, r: u8, bank: u8, regs: &mut [u32; 20])
 }
 
 fn copied(f: Form, bank: u8, flags: &mut u8, regs: &mut [u32; 20])
-    ensures { λ _. ⌜ ((counter level spare : ℕ) → stateOf (now (regs .exit)) counter bank level (now (flags .exit)) spare ≡ copied f (stateOf (now (regs .entry)) counter bank level (now (flags .entry)) spare)) ⌝ }
+    ensures { λ _. ⌜ ((s : State) → bankedWith s (now (regs .exit)) bank (now (flags .exit))
+        ≡ copied f (bankedWith s (now (regs .entry)) bank (now (flags .entry)))) ⌝ }
 {
     moved(f, f.from, bank, &mut *regs);
     moved(f, f.to, bank, &mut *regs);
@@ -68,7 +73,7 @@ fn copied(f: Form, bank: u8, flags: &mut u8, regs: &mut [u32; 20])
 
 // A, WA or XWA.
 fn accumulator(bank: u8, regs: &[u32; 20], size: Size) -> u32
-    ensures { λ r. ⌜ ((counter level flags spare : ℕ) → r ≡ accumulator (stateOf (now (regs .entry)) counter bank level flags spare) size) ⌝ }
+    ensures { λ r. ⌜ r ≡ accumulatorIn (now (regs .entry)) bank size ⌝ }
 {
     match size {
         Size::Byte => state::read(regs, bank, size, 1),
@@ -78,7 +83,8 @@ fn accumulator(bank: u8, regs: &[u32; 20], size: Size) -> u32
 }
 
 fn compared(f: Form, v: u32, bank: u8, flags: &mut u8, regs: &mut [u32; 20])
-    ensures { λ _. ⌜ ((counter level spare : ℕ) → stateOf (now (regs .exit)) counter bank level (now (flags .exit)) spare ≡ compared f v (stateOf (now (regs .entry)) counter bank level (now (flags .entry)) spare)) ⌝ }
+    ensures { λ _. ⌜ ((s : State) → bankedWith s (now (regs .exit)) bank (now (flags .exit))
+        ≡ compared f v (bankedWith s (now (regs .entry)) bank (now (flags .entry)))) ⌝ }
 {
     let size = f.size;
     let d = alu::sub(size, accumulator(bank, &*regs, size), v, false);
@@ -99,7 +105,9 @@ fn copy(
     ram: &mut [u8],
     rom: &[u8],
 ) -> Answer
-    ensures { λ a. ⌜ ((counter level spare : ℕ) → after a (stateOf (now (regs .exit)) counter bank level (now (flags .exit)) spare) (now (ram .exit)) ≡ leaves (stateOf (now (regs .entry)) counter bank level (now (flags .entry)) spare) (now (ram .entry)) (storing (copied f (stateOf (now (regs .entry)) counter bank level (now (flags .entry)) spare)) (now (ram .entry)) (now (rom .entry)) (pointerOf (stateOf (now (regs .entry)) counter bank level (now (flags .entry)) spare) (f .to)) (f .size) v)) ⌝ }
+    ensures { λ a. ⌜ ((s : State) → Does (λ t m. storing (copied f t) m (now (rom .entry)) (pointerOf t (f .to)) (f .size) v)
+        (bankedWith s (now (regs .entry)) bank (now (flags .entry))) (now (ram .entry))
+        a (bankedWith s (now (regs .exit)) bank (now (flags .exit))) (now (ram .exit))) ⌝ }
 {
     let size = f.size;
     match memory::store(ram, rom, pointer(bank, &*regs, f.to), size, v) {
@@ -120,7 +128,9 @@ pub fn round(
     ram: &mut [u8],
     rom: &[u8],
 ) -> Answer
-    ensures { λ a. ⌜ ((counter level spare : ℕ) → after a (stateOf (now (regs .exit)) counter bank level (now (flags .exit)) spare) (now (ram .exit)) ≡ leaves (stateOf (now (regs .entry)) counter bank level (now (flags .entry)) spare) (now (ram .entry)) (roundOf f (stateOf (now (regs .entry)) counter bank level (now (flags .entry)) spare) (now (ram .entry)) (now (rom .entry)))) ⌝ }
+    ensures { λ a. ⌜ ((s : State) → Does (λ t m. roundOf f t m (now (rom .entry)))
+        (bankedWith s (now (regs .entry)) bank (now (flags .entry))) (now (ram .entry))
+        a (bankedWith s (now (regs .exit)) bank (now (flags .exit))) (now (ram .exit))) ⌝ }
 {
     let size = f.size;
     match memory::load(&*ram, rom, pointer(bank, &*regs, f.from), size) {
@@ -136,7 +146,7 @@ pub fn round(
 }
 
 fn goes_on(f: Form, bank: u8, flags: u8, regs: &[u32; 20]) -> bool
-    ensures { λ r. ⌜ ((counter level spare : ℕ) → r ≡ goesOn f (stateOf (now (regs .entry)) counter bank level flags spare)) ⌝ }
+    ensures { λ r. ⌜ ((s : State) → r ≡ goesOn f (bankedWith s (now (regs .entry)) bank flags)) ⌝ }
 {
     let now = alu::unpack(flags);
     let equal = !f.copies & now.z;
@@ -145,7 +155,8 @@ fn goes_on(f: Form, bank: u8, flags: u8, regs: &[u32; 20]) -> bool
 
 // The counter at the form again, where it goes on.
 pub fn ended(f: Form, at: u32, bank: u8, flags: u8, regs: &[u32; 20], counter: u32) -> u32
-    ensures { λ r. ⌜ ((level spare : ℕ) → stateOf (now (regs .entry)) r bank level flags spare ≡ endsAt f at (stateOf (now (regs .entry)) counter bank level flags spare)) ⌝ }
+    ensures { λ r. ⌜ ((s : State) → bankedAtWith s (now (regs .entry)) bank r flags
+        ≡ endsAt f at (bankedAtWith s (now (regs .entry)) bank counter flags)) ⌝ }
 {
     if goes_on(f, bank, flags, regs) {
         return at % 16777216;
@@ -166,7 +177,7 @@ pub fn in_rom(ram_len: usize, rom_len: usize, at: u32) -> bool
 
 // Whether another round is done in the same call.
 pub fn again(f: Form, stays: bool, left: u32, bank: u8, flags: u8, regs: &[u32; 20]) -> bool
-    ensures { λ r. ⌜ ((counter level spare : ℕ) → r ≡ againOf f stays left (stateOf (now (regs .entry)) counter bank level flags spare)) ⌝ }
+    ensures { λ r. ⌜ ((s : State) → r ≡ againOf f stays left (bankedWith s (now (regs .entry)) bank flags)) ⌝ }
 {
     stays & ((0 < left) & goes_on(f, bank, flags, regs))
 }

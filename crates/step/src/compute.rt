@@ -1,12 +1,12 @@
 // What an instruction puts: what is read, what is made of it, and where that goes.
 ghost use mathlib.Core.Path.{_≡_};
-ghost use Prim.Native.Nat.{ℕ};
 ghost use Rattle.little.specs.Width.{bitsOf};
 ghost use Rattle.alu.specs.Flag.{flagsOf};
 ghost use Rattle.alu.specs.Operation.{operated};
 ghost use Rattle.alu.specs.Shift.{shiftOf, placesOf};
-ghost use Rattle.state.specs.State.{stateOf};
-ghost use Rattle.step.specs.Try.{after, leaves};
+ghost use Rattle.state.specs.declared.State.{State};
+ghost use Rattle.state.specs.State.{bankedWith};
+ghost use Rattle.step.specs.Try.{Does};
 ghost use Rattle.step.specs.Compute.{storesOf, stepsOf};
 ghost use Rattle.step.specs.Kind.{targetOf, readsOf, givenOf, sourceOf, resultOf, keptOf, firstOf, secondOf, intoOf, packedOf, arithmeticOf, workOf, putsOf};
 use crate::kind::Side;
@@ -90,7 +90,7 @@ fn reads(how: Use) -> bool
 
 // What is put where the operand's value is not read.
 fn given(how: Use, bank: u8, regs: &[u32; 20], size: Size) -> u32
-    ensures { λ r. ⌜ ((counter level flags spare : ℕ) → r ≡ givenOf how (stateOf (now (regs .entry)) counter bank level flags spare) size) ⌝ }
+    ensures { λ r. ⌜ r ≡ givenOf how (now (regs .entry)) bank size ⌝ }
 {
     match how {
         Use::Number(n) => n,
@@ -114,7 +114,7 @@ fn source(
     size: Size,
     operand: Operand,
 ) -> Loaded
-    ensures { λ r. ⌜ ((counter level flags spare : ℕ) → r ≡ sourceOf how (stateOf (now (regs .entry)) counter bank level flags spare) (now (ram .entry)) (now (rom .entry)) size operand) ⌝ }
+    ensures { λ r. ⌜ r ≡ sourceOf how (now (regs .entry)) bank (now (ram .entry)) (now (rom .entry)) size operand ⌝ }
 {
     if reads(how) {
         return value(bank, regs, ram, rom, size, operand);
@@ -144,7 +144,7 @@ fn kept(flags: u8, v: u32, into: Operand) -> Work
 }
 
 fn first(side: Side, v: u32, bank: u8, regs: &[u32; 20], size: Size) -> u32
-    ensures { λ r. ⌜ ((counter level flags spare : ℕ) → r ≡ firstOf side (stateOf (now (regs .entry)) counter bank level flags spare) size v) ⌝ }
+    ensures { λ r. ⌜ r ≡ firstOf side (now (regs .entry)) bank size v ⌝ }
 {
     match side {
         Side::Register(r) => state::read(regs, bank, size, r),
@@ -154,7 +154,7 @@ fn first(side: Side, v: u32, bank: u8, regs: &[u32; 20], size: Size) -> u32
 }
 
 fn second(side: Side, v: u32, bank: u8, regs: &[u32; 20], size: Size) -> u32
-    ensures { λ r. ⌜ ((counter level flags spare : ℕ) → r ≡ secondOf side (stateOf (now (regs .entry)) counter bank level flags spare) size v) ⌝ }
+    ensures { λ r. ⌜ r ≡ secondOf side (now (regs .entry)) bank size v ⌝ }
 {
     match side {
         Side::Register(_) => v,
@@ -209,7 +209,7 @@ fn arithmetic(
     size: Size,
     operand: Operand,
 ) -> Work
-    ensures { λ w. ⌜ ((counter level spare : ℕ) → w ≡ arithmeticOf op side (stateOf (now (regs .entry)) counter bank level flags spare) size operand v) ⌝ }
+    ensures { λ w. ⌜ ((s : State) → w ≡ arithmeticOf op side (bankedWith s (now (regs .entry)) bank flags) size operand v) ⌝ }
 {
     let a = first(side, v, bank, regs, size);
     let b = second(side, v, bank, regs, size);
@@ -231,7 +231,7 @@ fn made(
     size: Size,
     operand: Operand,
 ) -> Work
-    ensures { λ w. ⌜ ((counter level spare : ℕ) → w ≡ workOf how (stateOf (now (regs .entry)) counter bank level flags spare) size operand v) ⌝ }
+    ensures { λ w. ⌜ ((s : State) → w ≡ workOf how (bankedWith s (now (regs .entry)) bank flags) size operand v) ⌝ }
 {
     match how {
         Use::Number(_) => kept(flags, v, operand),
@@ -263,7 +263,9 @@ pub fn puts(
     ram: &mut [u8],
     rom: &[u8],
 ) -> Answer
-    ensures { λ a. ⌜ ((counter level spare : ℕ) → after a (stateOf (now (regs .exit)) counter bank level (now (flags .exit)) spare) (now (ram .exit)) ≡ leaves (stateOf (now (regs .entry)) counter bank level (now (flags .entry)) spare) (now (ram .entry)) (putsOf how (stateOf (now (regs .entry)) counter bank level (now (flags .entry)) spare) (now (ram .entry)) (now (rom .entry)) size operand)) ⌝ }
+    ensures { λ a. ⌜ ((s : State) → Does (λ t m. putsOf how t m (now (rom .entry)) size operand)
+        (bankedWith s (now (regs .entry)) bank (now (flags .entry))) (now (ram .entry))
+        a (bankedWith s (now (regs .exit)) bank (now (flags .exit))) (now (ram .exit))) ⌝ }
 {
     match source(how, bank, &*regs, &*ram, rom, size, operand) {
         Loaded::Value(v) => {

@@ -6,8 +6,9 @@ ghost use Rattle.little.specs.Width.{bitsOf};
 ghost use Rattle.code.specs.declared.Op.the-variants.{Jr};
 ghost use Rattle.code.specs.Said.{judge};
 ghost use Rattle.code.specs.Listed.{withConstant};
-ghost use Rattle.state.specs.State.{stateOf};
-ghost use Rattle.step.specs.Try.{after, leaves};
+ghost use Rattle.state.specs.declared.State.{State};
+ghost use Rattle.state.specs.State.{controlled, flaggedAt};
+ghost use Rattle.step.specs.Try.{Does};
 ghost use Rattle.step.specs.Operand.{displaced};
 ghost use Rattle.step.specs.Jump.{jumpOf};
 ghost use Rattle.step.specs.Kind.{controlOf};
@@ -20,7 +21,7 @@ use little::Size;
 
 // The counter after a jump of a displacement of a size, where its condition holds.
 fn jump(flags: u8, counter: u32, cc: u8, size: Size, d: u32) -> u32
-    ensures { λ r. ⌜ ((regs : List ℕ) (bank level spare : ℕ) → stateOf regs r bank level flags spare ≡ jumpOf (stateOf regs counter bank level flags spare) cc (displaced (bitsOf size) counter d)) ⌝ }
+    ensures { λ r. ⌜ ((s : State) → flaggedAt s r flags ≡ jumpOf (flaggedAt s counter flags) cc (displaced (bitsOf size) counter d)) ⌝ }
 {
     if alu::holds(alu::unpack(flags), cc) {
         return displace(size, counter, d);
@@ -38,7 +39,9 @@ pub fn past(counter: &mut u32, n: usize)
 
 // JR, read and done in one go: the code begins with its first byte, which has said the condition.
 pub fn short_jump(code: &[u8], cc: u8, flags: u8, counter: &mut u32) -> Answer
-    ensures { λ a. ⌜ ((regs : List ℕ) (bank level spare : ℕ) (ram rom : List ℕ) → after a (stateOf regs (now (counter .exit)) bank level flags spare) ram ≡ leaves (stateOf regs (now (counter .entry)) bank level flags spare) ram (done (judge (withConstant (Jr cc) Size.Byte 1) (now (code .entry)) 1) (stateOf regs (now (counter .entry)) bank level flags spare) ram rom)) ⌝ }
+    ensures { λ a. ⌜ ((s : State) (ram rom : List ℕ) → Does (λ t m. done (judge (withConstant (Jr cc) Size.Byte 1) (now (code .entry)) 1) t m rom)
+        (flaggedAt s (now (counter .entry)) flags) ram
+        a (flaggedAt s (now (counter .exit)) flags) ram) ⌝ }
 {
     if code.len() <= 1 {
         return Answer::Refused(Why::NoCode);
@@ -56,7 +59,8 @@ pub fn control(
     flags: &mut u8,
     spare: &mut u8,
 )
-    ensures { λ _. ⌜ ((regs : List ℕ) (level : ℕ) → stateOf regs (now (counter .exit)) (now (bank .exit)) level (now (flags .exit)) (now (spare .exit)) ≡ controlOf what number (stateOf regs (now (counter .entry)) (now (bank .entry)) level (now (flags .entry)) (now (spare .entry)))) ⌝ }
+    ensures { λ _. ⌜ ((s : State) → controlled s (now (counter .exit)) (now (bank .exit)) (now (flags .exit)) (now (spare .exit))
+        ≡ controlOf what number (controlled s (now (counter .entry)) (now (bank .entry)) (now (flags .entry)) (now (spare .entry)))) ⌝ }
 {
     let f = *flags;
     match what {

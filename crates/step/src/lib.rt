@@ -1,11 +1,12 @@
 // One step: the instruction at the counter is done as the book says, or refused and nothing changes.
 ghost use mathlib.Core.Path.{_≡_};
+ghost use denote.Ref.{ptr};
 ghost use Rattle.memory.specs.Access.{codeAt};
 ghost use Rattle.code.specs.Listed.{decodeOf};
 ghost use Rattle.step.specs.Try.{doneWith, refusedWith, outcome, leaves};
 ghost use Rattle.step.specs.Exec.{executedOf};
 ghost use Rattle.step.specs.Step.{tooLong, onceOf, stepOf};
-ghost use Rattle.step.specs.Show.{judgedOf, lengthIn, showAnswerOf, shownOf};
+ghost use Rattle.step.specs.Show.{judgedOf, lengthIn, showAnswerOf, shownOf, shownFrom};
 ghost use Rattle.step.specs.Reset.{resetOf};
 use answer::Answer;
 use answer::Why;
@@ -59,7 +60,6 @@ fn whole_once(s: State, ram: &mut [u8], rom: &[u8]) -> Stepped
     let mut regs = s.registers;
     let mut counter = s.counter;
     let b = s.bank;
-    let level = s.level;
     let mut bank = b.0;
     let mut flags = s.flags;
     let mut spare = s.spare;
@@ -74,7 +74,7 @@ fn whole_once(s: State, ram: &mut [u8], rom: &[u8]) -> Stepped
         rom,
         &mut none,
     );
-    let t = state::whole(regs, counter, bank, level, flags, spare);
+    let t = state::whole(s, regs, counter, bank, flags, spare);
     Stepped {
         state: t,
         answer: a,
@@ -137,6 +137,7 @@ fn length_in(code: &[u8]) -> usize
 // The bytes of the instruction at an address, as a part of the memory that holds them; none where it is refused.
 pub fn show<'a>(ram: &'a [u8], rom: &'a [u8], at: u32) -> &'a [u8]
     ensures { λ r. ⌜ now r ≡ shownOf (now (ram .entry)) (now (rom .entry)) at ⌝ }
+    ensures { λ r. ⌜ ptr r ≡ shownFrom (now (ram .entry)) (now (rom .entry)) at (ptr (ram .entry)) (ptr (rom .entry)) ⌝ }
 {
     if too_long(ram.len(), rom.len()) {
         return &rom[..0];
@@ -144,6 +145,9 @@ pub fn show<'a>(ram: &'a [u8], rom: &'a [u8], at: u32) -> &'a [u8]
     if at < 16777216 {
         let code = memory::fetch(ram, rom, at);
         let n = length_in(code);
+        if n == 0 {
+            return &rom[..0];
+        }
         return &code[..n];
     }
     &rom[..0]

@@ -1,10 +1,11 @@
 // The operand of an instruction: its address, its value, and a value put there.
 ghost use mathlib.Core.Path.{_≡_};
-ghost use Prim.Native.Nat.{ℕ, _-_, _^_};
+ghost use Prim.Native.Nat.{_-_, _^_};
 ghost use Rattle.little.specs.Width.{bitsOf};
-ghost use Rattle.state.specs.State.{stateOf, withFlags};
-ghost use Rattle.step.specs.Try.{after, leaves};
-ghost use Rattle.step.specs.Operand.{displaced, pointerOf, addressOf, valueAt, putAt};
+ghost use Rattle.state.specs.declared.State.{State};
+ghost use Rattle.state.specs.State.{bankedWith, withFlags};
+ghost use Rattle.step.specs.Try.{Does};
+ghost use Rattle.step.specs.Operand.{displaced, pointerIn, addressIn, valueIn, putAt};
 ghost use Rattle.code.specs.Written.{registerIn, constantIn};
 use answer::Answer;
 use code::Base;
@@ -37,13 +38,13 @@ pub fn displace(size: Size, x: u32, d: u32) -> u32
 }
 
 pub fn pointer(bank: u8, regs: &[u32; 20], r: u8) -> u32
-    ensures { λ a. ⌜ ((counter level flags spare : ℕ) → a ≡ pointerOf (stateOf (now (regs .entry)) counter bank level flags spare) r) ⌝ }
+    ensures { λ a. ⌜ a ≡ pointerIn (now (regs .entry)) bank r ⌝ }
 {
     state::read(regs, bank, Size::Long, r) % 16777216
 }
 
 fn address(bank: u8, regs: &[u32; 20], m: MemoryForm) -> u32
-    ensures { λ a. ⌜ ((counter level flags spare : ℕ) → a ≡ addressOf (stateOf (now (regs .entry)) counter bank level flags spare) m) ⌝ }
+    ensures { λ a. ⌜ a ≡ addressIn (now (regs .entry)) bank m ⌝ }
 {
     let base = m.base;
     let n = m.number;
@@ -64,7 +65,7 @@ pub fn value(
     size: Size,
     operand: Operand,
 ) -> Loaded
-    ensures { λ r. ⌜ ((counter level flags spare : ℕ) → r ≡ valueAt (stateOf (now (regs .entry)) counter bank level flags spare) (now (ram .entry)) (now (rom .entry)) size operand) ⌝ }
+    ensures { λ r. ⌜ r ≡ valueIn (now (regs .entry)) bank (now (ram .entry)) (now (rom .entry)) size operand ⌝ }
 {
     match operand {
         Operand::Register(r) => Loaded::Value(state::read(regs, bank, size, r)),
@@ -85,7 +86,9 @@ pub fn put(
     operand: Operand,
     v: u32,
 ) -> Answer
-    ensures { λ a. ⌜ ((counter level spare : ℕ) → after a (stateOf (now (regs .exit)) counter bank level (now (flags .exit)) spare) (now (ram .exit)) ≡ leaves (stateOf (now (regs .entry)) counter bank level (now (flags .entry)) spare) (now (ram .entry)) (putAt (withFlags (stateOf (now (regs .entry)) counter bank level (now (flags .entry)) spare) new) (now (ram .entry)) (now (rom .entry)) size operand v)) ⌝ }
+    ensures { λ a. ⌜ ((s : State) → Does (λ t m. putAt (withFlags t new) m (now (rom .entry)) size operand v)
+        (bankedWith s (now (regs .entry)) bank (now (flags .entry))) (now (ram .entry))
+        a (bankedWith s (now (regs .exit)) bank (now (flags .exit))) (now (ram .exit))) ⌝ }
 {
     match operand {
         Operand::Register(r) => {

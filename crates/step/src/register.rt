@@ -12,14 +12,15 @@ ghost use Rattle.code.specs.declared.Operand.the-variants.{Register};
 ghost use Rattle.code.specs.Said.{judge};
 ghost use Rattle.code.specs.Rows.{byRows};
 ghost use Rattle.code.specs.Registers.{registerRows};
-ghost use Rattle.state.specs.State.{stateOf};
+ghost use Rattle.state.specs.declared.State.{State};
+ghost use Rattle.state.specs.State.{bankedAt, bankedAtWith};
 ghost use Rattle.state.specs.Register.{setRegister};
-ghost use Rattle.step.specs.Try.{did, after, leaves};
+ghost use Rattle.step.specs.Try.{Does, did};
 ghost use Rattle.step.specs.Flag.{flagged};
 ghost use Rattle.step.specs.Compute.{computed, answerIn};
 ghost use Rattle.step.specs.Exec.{pastOf};
 ghost use Rattle.step.specs.Step.{done};
-ghost use Rattle.step.specs.Register.{onRegister, secondLeaves};
+ghost use Rattle.step.specs.Register.{onRegister, secondDone};
 use crate::compute::operated;
 use crate::compute::steps_of;
 use crate::compute::stores;
@@ -42,7 +43,9 @@ fn set(
     regs: &mut [u32; 20],
     counter: &mut u32,
 ) -> Answer
-    ensures { λ a. ⌜ ((level flags spare : ℕ) (ram : List ℕ) → after a (stateOf (now (regs .exit)) (now (counter .exit)) bank level flags spare) ram ≡ leaves (stateOf (now (regs .entry)) (now (counter .entry)) bank level flags spare) ram (did (setRegister (pastOf n (stateOf (now (regs .entry)) (now (counter .entry)) bank level flags spare)) size r v) ram)) ⌝ }
+    ensures { λ a. ⌜ ((s : State) (ram : List ℕ) → Does (λ t m. did (setRegister (pastOf n t) size r v) m)
+        (bankedAt s (now (regs .entry)) bank (now (counter .entry))) ram
+        a (bankedAt s (now (regs .exit)) bank (now (counter .exit))) ram) ⌝ }
 {
     state::write(regs, bank, size, r, v);
     past(counter, n);
@@ -60,7 +63,9 @@ fn result(
     regs: &mut [u32; 20],
     counter: &mut u32,
 ) -> Answer
-    ensures { λ a. ⌜ ((level spare : ℕ) (ram : List ℕ) → after a (stateOf (now (regs .exit)) (now (counter .exit)) bank level (now (flags .exit)) spare) ram ≡ leaves (stateOf (now (regs .entry)) (now (counter .entry)) bank level (now (flags .entry)) spare) ram (did (setRegister (flagged (pastOf n (stateOf (now (regs .entry)) (now (counter .entry)) bank level (now (flags .entry)) spare)) (w .flags)) size r (w .value)) ram)) ⌝ }
+    ensures { λ a. ⌜ ((s : State) (ram : List ℕ) → Does (λ t m. did (setRegister (flagged (pastOf n t) (w .flags)) size r (w .value)) m)
+        (bankedAtWith s (now (regs .entry)) bank (now (counter .entry)) (now (flags .entry))) ram
+        a (bankedAtWith s (now (regs .exit)) bank (now (counter .exit)) (now (flags .exit))) ram) ⌝ }
 {
     let f = w.flags;
     *flags = alu::pack(f);
@@ -82,7 +87,9 @@ fn compute(
     regs: &mut [u32; 20],
     counter: &mut u32,
 ) -> Answer
-    ensures { λ a. ⌜ ((level spare : ℕ) (ram rom : List ℕ) → after a (stateOf (now (regs .exit)) (now (counter .exit)) bank level (now (flags .exit)) spare) ram ≡ leaves (stateOf (now (regs .entry)) (now (counter .entry)) bank level (now (flags .entry)) spare) ram (answerIn op (pastOf n (stateOf (now (regs .entry)) (now (counter .entry)) bank level (now (flags .entry)) spare)) ram rom size (Register r) (computed (pastOf n (stateOf (now (regs .entry)) (now (counter .entry)) bank level (now (flags .entry)) spare)) op size x y))) ⌝ }
+    ensures { λ a. ⌜ ((s : State) (ram rom : List ℕ) → Does (λ t m. answerIn op (pastOf n t) m rom size (Register r) (computed (pastOf n t) op size x y))
+        (bankedAtWith s (now (regs .entry)) bank (now (counter .entry)) (now (flags .entry))) ram
+        a (bankedAtWith s (now (regs .exit)) bank (now (counter .exit)) (now (flags .exit))) ram) ⌝ }
 {
     let w = operated(op, size, x, y, *flags);
     *flags = w.flags;
@@ -104,7 +111,9 @@ fn counted(
     regs: &mut [u32; 20],
     counter: &mut u32,
 ) -> Answer
-    ensures { λ a. ⌜ ((level spare : ℕ) (ram rom : List ℕ) → after a (stateOf (now (regs .exit)) (now (counter .exit)) bank level (now (flags .exit)) spare) ram ≡ onRegister (cond up (Inc n) (Dec n)) 2 size r (stateOf (now (regs .entry)) (now (counter .entry)) bank level (now (flags .entry)) spare) ram rom) ⌝ }
+    ensures { λ a. ⌜ ((s : State) (ram rom : List ℕ) → Does (λ t m. onRegister (cond up (Inc n) (Dec n)) 2 size r t m rom)
+        (bankedAtWith s (now (regs .entry)) bank (now (counter .entry)) (now (flags .entry))) ram
+        a (bankedAtWith s (now (regs .exit)) bank (now (counter .exit)) (now (flags .exit))) ram) ⌝ }
 {
     let v = state::read(&*regs, bank, size, r);
     let f = *flags;
@@ -119,7 +128,9 @@ fn counted(
 
 // The operand into the register n.
 fn load(n: u8, size: Size, r: u8, bank: u8, regs: &mut [u32; 20], counter: &mut u32) -> Answer
-    ensures { λ a. ⌜ ((level flags spare : ℕ) (ram rom : List ℕ) → after a (stateOf (now (regs .exit)) (now (counter .exit)) bank level flags spare) ram ≡ onRegister (Load n) 2 size r (stateOf (now (regs .entry)) (now (counter .entry)) bank level flags spare) ram rom) ⌝ }
+    ensures { λ a. ⌜ ((s : State) (ram rom : List ℕ) → Does (λ t m. onRegister (Load n) 2 size r t m rom)
+        (bankedAt s (now (regs .entry)) bank (now (counter .entry))) ram
+        a (bankedAt s (now (regs .exit)) bank (now (counter .exit))) ram) ⌝ }
 {
     let v = state::read(&*regs, bank, size, r);
     set(v, 2, size, n, bank, regs, counter)
@@ -127,7 +138,9 @@ fn load(n: u8, size: Size, r: u8, bank: u8, regs: &mut [u32; 20], counter: &mut 
 
 // The register n into the operand.
 fn into(n: u8, size: Size, r: u8, bank: u8, regs: &mut [u32; 20], counter: &mut u32) -> Answer
-    ensures { λ a. ⌜ ((level flags spare : ℕ) (ram rom : List ℕ) → after a (stateOf (now (regs .exit)) (now (counter .exit)) bank level flags spare) ram ≡ onRegister (Into n) 2 size r (stateOf (now (regs .entry)) (now (counter .entry)) bank level flags spare) ram rom) ⌝ }
+    ensures { λ a. ⌜ ((s : State) (ram rom : List ℕ) → Does (λ t m. onRegister (Into n) 2 size r t m rom)
+        (bankedAt s (now (regs .entry)) bank (now (counter .entry))) ram
+        a (bankedAt s (now (regs .exit)) bank (now (counter .exit))) ram) ⌝ }
 {
     let x = state::read(&*regs, bank, size, n);
     set(x, 2, size, r, bank, regs, counter)
@@ -144,7 +157,9 @@ fn compute_with(
     regs: &mut [u32; 20],
     counter: &mut u32,
 ) -> Answer
-    ensures { λ a. ⌜ ((level spare : ℕ) (ram rom : List ℕ) → after a (stateOf (now (regs .exit)) (now (counter .exit)) bank level (now (flags .exit)) spare) ram ≡ onRegister (Compute op n) 2 size r (stateOf (now (regs .entry)) (now (counter .entry)) bank level (now (flags .entry)) spare) ram rom) ⌝ }
+    ensures { λ a. ⌜ ((s : State) (ram rom : List ℕ) → Does (λ t m. onRegister (Compute op n) 2 size r t m rom)
+        (bankedAtWith s (now (regs .entry)) bank (now (counter .entry)) (now (flags .entry))) ram
+        a (bankedAtWith s (now (regs .exit)) bank (now (counter .exit)) (now (flags .exit))) ram) ⌝ }
 {
     let v = state::read(&*regs, bank, size, r);
     let x = state::read(&*regs, bank, size, n);
@@ -171,7 +186,9 @@ fn load_constant(
     counter: &mut u32,
 ) -> Answer
     requires { ⌜ (2 ≤ length (now code)) × (c / 8 ≡ 0) ⌝ }
-    ensures { λ a. ⌜ ((level flags spare : ℕ) (ram rom : List ℕ) → after a (stateOf (now (regs .exit)) (now (counter .exit)) bank level flags spare) ram ≡ secondLeaves (now (code .entry)) c size r (stateOf (now (regs .entry)) (now (counter .entry)) bank level flags spare) ram rom) ⌝ }
+    ensures { λ a. ⌜ ((s : State) (ram rom : List ℕ) → Does (λ t m. secondDone (now (code .entry)) c size r t m rom)
+        (bankedAt s (now (regs .entry)) bank (now (counter .entry))) ram
+        a (bankedAt s (now (regs .exit)) bank (now (counter .exit))) ram) ⌝ }
 {
     if c != 3 {
         return Answer::Refused(Why::Unlisted);
@@ -195,7 +212,9 @@ fn compute_constant(
     counter: &mut u32,
 ) -> Answer
     requires { ⌜ (2 ≤ length (now code)) × (c / 8 ≡ 25) ⌝ }
-    ensures { λ a. ⌜ ((level spare : ℕ) (ram rom : List ℕ) → after a (stateOf (now (regs .exit)) (now (counter .exit)) bank level (now (flags .exit)) spare) ram ≡ secondLeaves (now (code .entry)) c size r (stateOf (now (regs .entry)) (now (counter .entry)) bank level (now (flags .entry)) spare) ram rom) ⌝ }
+    ensures { λ a. ⌜ ((s : State) (ram rom : List ℕ) → Does (λ t m. secondDone (now (code .entry)) c size r t m rom)
+        (bankedAtWith s (now (regs .entry)) bank (now (counter .entry)) (now (flags .entry))) ram
+        a (bankedAtWith s (now (regs .exit)) bank (now (counter .exit)) (now (flags .exit))) ram) ⌝ }
 {
     let n = little::bytes(size);
     if code.len() - 2 < n {
@@ -210,7 +229,9 @@ fn compute_constant(
 // 12 EXTZ, 13 EXTS of a word or a long, and nothing else from 10 to 17.
 fn extended(c: u8, size: Size, r: u8, bank: u8, regs: &mut [u32; 20], counter: &mut u32) -> Answer
     requires { ⌜ c / 8 ≡ 2 ⌝ }
-    ensures { λ a. ⌜ ((level flags spare : ℕ) (code ram rom : List ℕ) → after a (stateOf (now (regs .exit)) (now (counter .exit)) bank level flags spare) ram ≡ secondLeaves code c size r (stateOf (now (regs .entry)) (now (counter .entry)) bank level flags spare) ram rom) ⌝ }
+    ensures { λ a. ⌜ ((s : State) (code ram rom : List ℕ) → Does (λ t m. secondDone code c size r t m rom)
+        (bankedAt s (now (regs .entry)) bank (now (counter .entry))) ram
+        a (bankedAt s (now (regs .exit)) bank (now (counter .exit))) ram) ⌝ }
 {
     if little::bytes(size) == 1 {
         return Answer::Refused(Why::Unlisted);
@@ -235,7 +256,9 @@ fn shifted(
     counter: &mut u32,
 ) -> Answer
     requires { ⌜ c / 8 ≡ 29 ⌝ }
-    ensures { λ a. ⌜ ((level spare : ℕ) (ram rom : List ℕ) → after a (stateOf (now (regs .exit)) (now (counter .exit)) bank level (now (flags .exit)) spare) ram ≡ secondLeaves (now (code .entry)) c size r (stateOf (now (regs .entry)) (now (counter .entry)) bank level (now (flags .entry)) spare) ram rom) ⌝ }
+    ensures { λ a. ⌜ ((s : State) (ram rom : List ℕ) → Does (λ t m. secondDone (now (code .entry)) c size r t m rom)
+        (bankedAtWith s (now (regs .entry)) bank (now (counter .entry)) (now (flags .entry))) ram
+        a (bankedAtWith s (now (regs .exit)) bank (now (counter .exit)) (now (flags .exit))) ram) ⌝ }
 {
     if c < 0xEC {
         return Answer::Refused(Why::Unlisted);
@@ -263,7 +286,9 @@ pub fn register(
     regs: &mut [u32; 20],
     counter: &mut u32,
 ) -> Answer
-    ensures { λ a. ⌜ ((level spare : ℕ) (ram rom : List ℕ) → after a (stateOf (now (regs .exit)) (now (counter .exit)) bank level (now (flags .exit)) spare) ram ≡ leaves (stateOf (now (regs .entry)) (now (counter .entry)) bank level (now (flags .entry)) spare) ram (done (judge (byRows (registerRows size (Register r))) (now (code .entry)) 1) (stateOf (now (regs .entry)) (now (counter .entry)) bank level (now (flags .entry)) spare) ram rom)) ⌝ }
+    ensures { λ a. ⌜ ((s : State) (ram rom : List ℕ) → Does (λ t m. done (judge (byRows (registerRows size (Register r))) (now (code .entry)) 1) t m rom)
+        (bankedAtWith s (now (regs .entry)) bank (now (counter .entry)) (now (flags .entry))) ram
+        a (bankedAtWith s (now (regs .exit)) bank (now (counter .exit)) (now (flags .exit))) ram) ⌝ }
 {
     if code.len() <= 1 {
         return Answer::Refused(Why::NoCode);

@@ -1,11 +1,11 @@
 // Pushes, pops, calls and returns.
 ghost use mathlib.Core.Path.{_≡_};
-ghost use Prim.Native.Nat.{ℕ};
 ghost use Rattle.little.specs.Width.{bytesOf};
 ghost use Rattle.little.specs.declared.Size.the-variants.{Long};
-ghost use Rattle.state.specs.State.{stateOf};
-ghost use Rattle.state.specs.Register.{getRegister, setRegister};
-ghost use Rattle.step.specs.Try.{after, leaves};
+ghost use Rattle.state.specs.declared.State.{State};
+ghost use Rattle.state.specs.State.{banked, bankedWith, bankedAt, bankedAtWith};
+ghost use Rattle.state.specs.Register.{registerAt, setRegister};
+ghost use Rattle.step.specs.Try.{Does};
 ghost use Rattle.step.specs.Stack.{plus, withStack, pushOf, popOf, callOf, retOf, popFOf};
 ghost use Rattle.step.specs.Kind.{endAfter, stackOf};
 use crate::kind::Stack;
@@ -20,7 +20,7 @@ use memory::Loaded;
 
 // Moves the stack's end where a store was done.
 fn move_end(stored: Answer, bank: u8, regs: &mut [u32; 20], end: u32)
-    ensures { λ _. ⌜ ((counter level flags spare : ℕ) → stateOf (now (regs .exit)) counter bank level flags spare ≡ endAfter stored (stateOf (now (regs .entry)) counter bank level flags spare) end) ⌝ }
+    ensures { λ _. ⌜ ((s : State) → banked s (now (regs .exit)) bank ≡ endAfter stored (banked s (now (regs .entry)) bank) end) ⌝ }
 {
     match stored {
         Answer::Done => {
@@ -32,7 +32,9 @@ fn move_end(stored: Answer, bank: u8, regs: &mut [u32; 20], end: u32)
 
 // Stores below the stack's end, and moves the end there where the store is done.
 fn push(bank: u8, regs: &mut [u32; 20], ram: &mut [u8], rom: &[u8], size: Size, v: u32) -> Answer
-    ensures { λ a. ⌜ ((counter level flags spare : ℕ) → after a (stateOf (now (regs .exit)) counter bank level flags spare) (now (ram .exit)) ≡ leaves (stateOf (now (regs .entry)) counter bank level flags spare) (now (ram .entry)) (pushOf (stateOf (now (regs .entry)) counter bank level flags spare) (now (ram .entry)) (now (rom .entry)) size v)) ⌝ }
+    ensures { λ a. ⌜ ((s : State) → Does (λ t m. pushOf t m (now (rom .entry)) size v)
+        (banked s (now (regs .entry)) bank) (now (ram .entry))
+        a (banked s (now (regs .exit)) bank) (now (ram .exit))) ⌝ }
 {
     let n = little::bytes(size) as u32;
     let end = std::num::wrapping_sub_u32(state::read(&*regs, bank, Size::Long, 7), n);
@@ -43,7 +45,8 @@ fn push(bank: u8, regs: &mut [u32; 20], ram: &mut [u8], rom: &[u8], size: Size, 
 
 // The stack's end moved, as after a pop of a size.
 fn popped(bank: u8, regs: &mut [u32; 20], size: Size)
-    ensures { λ _. ⌜ ((counter level flags spare : ℕ) → stateOf (now (regs .exit)) counter bank level flags spare ≡ withStack (stateOf (now (regs .entry)) counter bank level flags spare) (plus 32 (getRegister (stateOf (now (regs .entry)) counter bank level flags spare) Long 7) (bytesOf size))) ⌝ }
+    ensures { λ _. ⌜ ((s : State) → banked s (now (regs .exit)) bank
+        ≡ withStack (banked s (now (regs .entry)) bank) (plus 32 (registerAt (now (regs .entry)) bank Long 7) (bytesOf size))) ⌝ }
 {
     let n = little::bytes(size) as u32;
     let x = state::read(&*regs, bank, Size::Long, 7);
@@ -52,7 +55,9 @@ fn popped(bank: u8, regs: &mut [u32; 20], size: Size)
 
 // A pop into the register of a code.
 fn pop(bank: u8, regs: &mut [u32; 20], ram: &[u8], rom: &[u8], size: Size, code: u8) -> Answer
-    ensures { λ a. ⌜ ((counter level flags spare : ℕ) → after a (stateOf (now (regs .exit)) counter bank level flags spare) (now (ram .entry)) ≡ leaves (stateOf (now (regs .entry)) counter bank level flags spare) (now (ram .entry)) (popOf (stateOf (now (regs .entry)) counter bank level flags spare) (now (ram .entry)) (now (rom .entry)) size (λ t v. setRegister t size code v))) ⌝ }
+    ensures { λ a. ⌜ ((s : State) → Does (λ t m. popOf t m (now (rom .entry)) size (λ u v. setRegister u size code v))
+        (banked s (now (regs .entry)) bank) (now (ram .entry))
+        a (banked s (now (regs .exit)) bank) (now (ram .entry))) ⌝ }
 {
     match memory::load(ram, rom, pointer(bank, &*regs, 7), size) {
         Loaded::Value(v) => {
@@ -72,7 +77,9 @@ fn call(
     rom: &[u8],
     to: u32,
 ) -> Answer
-    ensures { λ a. ⌜ ((level flags spare : ℕ) → after a (stateOf (now (regs .exit)) (now (counter .exit)) bank level flags spare) (now (ram .exit)) ≡ leaves (stateOf (now (regs .entry)) (now (counter .entry)) bank level flags spare) (now (ram .entry)) (callOf (stateOf (now (regs .entry)) (now (counter .entry)) bank level flags spare) (now (ram .entry)) (now (rom .entry)) to)) ⌝ }
+    ensures { λ a. ⌜ ((s : State) → Does (λ t m. callOf t m (now (rom .entry)) to)
+        (bankedAt s (now (regs .entry)) bank (now (counter .entry))) (now (ram .entry))
+        a (bankedAt s (now (regs .exit)) bank (now (counter .exit))) (now (ram .exit))) ⌝ }
 {
     match push(bank, regs, ram, rom, Size::Long, *counter) {
         Answer::Done => {
@@ -84,7 +91,9 @@ fn call(
 }
 
 fn ret(bank: u8, regs: &mut [u32; 20], counter: &mut u32, ram: &[u8], rom: &[u8]) -> Answer
-    ensures { λ a. ⌜ ((level flags spare : ℕ) → after a (stateOf (now (regs .exit)) (now (counter .exit)) bank level flags spare) (now (ram .entry)) ≡ leaves (stateOf (now (regs .entry)) (now (counter .entry)) bank level flags spare) (now (ram .entry)) (retOf (stateOf (now (regs .entry)) (now (counter .entry)) bank level flags spare) (now (ram .entry)) (now (rom .entry)))) ⌝ }
+    ensures { λ a. ⌜ ((s : State) → Does (λ t m. retOf t m (now (rom .entry)))
+        (bankedAt s (now (regs .entry)) bank (now (counter .entry))) (now (ram .entry))
+        a (bankedAt s (now (regs .exit)) bank (now (counter .exit))) (now (ram .entry))) ⌝ }
 {
     match memory::load(ram, rom, pointer(bank, &*regs, 7), Size::Long) {
         Loaded::Value(v) => {
@@ -97,7 +106,9 @@ fn ret(bank: u8, regs: &mut [u32; 20], counter: &mut u32, ram: &[u8], rom: &[u8]
 }
 
 fn pop_f(bank: u8, regs: &mut [u32; 20], flags: &mut u8, ram: &[u8], rom: &[u8]) -> Answer
-    ensures { λ a. ⌜ ((counter level spare : ℕ) → after a (stateOf (now (regs .exit)) counter bank level (now (flags .exit)) spare) (now (ram .entry)) ≡ leaves (stateOf (now (regs .entry)) counter bank level (now (flags .entry)) spare) (now (ram .entry)) (popFOf (stateOf (now (regs .entry)) counter bank level (now (flags .entry)) spare) (now (ram .entry)) (now (rom .entry)))) ⌝ }
+    ensures { λ a. ⌜ ((s : State) → Does (λ t m. popFOf t m (now (rom .entry)))
+        (bankedWith s (now (regs .entry)) bank (now (flags .entry))) (now (ram .entry))
+        a (bankedWith s (now (regs .exit)) bank (now (flags .exit))) (now (ram .entry))) ⌝ }
 {
     match memory::load(ram, rom, pointer(bank, &*regs, 7), Size::Byte) {
         Loaded::Value(v) => {
@@ -121,7 +132,9 @@ pub fn stack(
     ram: &mut [u8],
     rom: &[u8],
 ) -> Answer
-    ensures { λ a. ⌜ ((level spare : ℕ) → after a (stateOf (now (regs .exit)) (now (counter .exit)) bank level (now (flags .exit)) spare) (now (ram .exit)) ≡ leaves (stateOf (now (regs .entry)) (now (counter .entry)) bank level (now (flags .entry)) spare) (now (ram .entry)) (stackOf what size operand (stateOf (now (regs .entry)) (now (counter .entry)) bank level (now (flags .entry)) spare) (now (ram .entry)) (now (rom .entry)))) ⌝ }
+    ensures { λ a. ⌜ ((s : State) → Does (λ t m. stackOf what size operand t m (now (rom .entry)))
+        (bankedAtWith s (now (regs .entry)) bank (now (counter .entry)) (now (flags .entry))) (now (ram .entry))
+        a (bankedAtWith s (now (regs .exit)) bank (now (counter .exit)) (now (flags .exit))) (now (ram .exit))) ⌝ }
 {
     match what {
         Stack::PushF => {

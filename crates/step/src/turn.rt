@@ -1,10 +1,11 @@
 // One call: what stands at the counter, done or refused, and further rounds of a form that goes on.
 ghost use mathlib.Core.Path.{_≡_};
-ghost use Prim.Native.Nat.{ℕ, suc, _-_};
+ghost use Prim.Native.Nat.{suc, _-_};
 ghost use Rattle.memory.specs.Access.{codeAt};
-ghost use Rattle.state.specs.State.{stateOf};
+ghost use Rattle.state.specs.declared.State.{State};
+ghost use Rattle.state.specs.State.{lent, bankedAtWith, standingAt};
 ghost use Rattle.code.specs.Listed.{decodeOf};
-ghost use Rattle.step.specs.Try.{after, leaves, andThen};
+ghost use Rattle.step.specs.Try.{Does, andThen};
 ghost use Rattle.step.specs.Block.{roundOf, endsAt};
 ghost use Rattle.step.specs.Kind.{kindDone};
 ghost use Rattle.step.specs.Times.{timesOf, Fewer, Stands};
@@ -44,7 +45,9 @@ fn block(
 ) -> Answer
     requires { ⌜ Stands at (now counter) (now ram) (now rom) (λ s m. andThen (roundOf f s m (now rom)) (endsAt f at)) ⌝ }
     ensures { λ a. ⌜ Fewer a (now (more .entry)) (now (more .exit)) ⌝ }
-    ensures { λ a. ⌜ ((level spare : ℕ) → after a (stateOf (now (regs .exit)) (now (counter .exit)) bank level (now (flags .exit)) spare) (now (ram .exit)) ≡ leaves (stateOf (now (regs .entry)) (now (counter .entry)) bank level (now (flags .entry)) spare) (now (ram .entry)) (timesOf (suc (now (more .entry) - now (more .exit))) (stateOf (now (regs .entry)) at bank level (now (flags .entry)) spare) (now (ram .entry)) (now (rom .entry)))) ⌝ }
+    ensures { λ a. ⌜ ((s : State) → Does (λ t m. timesOf (suc (now (more .entry) - now (more .exit))) (standingAt t at) m (now (rom .entry)))
+        (bankedAtWith s (now (regs .entry)) bank (now (counter .entry)) (now (flags .entry))) (now (ram .entry))
+        a (bankedAtWith s (now (regs .exit)) bank (now (counter .exit)) (now (flags .exit))) (now (ram .exit))) ⌝ }
 {
     let stays = in_rom(ram.len(), rom.len(), at);
     let mut left = *more;
@@ -87,7 +90,9 @@ fn effect(
 ) -> Answer
     requires { ⌜ Stands at (now counter) (now ram) (now rom) (λ s m. kindDone kind size operand at s m (now rom)) ⌝ }
     ensures { λ a. ⌜ Fewer a (now (more .entry)) (now (more .exit)) ⌝ }
-    ensures { λ a. ⌜ ((level : ℕ) → after a (stateOf (now (regs .exit)) (now (counter .exit)) (now (bank .exit)) level (now (flags .exit)) (now (spare .exit))) (now (ram .exit)) ≡ leaves (stateOf (now (regs .entry)) (now (counter .entry)) (now (bank .entry)) level (now (flags .entry)) (now (spare .entry))) (now (ram .entry)) (timesOf (suc (now (more .entry) - now (more .exit))) (stateOf (now (regs .entry)) at (now (bank .entry)) level (now (flags .entry)) (now (spare .entry))) (now (ram .entry)) (now (rom .entry)))) ⌝ }
+    ensures { λ a. ⌜ ((s : State) → Does (λ t m. timesOf (suc (now (more .entry) - now (more .exit))) (standingAt t at) m (now (rom .entry)))
+        (lent s (now (regs .entry)) (now (counter .entry)) (now (bank .entry)) (now (flags .entry)) (now (spare .entry))) (now (ram .entry))
+        a (lent s (now (regs .exit)) (now (counter .exit)) (now (bank .exit)) (now (flags .exit)) (now (spare .exit))) (now (ram .exit))) ⌝ }
 {
     let b = *bank;
     match kind {
@@ -119,7 +124,9 @@ fn execute(
 ) -> Answer
     requires { ⌜ decodeOf (codeAt (now ram) (now rom) (now counter)) ≡ Decoded.Whole i ⌝ }
     ensures { λ a. ⌜ Fewer a (now (more .entry)) (now (more .exit)) ⌝ }
-    ensures { λ a. ⌜ ((level : ℕ) → after a (stateOf (now (regs .exit)) (now (counter .exit)) (now (bank .exit)) level (now (flags .exit)) (now (spare .exit))) (now (ram .exit)) ≡ leaves (stateOf (now (regs .entry)) (now (counter .entry)) (now (bank .entry)) level (now (flags .entry)) (now (spare .entry))) (now (ram .entry)) (timesOf (suc (now (more .entry) - now (more .exit))) (stateOf (now (regs .entry)) (now (counter .entry)) (now (bank .entry)) level (now (flags .entry)) (now (spare .entry))) (now (ram .entry)) (now (rom .entry)))) ⌝ }
+    ensures { λ a. ⌜ ((s : State) → Does (λ t m. timesOf (suc (now (more .entry) - now (more .exit))) t m (now (rom .entry)))
+        (lent s (now (regs .entry)) (now (counter .entry)) (now (bank .entry)) (now (flags .entry)) (now (spare .entry))) (now (ram .entry))
+        a (lent s (now (regs .exit)) (now (counter .exit)) (now (bank .exit)) (now (flags .exit)) (now (spare .exit))) (now (ram .exit))) ⌝ }
 {
     let here = *counter;
     let n = (i.length % 16777216) as u32;
@@ -164,7 +171,9 @@ pub fn once(
     more: &mut u32,
 ) -> Answer
     ensures { λ a. ⌜ Fewer a (now (more .entry)) (now (more .exit)) ⌝ }
-    ensures { λ a. ⌜ ((level : ℕ) → after a (stateOf (now (regs .exit)) (now (counter .exit)) (now (bank .exit)) level (now (flags .exit)) (now (spare .exit))) (now (ram .exit)) ≡ leaves (stateOf (now (regs .entry)) (now (counter .entry)) (now (bank .entry)) level (now (flags .entry)) (now (spare .entry))) (now (ram .entry)) (timesOf (suc (now (more .entry) - now (more .exit))) (stateOf (now (regs .entry)) (now (counter .entry)) (now (bank .entry)) level (now (flags .entry)) (now (spare .entry))) (now (ram .entry)) (now (rom .entry)))) ⌝ }
+    ensures { λ a. ⌜ ((s : State) → Does (λ t m. timesOf (suc (now (more .entry) - now (more .exit))) t m (now (rom .entry)))
+        (lent s (now (regs .entry)) (now (counter .entry)) (now (bank .entry)) (now (flags .entry)) (now (spare .entry))) (now (ram .entry))
+        a (lent s (now (regs .exit)) (now (counter .exit)) (now (bank .exit)) (now (flags .exit)) (now (spare .exit))) (now (ram .exit))) ⌝ }
 {
     let code = memory::fetch(&*ram, rom, *counter);
     if code.len() == 0 {

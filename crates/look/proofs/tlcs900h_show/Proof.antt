@@ -11,7 +11,7 @@ show-requires : tie.Need-show-requires
 show-requires c κs = search needs
 
 cast-size : tie.Need-cast-size
-cast-size c = omega (arith, shown-few _ _ _ _ (c .show .ensures))
+cast-size c = omega (arith, shown-few _ _ _ _ (c .show .ensures .0))
 
 show-answer-requires : tie.Need-show-answer-requires
 show-answer-requires c κs = search needs
@@ -20,7 +20,7 @@ number-requires : tie.Need-number-requires
 number-requires c κs = search needs
 
 returns : tie.Need-returns
-returns c = (c .number .ensures ∙ ap numberOf (c .before .show-answer .ensures), ap length (c .before .before .show .ensures))
+returns c = (c .number .ensures ∙ ap numberOf (c .before .show-answer .ensures), ap length (c .before .before .show .ensures .0))
 
 pub tlcs900h-show-spec : {M : Type 1} → statement M
 tlcs900h-show-spec =

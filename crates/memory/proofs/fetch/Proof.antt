@@ -1,6 +1,6 @@
 -- `memory::fetch` meets its contract: by the arms of the place.
 use Prim.Native.Nat.{_≤_}
-use mathlib.Core.Path.{_≡_, sym, _∙_}
+use mathlib.Core.Path.{_≡_, refl, sym, _∙_}
 use native.Mathlib.Omega.{arith}
 use borrow.Author.Needs.{needs}
 use lib.ListN.{length}
@@ -64,19 +64,20 @@ returns : tie.Need-returns
 returns c =
     let k = c .before .before in
     let a = k .before .before .before .before .before .args in
-    part-drop (k .o .given .0 .0) (a .ram .now) ∙ sym (code-in (a .ram .now) (a .rom .now) (a .address) (is-ram k))
+    (part-drop (k .o .given .0 .0) (a .ram .now) ∙ sym (code-in (a .ram .now) (a .rom .now) (a .address) (is-ram k)), rw (is-ram k) refl)
 
 returns-2 : tie.Need-returns-2
 returns-2 c =
     let k = c .before .before in
     let a = k .before .before .before .before .before .args in
-    part-drop (k .o2 .given .0 .0) (a .rom .now) ∙ sym (code-in (a .ram .now) (a .rom .now) (a .address) (is-rom k))
+    (part-drop (k .o2 .given .0 .0) (a .rom .now) ∙ sym (code-in (a .ram .now) (a .rom .now) (a .address) (is-rom k)), rw (is-rom k) refl)
 
 returns-3 : tie.Need-returns-3
 returns-3 c =
     let k = c .before in
     let a = k .before .before .before .before .before .args in
-    sym (code-in (a .ram .now) (a .rom .now) (a .address) (sym (k .before .before .find .ensures) ∙ k .enum-told .given .1))
+    let e = sym (k .before .before .find .ensures) ∙ k .enum-told .given .1 in
+    (sym (code-in (a .ram .now) (a .rom .now) (a .address) e), rw e refl)
 
 pub fetch-spec : {M : Type 1} → statement M
 fetch-spec =

@@ -5,7 +5,7 @@ use native.Mathlib.Omega.{arith}
 use native.Mathlib.Nat.{sub-self}
 use borrow.Author.Needs.{needs}
 use lib.ListN.{length}
-use Rattle.state.specs.State.{stateOf, validOf}
+use Rattle.state.specs.State.{lent, validOf}
 use Rattle.state.specs.declared.State.{State}
 use Rattle.answer.specs.declared.Answer.the-variants.{Refused}
 use Rattle.step.specs.Step.{tooLong}
@@ -15,28 +15,28 @@ use Rattle.run.proofs.go.Statement.{statement}
 use Rattle.run.proofs.go.Tie as tie
 
 abbrev Inv-loop : tie.InvT-loop
-Inv-loop ram₀ rom steps regs₀ counter₀ level bank₀ flags₀ spare₀ left₀ ram regs counter bank flags spare left =
+Inv-loop s ram₀ rom steps regs₀ counter₀ bank₀ flags₀ spare₀ left₀ ram regs counter bank flags spare left =
     (left ≤ steps)
     × (length ram ≡ length ram₀)
-    × (validOf (stateOf regs counter bank (level .0) flags spare) ≡ true)
-    × (goOf left (steps - left) (stateOf regs counter bank (level .0) flags spare) ram rom ≡ goOf steps 0 (stateOf regs₀ counter₀ bank₀ (level .0) flags₀ spare₀) ram₀ rom)
+    × (validOf (lent s regs counter bank flags spare) ≡ true)
+    × (goOf left (steps - left) (lent s regs counter bank flags spare) ram rom ≡ goOf steps 0 s ram₀ rom)
 
 abbrev μ-loop : tie.MeasureT-loop
-μ-loop ram₀ rom steps regs₀ counter₀ level bank₀ flags₀ spare₀ left₀ ram regs counter bank flags spare left = left
+μ-loop s ram₀ rom steps regs₀ counter₀ bank₀ flags₀ spare₀ left₀ ram regs counter bank flags spare left = left
 
 -- RAM has the length that it had, so that it is within the limits still
-within : (c : tie.At-loop Inv-loop μ-loop) → tooLong (length (c .loop .ram)) (length (c .before .before .before .before .before .before .args .rom .now)) ≡ false
-within c = ap (λ (n : ℕ). tooLong n (length (c .before .before .before .before .before .before .args .rom .now))) (c .loop .inv .1) ∙ c .before .before .before .before .before .before .pre .1
+within : (c : tie.At-loop Inv-loop μ-loop) → tooLong (length (c .loop .ram)) (length (c .before .before .before .before .before .args .rom .now)) ≡ false
+within c = ap (λ (n : ℕ). tooLong n (length (c .before .before .before .before .before .args .rom .now))) (c .loop .inv .1) ∙ c .before .before .before .before .before .pre .1
 
 -- the state that the loop has, and what a call leaves of it
 here : tie.At-loop Inv-loop μ-loop → State
-here c = let l = c .loop in stateOf (l .regs) (l .counter) (l .bank) (c .before .before .before .before .before .before .args .s .level .0) (l .flags) (l .spare)
+here c = let l = c .loop in lent (c .before .before .before .before .before .args .s) (l .regs) (l .counter) (l .bank) (l .flags) (l .spare)
 
 next : tie.After-once Inv-loop μ-loop → State
-next c = let l = c .once .last in stateOf (l .0) (l .1 .0) (l .1 .1 .0) (c .before .before .before .before .before .before .before .before .before .before .before .before .before .before .before .args .s .level .0) (l .1 .1 .1 .0) (l .1 .1 .1 .1 .0)
+next c = let l = c .once .last in lent (c .before .before .before .before .before .before .before .before .before .before .before .before .before .before .args .s) (l .0) (l .1 .0) (l .1 .1 .0) (l .1 .1 .1 .0) (l .1 .1 .1 .1 .0)
 
 loop-holds : tie.Need-loop-holds Inv-loop μ-loop
-loop-holds c = (omega arith, refl, c .before .before .before .before .before .pre .0, ap (λ (d : ℕ). goOf (c .before .before .before .before .before .args .steps) d (c .before .before .before .before .before .args .s) (c .before .before .before .before .before .args .ram .now) (c .before .before .before .before .before .args .rom .now)) (sub-self (c .before .before .before .before .before .args .steps)))
+loop-holds c = (omega arith, refl, c .before .before .before .before .pre .0, ap (λ (d : ℕ). goOf (c .before .before .before .before .args .steps) d (c .before .before .before .before .args .s) (c .before .before .before .before .args .ram .now) (c .before .before .before .before .args .rom .now)) (sub-self (c .before .before .before .before .args .steps)))
 
 sub-left : tie.Need-sub-left Inv-loop μ-loop
 sub-left c = omega arith
@@ -56,7 +56,7 @@ unfolding here next
 left-is c =
     let l = c .before .before .before .before .before .before .before .before .before .before .before .before .before .before .before .loop in
     let o = c .before .before .before .before .before .before .once in
-    turn-same (here (c .before .before .before .before .before .before .before .before .before .before .before .before .before .before .before)) (l .ram) (c .before .before .before .before .before .before .before .before .before .before .before .before .before .before .before .before .before .before .before .before .before .args .rom .now) (o .result) (next (c .before .before .before .before .before .before)) (o .last .1 .1 .1 .1 .1 .0) (l .left - 1) (o .last .1 .1 .1 .1 .1 .1 .1 .0) (within (c .before .before .before .before .before .before .before .before .before .before .before .before .before .before .before)) (l .inv .2) (o .ensures .0) (o .ensures .1 (c .before .before .before .before .before .before .before .before .before .before .before .before .before .before .before .before .before .before .before .before .before .args .s .level .0)) (c .before .before .a .given .0 .0) (c .before .before .a .given .1)
+    turn-same (here (c .before .before .before .before .before .before .before .before .before .before .before .before .before .before .before)) (l .ram) (c .before .before .before .before .before .before .before .before .before .before .before .before .before .before .before .before .before .before .before .before .args .rom .now) (o .result) (next (c .before .before .before .before .before .before)) (o .last .1 .1 .1 .1 .1 .0) (l .left - 1) (o .last .1 .1 .1 .1 .1 .1 .1 .0) (within (c .before .before .before .before .before .before .before .before .before .before .before .before .before .before .before)) (l .inv .2) (o .ensures .0) (o .ensures .1 (c .before .before .before .before .before .before .before .before .before .before .before .before .before .before .before .before .before .before .before .before .args .s)) (c .before .before .a .given .0 .0) (c .before .before .a .given .1)
 
 sub-stop : tie.Need-sub-stop Inv-loop μ-loop
 sub-stop c = let h = c .before .before .before .before .before .before .before .before .before .before .before .before .before .before .before .loop .inv .0 in let k = c .before .before .before .before .before .before .before .before .before .before .before .before .before .before .loop-test .taken in omega (arith, h, k)
@@ -73,7 +73,7 @@ same-length c = c .before .before .before .before .before .before .before .once 
 returns : tie.Need-returns Inv-loop μ-loop
 unfolding here next
 returns c =
-    let a = c .before .before .before .before .before .before .before .before .before .before .before .before .before .before .before .before .before .before .before .before .before .before .args in
+    let a = c .before .before .before .before .before .before .before .before .before .before .before .before .before .before .before .before .before .before .before .before .before .args in
     let l = c .before .before .before .before .before .before .before .before .before .before .before .before .before .before .before .before .loop in
     let o = c .before .before .before .before .before .before .before .once in
     let h = l .inv .0 in
@@ -85,7 +85,7 @@ returns c =
     let k : suc (l .left - 1) ≡ l .left = omega (arith, t) in
     rw (c .stop .ensures, c .before .whole .ensures)
     (ap (λ (n : ℕ). ends n (next (c .before .before .before .before .before .before .before)) m (Refused w)) d
-    ∙ turn-off (here (c .before .before .before .before .before .before .before .before .before .before .before .before .before .before .before .before)) (l .ram) (a .rom .now) (o .result) (next (c .before .before .before .before .before .before .before)) m (l .left - 1) (o .last .1 .1 .1 .1 .1 .1 .1 .0) (within (c .before .before .before .before .before .before .before .before .before .before .before .before .before .before .before .before)) (l .inv .2) (o .ensures .0) (o .ensures .1 (a .s .level .0)) (a .steps - l .left) w (c .before .before .before .a .given .1)
+    ∙ turn-off (here (c .before .before .before .before .before .before .before .before .before .before .before .before .before .before .before .before)) (l .ram) (a .rom .now) (o .result) (next (c .before .before .before .before .before .before .before)) m (l .left - 1) (o .last .1 .1 .1 .1 .1 .1 .1 .0) (within (c .before .before .before .before .before .before .before .before .before .before .before .before .before .before .before .before)) (l .inv .2) (o .ensures .0) (o .ensures .1 (a .s)) (a .steps - l .left) w (c .before .before .before .a .given .1)
     ∙ ap (λ (n : ℕ). goOf n (a .steps - l .left) (here (c .before .before .before .before .before .before .before .before .before .before .before .before .before .before .before .before)) (l .ram) (a .rom .now)) k
     ∙ l .inv .3)
 
@@ -98,7 +98,7 @@ unfolding here next
 less c =
     let l = c .before .before .before .before .before .before .before .before .before .before .before .before .before .loop in
     let o = c .before .before .before .before .once in
-    turn-less (here (c .before .before .before .before .before .before .before .before .before .before .before .before .before)) (l .ram) (c .before .before .before .before .before .before .before .before .before .before .before .before .before .before .before .before .before .before .before .args .rom .now) (o .result) (next (c .before .before .before .before)) (o .last .1 .1 .1 .1 .1 .0) (l .left - 1) (o .last .1 .1 .1 .1 .1 .1 .1 .0) (within (c .before .before .before .before .before .before .before .before .before .before .before .before .before)) (l .inv .2) (o .ensures .0) (o .ensures .1 (c .before .before .before .before .before .before .before .before .before .before .before .before .before .before .before .before .before .before .before .args .s .level .0)) (c .enum-told .given .1)
+    turn-less (here (c .before .before .before .before .before .before .before .before .before .before .before .before .before)) (l .ram) (c .before .before .before .before .before .before .before .before .before .before .before .before .before .before .before .before .before .before .args .rom .now) (o .result) (next (c .before .before .before .before)) (o .last .1 .1 .1 .1 .1 .0) (l .left - 1) (o .last .1 .1 .1 .1 .1 .1 .1 .0) (within (c .before .before .before .before .before .before .before .before .before .before .before .before .before)) (l .inv .2) (o .ensures .0) (o .ensures .1 (c .before .before .before .before .before .before .before .before .before .before .before .before .before .before .before .before .before .before .args .s)) (c .enum-told .given .1)
 
 loop-less : tie.Need-loop-less Inv-loop μ-loop
 loop-less c = let h = less c in let t = c .before .before .before .before .before .before .before .before .before .before .before .before .loop-test .taken in omega (arith, h, t)
@@ -106,7 +106,7 @@ loop-less c = let h = less c in let t = c .before .before .before .before .befor
 loop-again : tie.Need-loop-again Inv-loop μ-loop
 unfolding here next
 loop-again c =
-    let a = c .before .before .before .before .before .before .before .before .before .before .before .before .before .before .before .before .before .before .before .args in
+    let a = c .before .before .before .before .before .before .before .before .before .before .before .before .before .before .before .before .before .before .args in
     let l = c .before .before .before .before .before .before .before .before .before .before .before .before .before .loop in
     let o = c .before .before .before .before .once in
     let n = o .last .1 .1 .1 .1 .1 .1 .1 .0 in
@@ -119,9 +119,9 @@ loop-again c =
     let k : suc (l .left - 1) ≡ l .left = omega (arith, t) in (
       omega (arith, h, i),
       o .kept .1 .1 .1 .1 .1 .0 ∙ l .inv .1,
-      turn-valid (here (c .before .before .before .before .before .before .before .before .before .before .before .before .before)) (l .ram) (a .rom .now) (o .result) (next (c .before .before .before .before)) m (l .left - 1) n w (l .inv .2) (o .ensures .0) (o .ensures .1 (a .s .level .0)) (c .enum-told .given .1),
+      turn-valid (here (c .before .before .before .before .before .before .before .before .before .before .before .before .before)) (l .ram) (a .rom .now) (o .result) (next (c .before .before .before .before)) m (l .left - 1) n w (l .inv .2) (o .ensures .0) (o .ensures .1 (a .s)) (c .enum-told .given .1),
       ap (λ (x : ℕ). goOf n x (next (c .before .before .before .before)) m (a .rom .now)) (sym d)
-          ∙ sym (turn-on (here (c .before .before .before .before .before .before .before .before .before .before .before .before .before)) (l .ram) (a .rom .now) (o .result) (next (c .before .before .before .before)) m (l .left - 1) n w (l .inv .2) (o .ensures .0) (o .ensures .1 (a .s .level .0)) (a .steps - l .left) (c .enum-told .given .1))
+          ∙ sym (turn-on (here (c .before .before .before .before .before .before .before .before .before .before .before .before .before)) (l .ram) (a .rom .now) (o .result) (next (c .before .before .before .before)) m (l .left - 1) n w (l .inv .2) (o .ensures .0) (o .ensures .1 (a .s)) (a .steps - l .left) (c .enum-told .given .1))
           ∙ ap (λ (x : ℕ). goOf x (a .steps - l .left) (here (c .before .before .before .before .before .before .before .before .before .before .before .before .before)) (l .ram) (a .rom .now)) k
           ∙ l .inv .3,
     )
@@ -138,7 +138,7 @@ same-length-2 c = search needs
 returns-2 : tie.Need-returns-2 Inv-loop μ-loop
 unfolding here
 returns-2 c =
-    let a = c .before .before .before .before .before .before .before .before .before .args in
+    let a = c .before .before .before .before .before .before .before .before .args in
     let l = c .before .before .before .loop in
     let t = c .before .before .loop-test .left in
     rw (c .stop2 .ensures, c .before .whole2 .ensures) (turn-end (a .steps) (here (c .before .before .before)) (l .ram) (a .rom .now) (l .left) (omega (arith, t)) ∙ l .inv .3)

@@ -2,7 +2,7 @@ use Prim.Native.Nat.{_<_}
 use mathlib.Core.Path.{refl, _∙_}
 use native.Mathlib.Omega.{arith}
 use Rattle.state.specs.State.{longOf}
-use Rattle.state.specs.Register.{getRegister, getSlot}
+use Rattle.state.specs.Register.{registerAt, slotIn}
 use Rattle.state.proofs.Laws.{slot-held}
 use borrow.Author.Needs.{needs}
 use Rattle.state.proofs.read.Statement.{statement}
@@ -24,8 +24,8 @@ bits-of-requires : tie.Need-bits-of-requires
 bits-of-requires c κs = search needs
 
 returns : tie.Need-returns
-unfolding getRegister getSlot longOf
-returns c counter level flags spare = c .bits-of .ensures ∙ rw (c .before .before .slot-of .ensures) refl
+unfolding registerAt slotIn longOf
+returns c = c .bits-of .ensures ∙ rw (c .before .before .slot-of .ensures) refl
 
 pub read-spec : {M : Type 1} → statement M
 read-spec =

@@ -31,7 +31,7 @@ element-write-registers c = known (c .before .before)
 
 returns : tie.Need-returns
 unfolding setRegister setSlot withLong longOf
-returns c counter level flags spare = rw (c .with-bits .ensures, c .before .before .slot-of .ensures) refl
+returns c s = rw (c .with-bits .ensures, c .before .before .slot-of .ensures) refl
 
 pub write-spec : {M : Type 1} → statement M
 write-spec =

@@ -10,7 +10,7 @@ decode-requires : tie.Need-decode-requires
 decode-requires c κs = search needs
 
 returns : tie.Need-returns
-returns c = c .decode .ensures ∙ rw (c .before .fetch .ensures) refl
+returns c = c .decode .ensures ∙ rw (c .before .fetch .ensures .0) refl
 
 pub decode-at-spec : {M : Type 1} → statement M
 decode-at-spec = tie.close (tie.spec fetch-requires decode-requires returns)

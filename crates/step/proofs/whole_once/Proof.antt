@@ -17,10 +17,10 @@ same-length c = search needs
 
 returns : tie.Need-returns
 returns c =
-    let a = c .before .before .before .before .before .before .before .before .before .before .before .before .before .before .before .before .args in
+    let a = c .before .before .before .before .before .before .before .before .before .before .before .before .before .before .before .args in
     let o = c .before .before .before .once in
     ap (λ (t : State). after (o .result) t (o .last .1 .1 .1 .1 .1 .0)) (c .whole .ensures)
-    ∙ o .ensures .1 (a .s .level .0)
+    ∙ o .ensures .1 (a .s)
     ∙ ap (leaves (a .s) (a .ram .now)) (times-none (o .last .1 .1 .1 .1 .1 .1 .1 .0) (a .s) (a .ram .now) (a .rom .now))
 
 pub whole-once-spec : {M : Type 1} → statement M

@@ -1,5 +1,6 @@
 use mathlib.Core.Path.{ap, _∙_}
-use Rattle.state.specs.Register.{getSlot, getBits, startOf, widthOf}
+use Rattle.state.specs.State.{longOf}
+use Rattle.state.specs.Register.{slotIn, getBits, startOf, widthOf}
 use borrow.Author.Needs.{needs}
 use Rattle.state.proofs.State.get.Statement.{statement}
 use Rattle.state.proofs.State.get.Tie as tie
@@ -11,7 +12,7 @@ bits-of-requires : tie.Need-bits-of-requires
 bits-of-requires c κs = search needs
 
 returns : tie.Need-returns
-unfolding getSlot
+unfolding slotIn longOf
 returns c =
     let p = c .before .before .args .t .part in
     c .bits-of .ensures ∙ ap (getBits (startOf p) (widthOf p)) (c .before .long .ensures)

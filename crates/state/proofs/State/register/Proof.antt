@@ -1,5 +1,5 @@
 use mathlib.Core.Path.{_∙_}
-use Rattle.state.specs.Register.{getRegister}
+use Rattle.state.specs.Register.{registerAt}
 use borrow.Author.Needs.{needs}
 use Rattle.state.proofs.State.register.Statement.{statement}
 use Rattle.state.proofs.State.register.Tie as tie
@@ -11,7 +11,7 @@ get-requires : tie.Need-get-requires
 get-requires c κs = search needs
 
 returns : tie.Need-returns
-unfolding getRegister
+unfolding registerAt
 returns c = c .get .ensures ∙ simp (c .before .slot-of .ensures)
 
 pub register-spec : {M : Type 1} → statement M

@@ -22,13 +22,13 @@ read-requires-3 : tie.Need-read-requires-3
 read-requires-3 c κs = search needs
 
 returns : tie.Need-returns
-returns c counter level flags spare = c .read .ensures counter level flags spare ∙ rw (c .before .enum-told .given .1) refl
+returns c = c .read .ensures ∙ rw (c .before .enum-told .given .1) refl
 
 returns-2 : tie.Need-returns-2
-returns-2 c counter level flags spare = c .read2 .ensures counter level flags spare ∙ rw (c .before .enum-told2 .given .1) refl
+returns-2 c = c .read2 .ensures ∙ rw (c .before .enum-told2 .given .1) refl
 
 returns-3 : tie.Need-returns-3
-returns-3 c counter level flags spare = c .read3 .ensures counter level flags spare ∙ rw (c .before .enum-told3 .given .1) refl
+returns-3 c = c .read3 .ensures ∙ rw (c .before .enum-told3 .given .1) refl
 
 pub accumulator-spec : {M : Type 1} → statement M
 accumulator-spec =

@@ -7,7 +7,7 @@ goes-on-requires : tie.Need-goes-on-requires
 goes-on-requires c κs = search needs
 
 returns : tie.Need-returns
-returns c counter level spare = rw (c .goes-on .ensures counter level spare) refl
+returns c rest = rw (c .goes-on .ensures rest) refl
 
 pub again-spec : {M : Type 1} → statement M
 again-spec = tie.close (tie.spec goes-on-requires returns)

@@ -3,7 +3,7 @@ use mathlib.Core.Bool.{false}
 use Rattle.little.specs.Width.{bitsOf}
 use Rattle.alu.specs.Sums.{differenceOf}
 use Rattle.alu.specs.Flag.{byteOf, flagsOf, comparedOf}
-use Rattle.state.specs.State.{stateOf, withFlags, withBothFlags}
+use Rattle.state.specs.State.{bankedWith, withFlags, withBothFlags}
 use Rattle.state.specs.declared.State.{State}
 use Rattle.step.specs.Flag.{flagged}
 use Rattle.step.specs.Block.{moreIn, counted, accumulator, compared}
@@ -37,18 +37,18 @@ pack-requires c κs = search needs
 
 returns : tie.Need-returns
 unfolding compared flagged withFlags withBothFlags
-returns c counter level spare =
+returns c rest =
     let a = c .before .before .before .before .before .before .before .before .before .before .before .before .before .before .args in
     let f = a .flags .now in
-    let s = stateOf (a .regs .now) counter (a .bank) level f spare in
-    let e = c .before .before .before .before .before .before .counted .ensures counter level f spare ∙ ap counted (c .before .before .before .before .before .before .before .before .moved .ensures counter level f spare) in
+    let s = bankedWith rest (a .regs .now) (a .bank) f in
+    let e = c .before .before .before .before .before .before .counted .ensures s ∙ ap counted (c .before .before .before .before .before .before .before .before .moved .ensures s) in
     rw (
       c .pack .ensures,
       c .before .compare-flags .ensures,
-      c .before .before .more .ensures counter level f spare,
+      c .before .before .more .ensures,
       c .before .before .before .before .unpack .ensures,
       c .before .before .before .before .before .before .before .before .before .before .before .sub .ensures,
-      c .before .before .before .before .before .before .before .before .before .before .before .before .accumulator .ensures counter level f spare,
+      c .before .before .before .before .before .before .before .before .before .before .before .before .accumulator .ensures,
     )
     (ap (λ (t : State). withFlags t (byteOf (comparedOf (flagsOf f) (differenceOf (bitsOf (a .f .size)) (accumulator s (a .f .size)) (a .v) false .flags) (moreIn t)))) e)
 

@@ -1,6 +1,6 @@
 use mathlib.Core.Path.{ap, _∙_}
 use Rattle.alu.specs.Flag.{byteOf, flagsOf, copiedOf}
-use Rattle.state.specs.State.{withFlags, withBothFlags}
+use Rattle.state.specs.State.{bankedWith, withFlags, withBothFlags}
 use Rattle.state.specs.declared.State.{State}
 use Rattle.step.specs.Flag.{flagged}
 use Rattle.step.specs.Block.{moreIn, counted, moved, copied}
@@ -31,13 +31,14 @@ pack-requires c κs = search needs
 
 returns : tie.Need-returns
 unfolding copied flagged withFlags withBothFlags
-returns c counter level spare =
+returns c rest =
     let a = c .before .before .before .before .before .before .before .before .before .before .before .before .args in
     let f = a .flags .now in
+    let s = bankedWith rest (a .regs .now) (a .bank) f in
     let e =
-    c .before .before .before .before .before .before .counted .ensures counter level f spare
-    ∙ ap counted (c .before .before .before .before .before .before .before .before .moved2 .ensures counter level f spare ∙ ap (moved (a .f) (a .f .to)) (c .before .before .before .before .before .before .before .before .before .before .moved .ensures counter level f spare)) in
-    rw (c .pack .ensures, c .before .copy-flags .ensures, c .before .before .more .ensures counter level f spare, c .before .before .before .before .unpack .ensures)
+    c .before .before .before .before .before .before .counted .ensures s
+    ∙ ap counted (c .before .before .before .before .before .before .before .before .moved2 .ensures s ∙ ap (moved (a .f) (a .f .to)) (c .before .before .before .before .before .before .before .before .before .before .moved .ensures s)) in
+    rw (c .pack .ensures, c .before .copy-flags .ensures, c .before .before .more .ensures, c .before .before .before .before .unpack .ensures)
     (ap (λ (t : State). withFlags t (byteOf (copiedOf (flagsOf f) (moreIn t)))) e)
 
 pub copied-spec : {M : Type 1} → statement M

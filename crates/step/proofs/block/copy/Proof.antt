@@ -1,5 +1,5 @@
 use mathlib.Core.Path.{sym, _∙_}
-use Rattle.state.specs.State.{stateOf}
+use Rattle.state.specs.State.{bankedWith}
 use Rattle.step.specs.Operand.{pointerOf}
 use Rattle.step.specs.Block.{copied}
 use Rattle.step.proofs.Laws.{stored, not-stored}
@@ -26,11 +26,11 @@ same-length : tie.Need-same-length
 same-length c = search needs
 
 returns : tie.Need-returns
-returns c counter level spare =
+returns c rest =
     let a = c .before .before .before .before .before .before .before .before .before .before .before .before .before .args in
-    let s = stateOf (a .regs .now) counter (a .bank) level (a .flags .now) spare in
-    let e = c .before .before .before .before .before .before .before .before .pointer .ensures counter level (a .flags .now) spare in
-    rw (c .copied .ensures counter level spare)
+    let s = bankedWith rest (a .regs .now) (a .bank) (a .flags .now) in
+    let e = c .before .before .before .before .before .before .before .before .pointer .ensures in
+    rw (c .copied .ensures rest)
     (stored s (copied (a .f) s) (a .ram .now) (a .rom .now) (pointerOf s (a .f .to)) (a .f .size) (a .v) (c .before .before .before .before .before .before .before .store .last .0)
     (rw e at (c .before .before .before .before .before .before .before .store .ensures .1))
     (sym (rw e at (c .before .before .before .before .before .before .before .store .ensures .0)) ∙ c .before .before .before .enum-told .given .1))
@@ -39,10 +39,10 @@ same-length-2 : tie.Need-same-length-2
 same-length-2 c = search needs
 
 returns-2 : tie.Need-returns-2
-returns-2 c counter level spare =
+returns-2 c rest =
     let a = c .before .before .before .before .before .before .before .before .before .before .before .args in
-    let s = stateOf (a .regs .now) counter (a .bank) level (a .flags .now) spare in
-    let e = c .before .before .before .before .before .before .pointer .ensures counter level (a .flags .now) spare in
+    let s = bankedWith rest (a .regs .now) (a .bank) (a .flags .now) in
+    let e = c .before .before .before .before .before .before .pointer .ensures in
     not-stored s (copied (a .f) s) (a .ram .now) (a .rom .now) (pointerOf s (a .f .to)) (a .f .size) (a .v) (c .before .before .before .before .before .store .last .0)
     (rw e at (c .before .before .before .before .before .store .ensures .1))
     (c .before .w .given .0 .0)

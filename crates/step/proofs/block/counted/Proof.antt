@@ -3,7 +3,7 @@ use mathlib.Core.Path.{_≡_, refl, _∙_}
 use native.Mathlib.Omega.{arith}
 use native.Mathlib.Nat.{mod-eq-of-lt}
 use Rattle.little.specs.declared.Size.the-variants.{Word}
-use Rattle.state.specs.State.{stateOf}
+use Rattle.state.specs.State.{banked}
 use Rattle.state.proofs.Laws.{register-lt}
 use Rattle.step.specs.Block.{counted}
 use Rattle.step.proofs.Laws.{less-is}
@@ -28,15 +28,15 @@ write-requires c κs = search needs
 
 returns : tie.Need-returns
 unfolding counted
-returns c counter level flags spare =
+returns c rest =
     let a = c .before .before .before .before .before .args in
-    let s = stateOf (a .regs .now) counter (a .bank) level flags spare in
+    let s = banked rest (a .regs .now) (a .bank) in
     let x = c .before .before .before .read .result in
-    let e = c .before .before .before .read .ensures counter level flags spare in
+    let e = c .before .before .before .read .ensures in
     let h : x < 2 ^ 16 = rw e (register-lt s Word 1) in
     let k : x % 65536 ≡ x = mod-eq-of-lt h in
     let l = less-is 16 x 1 (c .before .wrapping-sub-u16 .result) h (omega arith) (omega arith) (c .before .wrapping-sub-u16 .ensures ∙ k) in
-    c .write .ensures counter level flags spare ∙ rw (l, e) refl
+    c .write .ensures rest ∙ rw (l, e) refl
 
 pub counted-spec : {M : Type 1} → statement M
 counted-spec =

@@ -1,5 +1,5 @@
 use mathlib.Core.Path.{refl, sym, _∙_}
-use Rattle.state.specs.State.{withCounter}
+use Rattle.state.specs.State.{standingAt, withCounter}
 use Rattle.step.specs.Block.{endsAt}
 use borrow.Author.Needs.{needs}
 use Rattle.step.proofs.block.ended.Statement.{statement}
@@ -10,11 +10,11 @@ goes-on-requires c κs = search needs
 
 returns : tie.Need-returns
 unfolding endsAt withCounter
-returns c level spare = rw (sym (c .before .goes-on .ensures (c .before .before .args .counter) level spare) ∙ c .if1 .taken) refl
+returns c rest = rw (sym (c .before .goes-on .ensures (standingAt rest (c .before .before .args .counter))) ∙ c .if1 .taken) refl
 
 returns-2 : tie.Need-returns-2
 unfolding endsAt
-returns-2 c level spare = rw (sym (c .before .goes-on .ensures (c .before .before .args .counter) level spare) ∙ c .if1 .left) refl
+returns-2 c rest = rw (sym (c .before .goes-on .ensures (standingAt rest (c .before .before .args .counter))) ∙ c .if1 .left) refl
 
 pub ended-spec : {M : Type 1} → statement M
 ended-spec = tie.close (tie.spec goes-on-requires returns returns-2)

@@ -12,7 +12,7 @@ more-requires c κs = search needs
 
 returns : tie.Need-returns
 unfolding goesOn
-returns c counter level spare = rw (c .before .more .ensures counter level (c .before .before .before .before .before .args .flags) spare, c .before .before .before .before .unpack .ensures) refl
+returns c rest = rw (c .before .more .ensures, c .before .before .before .before .unpack .ensures) refl
 
 pub goes-on-spec : {M : Type 1} → statement M
 goes-on-spec = tie.close (tie.spec unpack-requires more-requires returns)

@@ -1,6 +1,6 @@
 use mathlib.Core.Path.{ap, _∙_}
 use Rattle.little.specs.declared.Size.the-variants.{Long}
-use Rattle.state.specs.State.{stateOf}
+use Rattle.state.specs.State.{banked}
 use Rattle.state.specs.Register.{setRegister}
 use Rattle.step.specs.Block.{steppedOf, moved}
 use borrow.Author.Needs.{needs}
@@ -18,11 +18,11 @@ write-requires c κs = search needs
 
 returns : tie.Need-returns
 unfolding moved
-returns c counter level flags spare =
+returns c rest =
     let a = c .before .before .before .before .before .args in
-    let s = stateOf (a .regs .now) counter (a .bank) level flags spare in
-    c .write .ensures counter level flags spare
-    ∙ ap (setRegister s Long (a .r)) (c .before .before .stepped .ensures ∙ ap (steppedOf (a .f)) (c .before .before .before .read .ensures counter level flags spare))
+    let s = banked rest (a .regs .now) (a .bank) in
+    c .write .ensures rest
+    ∙ ap (setRegister s Long (a .r)) (c .before .before .stepped .ensures ∙ ap (steppedOf (a .f)) (c .before .before .before .read .ensures))
 
 pub moved-spec : {M : Type 1} → statement M
 moved-spec = tie.close (tie.spec read-requires stepped-requires write-requires returns)

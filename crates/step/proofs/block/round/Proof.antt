@@ -1,5 +1,5 @@
 use mathlib.Core.Path.{ap, sym, _∙_}
-use Rattle.state.specs.State.{stateOf}
+use Rattle.state.specs.State.{bankedWith}
 use Rattle.step.specs.Try.{leaves}
 use Rattle.step.proofs.Rounds.{round-copies, round-compares, round-refused}
 use borrow.Author.Needs.{needs}
@@ -22,11 +22,11 @@ same-length : tie.Need-same-length
 same-length c = search needs
 
 returns : tie.Need-returns
-returns c counter level spare =
+returns c rest =
     let a = c .before .before .before .before .before .before .before .before .before .before .before .before .before .before .before .before .args in
-    let s = stateOf (a .regs .now) counter (a .bank) level (a .flags .now) spare in
-    let e = sym (rw (c .before .before .before .before .before .before .before .before .before .before .before .pointer .ensures counter level (a .flags .now) spare) at (c .before .before .before .before .before .before .before .before .before .before .load .ensures)) ∙ c .before .before .before .before .before .before .before .before .v .given .1 in
-    c .before .before .copy .ensures counter level spare
+    let s = bankedWith rest (a .regs .now) (a .bank) (a .flags .now) in
+    let e = sym (rw (c .before .before .before .before .before .before .before .before .before .before .before .pointer .ensures) at (c .before .before .before .before .before .before .before .before .before .before .load .ensures)) ∙ c .before .before .before .before .before .before .before .before .v .given .1 in
+    c .before .before .copy .ensures rest
     ∙ ap (leaves s (a .ram .now)) (sym (round-copies (a .f) s (a .ram .now) (a .rom .now) (c .before .before .before .before .before .before .before .before .v .given .0 .0) e (c .before .before .before .before .before .before .if1 .taken)))
 
 compared-requires : tie.Need-compared-requires
@@ -39,21 +39,21 @@ same-length-2 : tie.Need-same-length-2
 same-length-2 c = search needs
 
 returns-2 : tie.Need-returns-2
-returns-2 c counter level spare =
+returns-2 c rest =
     let a = c .before .before .before .before .before .before .before .before .before .before .before .before .before .args in
-    let s = stateOf (a .regs .now) counter (a .bank) level (a .flags .now) spare in
-    let e = sym (rw (c .before .before .before .before .before .before .before .before .pointer .ensures counter level (a .flags .now) spare) at (c .before .before .before .before .before .before .before .load .ensures)) ∙ c .before .before .before .before .before .v .given .1 in
-    rw (c .compared .ensures counter level spare)
+    let s = bankedWith rest (a .regs .now) (a .bank) (a .flags .now) in
+    let e = sym (rw (c .before .before .before .before .before .before .before .before .pointer .ensures) at (c .before .before .before .before .before .before .before .load .ensures)) ∙ c .before .before .before .before .before .v .given .1 in
+    rw (c .compared .ensures rest)
     (ap (leaves s (a .ram .now)) (sym (round-compares (a .f) s (a .ram .now) (a .rom .now) (c .before .before .before .before .before .v .given .0 .0) e (c .before .before .before .if1 .left))))
 
 same-length-3 : tie.Need-same-length-3
 same-length-3 c = search needs
 
 returns-3 : tie.Need-returns-3
-returns-3 c counter level spare =
+returns-3 c rest =
     let a = c .before .before .before .before .before .before .before .before .before .args in
-    let s = stateOf (a .regs .now) counter (a .bank) level (a .flags .now) spare in
-    let e = sym (rw (c .before .before .before .before .pointer .ensures counter level (a .flags .now) spare) at (c .before .before .before .load .ensures)) ∙ c .before .w .given .1 in
+    let s = bankedWith rest (a .regs .now) (a .bank) (a .flags .now) in
+    let e = sym (rw (c .before .before .before .before .pointer .ensures) at (c .before .before .before .load .ensures)) ∙ c .before .w .given .1 in
     ap (leaves s (a .ram .now)) (sym (round-refused (a .f) s (a .ram .now) (a .rom .now) (c .before .w .given .0 .0) e))
 
 pub round-spec : {M : Type 1} → statement M

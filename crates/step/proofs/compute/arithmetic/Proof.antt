@@ -25,14 +25,13 @@ target-requires c κs = search needs
 
 -- src/compute.rt:178:1
 returns : tie.Need-returns
-returns c counter level spare =
-    let f = c .before .before .before .before .before .args .flags in
+returns c rest =
     rw (
       c .target .ensures,
       c .before .into .ensures,
       c .before .before .operated .ensures,
-      c .before .before .before .second .ensures counter level f spare,
-      c .before .before .before .before .first .ensures counter level f spare,
+      c .before .before .before .second .ensures,
+      c .before .before .before .before .first .ensures,
     )
     refl
 

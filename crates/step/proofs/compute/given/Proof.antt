@@ -34,31 +34,31 @@ enum-told-7 : tie.Need-enum-told-7
 enum-told-7 c = search needs
 
 returns : tie.Need-returns
-returns c counter level flags spare = rw (c .before .how .given .1) refl
+returns c = rw (c .before .how .given .1) refl
 
 returns-2 : tie.Need-returns-2
-returns-2 c counter level flags spare = c .read .ensures counter level flags spare ∙ rw (c .before .before .how2 .given .1) refl
+returns-2 c = c .read .ensures ∙ rw (c .before .before .how2 .given .1) refl
 
 returns-3 : tie.Need-returns-3
-returns-3 c counter level flags spare = rw (c .enum-told .given .1) refl
+returns-3 c = rw (c .enum-told .given .1) refl
 
 returns-4 : tie.Need-returns-4
-returns-4 c counter level flags spare = rw (c .enum-told2 .given .1) refl
+returns-4 c = rw (c .enum-told2 .given .1) refl
 
 returns-5 : tie.Need-returns-5
-returns-5 c counter level flags spare = rw (c .enum-told3 .given .1) refl
+returns-5 c = rw (c .enum-told3 .given .1) refl
 
 returns-6 : tie.Need-returns-6
-returns-6 c counter level flags spare = rw (c .enum-told4 .given .1) refl
+returns-6 c = rw (c .enum-told4 .given .1) refl
 
 returns-7 : tie.Need-returns-7
-returns-7 c counter level flags spare = rw (c .enum-told5 .given .1) refl
+returns-7 c = rw (c .enum-told5 .given .1) refl
 
 returns-8 : tie.Need-returns-8
-returns-8 c counter level flags spare = rw (c .enum-told6 .given .1) refl
+returns-8 c = rw (c .enum-told6 .given .1) refl
 
 returns-9 : tie.Need-returns-9
-returns-9 c counter level flags spare = rw (c .enum-told7 .given .1) refl
+returns-9 c = rw (c .enum-told7 .given .1) refl
 
 pub given-spec : {M : Type 1} → statement M
 given-spec =

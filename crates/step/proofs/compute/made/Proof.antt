@@ -82,31 +82,31 @@ kept-requires-5 : tie.Need-kept-requires-5
 kept-requires-5 c κs = search needs
 
 returns : tie.Need-returns
-returns c counter level spare = c .kept .ensures ∙ rw (c .before .enum-told .given .1) refl
+returns c rest = c .kept .ensures ∙ rw (c .before .enum-told .given .1) refl
 
 returns-2 : tie.Need-returns-2
-returns-2 c counter level spare = c .kept2 .ensures ∙ rw (c .before .enum-told2 .given .1) refl
+returns-2 c rest = c .kept2 .ensures ∙ rw (c .before .enum-told2 .given .1) refl
 
 returns-3 : tie.Need-returns-3
-returns-3 c counter level spare = c .kept3 .ensures ∙ rw (c .before .before .how .given .1) refl
+returns-3 c rest = c .kept3 .ensures ∙ rw (c .before .before .how .given .1) refl
 
 returns-4 : tie.Need-returns-4
-returns-4 c counter level spare = c .arithmetic .ensures counter level spare ∙ rw (c .before .before .how2 .given .1) refl
+returns-4 c rest = c .arithmetic .ensures rest ∙ rw (c .before .before .how2 .given .1) refl
 
 returns-5 : tie.Need-returns-5
-returns-5 c counter level spare = c .result .ensures ∙ rw (c .before .before .before .before .before .how3 .given .1, c .before .inc .ensures, c .before .before .steps-of .ensures, c .before .before .before .unpack .ensures) refl
+returns-5 c rest = c .result .ensures ∙ rw (c .before .before .before .before .before .how3 .given .1, c .before .inc .ensures, c .before .before .steps-of .ensures, c .before .before .before .unpack .ensures) refl
 
 returns-6 : tie.Need-returns-6
-returns-6 c counter level spare = c .result2 .ensures ∙ rw (c .before .before .before .before .before .how4 .given .1, c .before .dec .ensures, c .before .before .steps-of2 .ensures, c .before .before .before .unpack2 .ensures) refl
+returns-6 c rest = c .result2 .ensures ∙ rw (c .before .before .before .before .before .how4 .given .1, c .before .dec .ensures, c .before .before .steps-of2 .ensures, c .before .before .before .unpack2 .ensures) refl
 
 returns-7 : tie.Need-returns-7
-returns-7 c counter level spare = rw (c .before .before .how5 .given .1, c .shifted .ensures) refl
+returns-7 c rest = rw (c .before .before .how5 .given .1, c .shifted .ensures) refl
 
 returns-8 : tie.Need-returns-8
-returns-8 c counter level spare = c .kept4 .ensures ∙ rw (c .before .before .enum-told3 .given .1, c .before .extz .ensures) refl
+returns-8 c rest = c .kept4 .ensures ∙ rw (c .before .before .enum-told3 .given .1, c .before .extz .ensures) refl
 
 returns-9 : tie.Need-returns-9
-returns-9 c counter level spare = c .kept5 .ensures ∙ rw (c .before .before .enum-told4 .given .1, c .before .exts .ensures) refl
+returns-9 c rest = c .kept5 .ensures ∙ rw (c .before .before .enum-told4 .given .1, c .before .exts .ensures) refl
 
 pub made-spec : {M : Type 1} → statement M
 made-spec =

@@ -22,15 +22,15 @@ same-length : tie.Need-same-length
 same-length c = search needs
 
 returns : tie.Need-returns
-returns c counter level spare =
-    rw (sym (c .before .before .before .before .before .before .before .before .before .before .before .before .source .ensures counter level (c .before .before .before .before .before .before .before .before .before .before .before .before .before .before .before .before .before .args .flags .now) spare) ∙ c .before .before .before .before .before .before .before .before .before .before .v .given .1)
-    (c .before .before .put .ensures counter level spare ∙ rw (c .before .before .before .before .before .before .made .ensures counter level spare) refl)
+returns c rest =
+    rw (sym (c .before .before .before .before .before .before .before .before .before .before .before .before .source .ensures) ∙ c .before .before .before .before .before .before .before .before .before .before .v .given .1)
+    (c .before .before .put .ensures rest ∙ rw (c .before .before .before .before .before .before .made .ensures rest) refl)
 
 same-length-2 : tie.Need-same-length-2
 same-length-2 c = search needs
 
 returns-2 : tie.Need-returns-2
-returns-2 c counter level spare = rw (sym (c .before .before .before .source .ensures counter level (c .before .before .before .before .before .before .before .before .args .flags .now) spare) ∙ c .before .w .given .1) refl
+returns-2 c rest = rw (sym (c .before .before .before .source .ensures) ∙ c .before .w .given .1) refl
 
 pub puts-spec : {M : Type 1} → statement M
 puts-spec =

@@ -16,13 +16,13 @@ enum-known-side-2 : tie.Need-enum-known-side-2
 enum-known-side-2 c = search needs
 
 returns : tie.Need-returns
-returns c counter level flags spare = rw (c .enum-told .given .1) refl
+returns c = rw (c .enum-told .given .1) refl
 
 returns-2 : tie.Need-returns-2
-returns-2 c counter level flags spare = c .read .ensures counter level flags spare ∙ rw (c .before .before .side .given .1) refl
+returns-2 c = c .read .ensures ∙ rw (c .before .before .side .given .1) refl
 
 returns-3 : tie.Need-returns-3
-returns-3 c counter level flags spare = rw (c .before .side2 .given .1) refl
+returns-3 c = rw (c .before .side2 .given .1) refl
 
 pub second-spec : {M : Type 1} → statement M
 second-spec =

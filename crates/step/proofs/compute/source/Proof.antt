@@ -10,13 +10,13 @@ value-requires : tie.Need-value-requires
 value-requires c κs = search needs
 
 returns : tie.Need-returns
-returns c counter level flags spare = c .value .ensures counter level flags spare ∙ rw (sym (c .before .before .reads .ensures) ∙ c .before .if1 .taken) refl
+returns c = c .value .ensures ∙ rw (sym (c .before .before .reads .ensures) ∙ c .before .if1 .taken) refl
 
 given-requires : tie.Need-given-requires
 given-requires c κs = search needs
 
 returns-2 : tie.Need-returns-2
-returns-2 c counter level flags spare = rw (sym (c .before .before .reads .ensures) ∙ c .before .if1 .left, c .given .ensures counter level flags spare) refl
+returns-2 c = rw (sym (c .before .before .reads .ensures) ∙ c .before .if1 .left, c .given .ensures) refl
 
 pub source-spec : {M : Type 1} → statement M
 source-spec = tie.close (tie.spec reads-requires value-requires returns given-requires returns-2)

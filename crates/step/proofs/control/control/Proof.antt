@@ -1,7 +1,7 @@
 use Prim.Native.Nat.{_+_, _%_}
 use mathlib.Core.Path.{_≡_, refl, _∙_}
 use native.Mathlib.Omega.{arith}
-use Rattle.state.specs.State.{withBank, withCounter, withFlags, withBothFlags}
+use Rattle.state.specs.State.{controlled, withBank, withCounter, withFlags, withBothFlags}
 use Rattle.step.specs.Flag.{flagged}
 use borrow.Author.Needs.{needs}
 use Rattle.step.proofs.control.control.Statement.{statement}
@@ -83,11 +83,11 @@ jump-requires : tie.Need-jump-requires
 jump-requires c κs = search needs
 
 returns : tie.Need-returns
-returns c regs level = rw (c .enum-told .given .1) refl
+returns c rest = rw (c .enum-told .given .1) refl
 
 returns-2 : tie.Need-returns-2
 unfolding withBank
-returns-2 c regs level =
+returns-2 c rest =
     let b = c .before .before .before .before .before .args .bank .now in
     let n = c .before .before .what .given .0 .0 in
     let e : (b % 4 + n % 4) % 4 ≡ (b + n) % 4 = omega arith in
@@ -95,34 +95,34 @@ returns-2 c regs level =
 
 returns-3 : tie.Need-returns-3
 unfolding withBank
-returns-3 c regs level = rw (c .enum-told2 .given .1) refl
+returns-3 c rest = rw (c .enum-told2 .given .1) refl
 
 returns-4 : tie.Need-returns-4
 unfolding flagged withFlags withBothFlags
-returns-4 c regs level = rw (c .before .before .before .enum-told3 .given .1, c .pack .ensures, c .before .rcf .ensures, c .before .before .unpack .ensures) refl
+returns-4 c rest = rw (c .before .before .before .enum-told3 .given .1, c .pack .ensures, c .before .rcf .ensures, c .before .before .unpack .ensures) refl
 
 returns-5 : tie.Need-returns-5
 unfolding flagged withFlags withBothFlags
-returns-5 c regs level = rw (c .before .before .before .enum-told4 .given .1, c .pack2 .ensures, c .before .scf .ensures, c .before .before .unpack2 .ensures) refl
+returns-5 c rest = rw (c .before .before .before .enum-told4 .given .1, c .pack2 .ensures, c .before .scf .ensures, c .before .before .unpack2 .ensures) refl
 
 returns-6 : tie.Need-returns-6
 unfolding flagged withFlags withBothFlags
-returns-6 c regs level = rw (c .before .before .before .enum-told5 .given .1, c .pack3 .ensures, c .before .ccf .ensures, c .before .before .unpack3 .ensures) refl
+returns-6 c rest = rw (c .before .before .before .enum-told5 .given .1, c .pack3 .ensures, c .before .ccf .ensures, c .before .before .unpack3 .ensures) refl
 
 returns-7 : tie.Need-returns-7
 unfolding flagged withFlags withBothFlags
-returns-7 c regs level = rw (c .before .before .before .enum-told6 .given .1, c .pack4 .ensures, c .before .zcf .ensures, c .before .before .unpack4 .ensures) refl
+returns-7 c rest = rw (c .before .before .before .enum-told6 .given .1, c .pack4 .ensures, c .before .zcf .ensures, c .before .before .unpack4 .ensures) refl
 
 returns-8 : tie.Need-returns-8
 unfolding withBothFlags
-returns-8 c regs level = rw (c .before .enum-told7 .given .1) refl
+returns-8 c rest = rw (c .before .enum-told7 .given .1) refl
 
 returns-9 : tie.Need-returns-9
 unfolding withCounter
-returns-9 c regs level = rw (c .enum-told8 .given .1) refl
+returns-9 c rest = rw (c .enum-told8 .given .1) refl
 
 returns-10 : tie.Need-returns-10
-returns-10 c regs level = let a = c .before .before .before .before .before .before .args in c .jump .ensures regs (a .bank .now) level (a .spare .now) ∙ rw (c .before .before .before .what2 .given .1) refl
+returns-10 c rest = let a = c .before .before .before .before .before .before .args in c .jump .ensures (controlled rest (a .counter .now) (a .bank .now) (a .flags .now) (a .spare .now)) ∙ rw (c .before .before .before .what2 .given .1) refl
 
 pub control-spec : {M : Type 1} → statement M
 control-spec =

@@ -23,7 +23,7 @@ displace-requires c κs = search needs
 
 returns : tie.Need-returns
 unfolding jumpOf withCounter
-returns c regs bank level spare =
+returns c rest =
     let a = c .before .before .before .before .args in
     let t : holdsOf (flagsOf (a .flags)) (a .cc) ≡ true = sym (rw (c .before .before .before .unpack .ensures) at (c .before .before .holds .ensures)) ∙ c .before .if1 .taken in
     let k = bitsOf (a .size) in
@@ -31,7 +31,7 @@ returns c regs bank level spare =
 
 returns-2 : tie.Need-returns-2
 unfolding jumpOf
-returns-2 c regs bank level spare =
+returns-2 c rest =
     let a = c .before .before .before .args in
     let t : holdsOf (flagsOf (a .flags)) (a .cc) ≡ false = sym (rw (c .before .before .unpack .ensures) at (c .before .holds .ensures)) ∙ c .if1 .left in
     rw t refl

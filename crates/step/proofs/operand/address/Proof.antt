@@ -1,5 +1,5 @@
 use mathlib.Core.Path.{refl, _∙_}
-use Rattle.step.specs.Operand.{addressOf}
+use Rattle.step.specs.Operand.{addressIn}
 use borrow.Author.Needs.{needs}
 use Rattle.step.proofs.operand.address.Statement.{statement}
 use Rattle.step.proofs.operand.address.Tie as tie
@@ -29,24 +29,24 @@ enum-told-3 : tie.Need-enum-told-3
 enum-told-3 c = search needs
 
 returns : tie.Need-returns
-unfolding addressOf
-returns c counter level flags spare = c .pointer .ensures counter level flags spare ∙ rw (c .before .before .base .given .1) refl
+unfolding addressIn
+returns c = c .pointer .ensures ∙ rw (c .before .before .base .given .1) refl
 
 returns-2 : tie.Need-returns-2
-unfolding addressOf
-returns-2 c counter level flags spare = c .displace .ensures ∙ rw (c .before .read .ensures counter level flags spare, c .before .before .before .base2 .given .1) refl
+unfolding addressIn
+returns-2 c = c .displace .ensures ∙ rw (c .before .read .ensures, c .before .before .before .base2 .given .1) refl
 
 returns-3 : tie.Need-returns-3
-unfolding addressOf
-returns-3 c counter level flags spare = rw (c .enum-told .given .1) refl
+unfolding addressIn
+returns-3 c = rw (c .enum-told .given .1) refl
 
 returns-4 : tie.Need-returns-4
-unfolding addressOf
-returns-4 c counter level flags spare = rw (c .enum-told2 .given .1) refl
+unfolding addressIn
+returns-4 c = rw (c .enum-told2 .given .1) refl
 
 returns-5 : tie.Need-returns-5
-unfolding addressOf
-returns-5 c counter level flags spare = rw (c .enum-told3 .given .1) refl
+unfolding addressIn
+returns-5 c = rw (c .enum-told3 .given .1) refl
 
 pub address-spec : {M : Type 1} → statement M
 address-spec =

@@ -7,7 +7,7 @@ read-requires : tie.Need-read-requires
 read-requires c κs = search needs
 
 returns : tie.Need-returns
-returns c counter level flags spare = rw (c .read .ensures counter level flags spare) refl
+returns c = rw (c .read .ensures) refl
 
 pub pointer-spec : {M : Type 1} → statement M
 pointer-spec = tie.close (tie.spec read-requires returns)

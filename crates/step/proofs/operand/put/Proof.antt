@@ -1,7 +1,7 @@
 use mathlib.Core.Path.{refl, sym, _∙_}
-use Rattle.state.specs.State.{stateOf, withFlags, withBothFlags}
+use Rattle.state.specs.State.{bankedWith, withFlags, withBothFlags}
 use Rattle.step.specs.Operand.{addressOf}
-use Rattle.step.proofs.Laws.{stored, not-stored, address-flags}
+use Rattle.step.proofs.Laws.{stored, not-stored}
 use borrow.Author.Needs.{needs}
 use Rattle.step.proofs.operand.put.Statement.{statement}
 use Rattle.step.proofs.operand.put.Tie as tie
@@ -32,23 +32,25 @@ enum-known-w c = search needs
 
 returns : tie.Need-returns
 unfolding withFlags withBothFlags
-returns c counter level spare = rw (c .before .before .before .operand .given .1, c .write .ensures counter level (c .before .before .before .before .before .before .before .args .new) spare) refl
+returns c rest =
+    let a = c .before .before .before .before .before .before .before .args in
+    rw (c .before .before .before .operand .given .1, c .write .ensures (bankedWith rest (a .regs .now) (a .bank) (a .new))) refl
 
 returns-2 : tie.Need-returns-2
 unfolding withFlags withBothFlags
-returns-2 c counter level spare = rw (c .enum-told .given .1) refl
+returns-2 c rest = rw (c .enum-told .given .1) refl
 
 same-length : tie.Need-same-length
 same-length c = search needs
 
 returns-3 : tie.Need-returns-3
 unfolding withFlags withBothFlags
-returns-3 c counter level spare =
+returns-3 c rest =
     let a = c .before .before .before .before .before .before .before .before .before .before .before .before .before .args in
     let m = c .before .before .before .before .before .before .before .before .before .operand2 .given .0 .0 in
-    let s = stateOf (a .regs .now) counter (a .bank) level (a .flags .now) spare in
+    let s = bankedWith rest (a .regs .now) (a .bank) (a .flags .now) in
     let t = withFlags s (a .new) in
-    let e = c .before .before .before .before .before .address .ensures counter level (a .flags .now) spare ∙ sym (address-flags s (a .new) m) in
+    let e = c .before .before .before .before .before .address .ensures in
     rw (c .before .before .before .before .before .before .before .before .before .operand2 .given .1)
     (stored s t (a .ram .now) (a .rom .now) (addressOf t m) (a .size) (a .v) (c .before .before .before .before .store .last .0) (rw e at (c .before .before .before .before .store .ensures .1))
     (sym (rw e at (c .before .before .before .before .store .ensures .0)) ∙ c .enum-told2 .given .1))
@@ -58,12 +60,12 @@ same-length-2 c = search needs
 
 returns-4 : tie.Need-returns-4
 unfolding withFlags withBothFlags
-returns-4 c counter level spare =
+returns-4 c rest =
     let a = c .before .before .before .before .before .before .before .before .before .before .before .before .before .before .args in
     let m = c .before .before .before .before .before .before .before .before .before .before .operand2 .given .0 .0 in
-    let s = stateOf (a .regs .now) counter (a .bank) level (a .flags .now) spare in
+    let s = bankedWith rest (a .regs .now) (a .bank) (a .flags .now) in
     let t = withFlags s (a .new) in
-    let e = c .before .before .before .before .before .before .address .ensures counter level (a .flags .now) spare ∙ sym (address-flags s (a .new) m) in
+    let e = c .before .before .before .before .before .before .address .ensures in
     rw (c .before .before .before .before .before .before .before .before .before .before .operand2 .given .1)
     (not-stored s t (a .ram .now) (a .rom .now) (addressOf t m) (a .size) (a .v) (c .before .before .before .before .before .store .last .0) (rw e at (c .before .before .before .before .before .store .ensures .1))
     (c .before .w .given .0 .0)

@@ -1,5 +1,5 @@
 use mathlib.Core.Path.{refl, _∙_}
-use Rattle.step.specs.Operand.{valueAt}
+use Rattle.step.specs.Operand.{valueIn}
 use borrow.Author.Needs.{needs}
 use Rattle.step.proofs.operand.value.Statement.{statement}
 use Rattle.step.proofs.operand.value.Tie as tie
@@ -23,16 +23,16 @@ load-requires : tie.Need-load-requires
 load-requires c κs = search needs
 
 returns : tie.Need-returns
-unfolding valueAt
-returns c counter level flags spare = rw (c .read .ensures counter level flags spare, c .before .before .operand .given .1) refl
+unfolding valueIn
+returns c = rw (c .read .ensures, c .before .before .operand .given .1) refl
 
 returns-2 : tie.Need-returns-2
-unfolding valueAt
-returns-2 c counter level flags spare = rw (c .before .operand2 .given .1) refl
+unfolding valueIn
+returns-2 c = rw (c .before .operand2 .given .1) refl
 
 returns-3 : tie.Need-returns-3
-unfolding valueAt
-returns-3 c counter level flags spare = c .load .ensures ∙ rw (c .before .address .ensures counter level flags spare, c .before .before .before .operand3 .given .1) refl
+unfolding valueIn
+returns-3 c = c .load .ensures ∙ rw (c .before .address .ensures, c .before .before .before .operand3 .given .1) refl
 
 pub value-spec : {M : Type 1} → statement M
 value-spec =

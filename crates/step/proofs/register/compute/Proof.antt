@@ -1,5 +1,5 @@
 use mathlib.Core.Path.{refl, sym, _∙_}
-use Rattle.state.specs.State.{withFlags, withBothFlags, withCounter}
+use Rattle.state.specs.State.{flaggedAt, withFlags, withBothFlags, withCounter}
 use Rattle.step.specs.Flag.{flagged}
 use Rattle.step.specs.Exec.{pastOf}
 use borrow.Author.Needs.{needs}
@@ -20,11 +20,11 @@ write-requires c κs = search needs
 
 returns : tie.Need-returns
 unfolding flagged withFlags withBothFlags pastOf withCounter
-returns c level spare ram rom = rw (c .write .ensures (c .before .before .before .before .past .last .0) level (c .before .before .before .before .before .before .operated .result .flags) spare, c .before .before .before .before .past .ensures, sym (c .before .before .before .stores .ensures) ∙ c .before .before .if1 .taken, c .before .before .before .before .before .before .operated .ensures) refl
+returns c rest ram rom = rw (c .write .ensures (flaggedAt rest (c .before .before .before .before .past .last .0) (c .before .before .before .before .before .before .operated .result .flags)), c .before .before .before .before .past .ensures, sym (c .before .before .before .stores .ensures) ∙ c .before .before .if1 .taken, c .before .before .before .before .before .before .operated .ensures) refl
 
 returns-2 : tie.Need-returns-2
 unfolding flagged withFlags withBothFlags pastOf withCounter
-returns-2 c level spare ram rom = rw (c .before .before .past .ensures, sym (c .before .stores .ensures) ∙ c .if1 .left, c .before .before .before .before .operated .ensures) refl
+returns-2 c rest ram rom = rw (c .before .before .past .ensures, sym (c .before .stores .ensures) ∙ c .if1 .left, c .before .before .before .before .operated .ensures) refl
 
 pub compute-spec : {M : Type 1} → statement M
 compute-spec =

@@ -1,7 +1,6 @@
-use Prim.Native.Nat.{_+_, _%_, _^_}
 use mathlib.Core.Path.{refl, _∙_}
 use Rattle.state.specs.State.{withCounter}
-use Rattle.step.specs.Operand.{valueAt}
+use Rattle.step.specs.Operand.{valueIn}
 use Rattle.step.specs.Exec.{effectOf, pastOf}
 use borrow.Author.Needs.{needs}
 use Rattle.step.proofs.register.compute_with.Statement.{statement}
@@ -17,12 +16,9 @@ compute-requires : tie.Need-compute-requires
 compute-requires c κs = search needs
 
 returns : tie.Need-returns
-unfolding effectOf valueAt pastOf withCounter
-returns c level spare ram rom =
-    let a = c .before .before .before .before .before .before .before .before .args in
-    let p = (a .counter .now + 2) % 2 ^ 24 in
-    let f = a .flags .now in
-    c .compute .ensures level spare ram rom ∙ rw (c .before .before .before .before .read2 .ensures p level f spare, c .before .before .before .before .before .before .read .ensures p level f spare) refl
+unfolding effectOf valueIn pastOf withCounter
+returns c rest ram rom =
+    c .compute .ensures rest ram rom ∙ rw (c .before .before .before .before .read2 .ensures, c .before .before .before .before .before .before .read .ensures) refl
 
 pub compute-with-spec : {M : Type 1} → statement M
 compute-with-spec = tie.close (tie.spec read-requires read-requires-2 compute-requires returns)

@@ -1,7 +1,6 @@
-use Prim.Native.Nat.{_+_, _%_, _^_}
 use mathlib.Core.Path.{refl, _∙_}
 use Rattle.state.specs.State.{withCounter}
-use Rattle.step.specs.Operand.{valueAt}
+use Rattle.step.specs.Operand.{valueIn}
 use Rattle.step.specs.Exec.{effectOf, pastOf}
 use borrow.Author.Needs.{needs}
 use Rattle.step.proofs.register.counted.Statement.{statement}
@@ -23,12 +22,10 @@ result-requires : tie.Need-result-requires
 result-requires c κs = search needs
 
 returns : tie.Need-returns
-unfolding effectOf valueAt pastOf withCounter
-returns c level spare ram rom =
-    let a = c .before .before .before .before .before .before .before .before .before .before .before .args in
-    let p = (a .counter .now + 2) % 2 ^ 24 in
-    c .result .ensures level spare ram
-    ∙ rw (c .before .before .before .before .inc .ensures, c .before .before .before .before .before .before .before .steps-of .ensures, c .before .before .before .before .before .unpack .ensures, c .before .before .before .before .before .before .before .before .before .read .ensures p level (a .flags .now) spare, c .before .before .before .before .before .before .if1 .taken) refl
+unfolding effectOf valueIn pastOf withCounter
+returns c rest ram rom =
+    c .result .ensures rest ram
+    ∙ rw (c .before .before .before .before .inc .ensures, c .before .before .before .before .before .before .before .steps-of .ensures, c .before .before .before .before .before .unpack .ensures, c .before .before .before .before .before .before .before .before .before .read .ensures, c .before .before .before .before .before .before .if1 .taken) refl
 
 unpack-requires-2 : tie.Need-unpack-requires-2
 unpack-requires-2 c κs = search needs
@@ -40,12 +37,10 @@ result-requires-2 : tie.Need-result-requires-2
 result-requires-2 c κs = search needs
 
 returns-2 : tie.Need-returns-2
-unfolding effectOf valueAt pastOf withCounter
-returns-2 c level spare ram rom =
-    let a = c .before .before .before .before .before .before .before .before .before .before .before .args in
-    let p = (a .counter .now + 2) % 2 ^ 24 in
-    c .result2 .ensures level spare ram
-    ∙ rw (c .before .before .before .before .dec .ensures, c .before .before .before .before .before .before .before .steps-of .ensures, c .before .before .before .before .before .unpack2 .ensures, c .before .before .before .before .before .before .before .before .before .read .ensures p level (a .flags .now) spare, c .before .before .before .before .before .before .if1 .left) refl
+unfolding effectOf valueIn pastOf withCounter
+returns-2 c rest ram rom =
+    c .result2 .ensures rest ram
+    ∙ rw (c .before .before .before .before .dec .ensures, c .before .before .before .before .before .before .before .steps-of .ensures, c .before .before .before .before .before .unpack2 .ensures, c .before .before .before .before .before .before .before .before .before .read .ensures, c .before .before .before .before .before .before .if1 .left) refl
 
 pub counted-spec : {M : Type 1} → statement M
 counted-spec =

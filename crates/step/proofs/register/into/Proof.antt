@@ -1,4 +1,3 @@
-use Prim.Native.Nat.{_+_, _%_, _^_}
 use mathlib.Core.Path.{refl, _∙_}
 use Rattle.state.specs.State.{withCounter}
 use Rattle.step.specs.Exec.{effectOf, pastOf}
@@ -14,9 +13,8 @@ set-requires c κs = search needs
 
 returns : tie.Need-returns
 unfolding effectOf pastOf withCounter
-returns c level flags spare ram rom =
-    let p = (c .before .before .before .before .before .args .counter .now + 2) % 2 ^ 24 in
-    c .set .ensures level flags spare ram ∙ rw (c .before .before .before .read .ensures p level flags spare) refl
+returns c rest ram rom =
+    c .set .ensures rest ram ∙ rw (c .before .before .before .read .ensures) refl
 
 pub into-spec : {M : Type 1} → statement M
 into-spec = tie.close (tie.spec read-requires set-requires returns)

@@ -2,7 +2,7 @@ use Prim.Native.Nat.{_/_, _%_}
 use mathlib.Core.Path.{refl, _∙_}
 use native.Mathlib.Omega.{arith}
 use lib.ListN.{getD}
-use Rattle.state.specs.State.{stateOf}
+use Rattle.state.specs.State.{bankedAtWith}
 use Rattle.code.specs.declared.Decoded.the-variants.{Short}
 use Rattle.code.specs.declared.Operand.the-variants.{Register}
 use Rattle.code.specs.declared.Op.the-variants.{Load, Into, Compute}
@@ -18,9 +18,9 @@ use Rattle.step.proofs.register.register.Statement.{statement}
 use Rattle.step.proofs.register.register.Tie as tie
 
 returns : tie.Need-returns
-returns c level spare ram rom =
+returns c rest ram rom =
     let a = c .before .before .args in
-    let s = stateOf (a .regs .now) (a .counter .now) (a .bank) level (a .flags .now) spare in
+    let s = bankedAtWith rest (a .regs .now) (a .bank) (a .counter .now) (a .flags .now) in
     judged s ram rom _ Short _ (next-short (lookup (registerRows (a .size) (Register (a .r)))) (a .code .now) 1 (omega arith)) refl
 
 shared-slice-read-c : tie.Need-shared-slice-read-c
@@ -54,74 +54,74 @@ counted-requires : tie.Need-counted-requires
 counted-requires c κs = search needs
 
 returns-2 : tie.Need-returns-2
-returns-2 c level spare ram rom =
+returns-2 c rest ram rom =
     let a = c .before .before .before .before .before .before .before .args in
-    let s = stateOf (a .regs .now) (a .counter .now) (a .bank) level (a .flags .now) spare in
+    let s = bankedAtWith rest (a .regs .now) (a .bank) (a .counter .now) (a .flags .now) in
     let l = a .code .now in
     second (a .size) (a .r) s l ram rom _ (omega arith)
-    (c .load-constant .ensures level (a .flags .now) spare ram rom)
+    (c .load-constant .ensures s ram rom)
 
 returns-3 : tie.Need-returns-3
-returns-3 c level spare ram rom =
+returns-3 c rest ram rom =
     let a = c .before .before .before .before .before .before .before .args in
-    let s = stateOf (a .regs .now) (a .counter .now) (a .bank) level (a .flags .now) spare in
+    let s = bankedAtWith rest (a .regs .now) (a .bank) (a .counter .now) (a .flags .now) in
     let l = a .code .now in
     second (a .size) (a .r) s l ram rom _ (omega arith)
-    (c .extended .ensures level (a .flags .now) spare l ram rom)
+    (c .extended .ensures s l ram rom)
 
 returns-4 : tie.Need-returns-4
-returns-4 c level spare ram rom =
+returns-4 c rest ram rom =
     let a = c .before .before .before .before .before .before .before .args in
-    let s = stateOf (a .regs .now) (a .counter .now) (a .bank) level (a .flags .now) spare in
+    let s = bankedAtWith rest (a .regs .now) (a .bank) (a .counter .now) (a .flags .now) in
     let l = a .code .now in
     second (a .size) (a .r) s l ram rom _ (omega arith)
-    (says-whole (a .size) (a .r) s l ram rom (Load (getD l 1 0 % 8)) (getD l 1 0) _ (load _ _ _ (c .before .before .before .match .keys3)) (c .load .ensures level (a .flags .now) spare ram rom))
+    (says-whole (a .size) (a .r) s l ram rom (Load (getD l 1 0 % 8)) (getD l 1 0) _ (load _ _ _ (c .before .before .before .match .keys3)) (c .load .ensures s ram rom))
 
 returns-5 : tie.Need-returns-5
-returns-5 c level spare ram rom =
+returns-5 c rest ram rom =
     let a = c .before .before .before .before .before .before .before .args in
-    let s = stateOf (a .regs .now) (a .counter .now) (a .bank) level (a .flags .now) spare in
+    let s = bankedAtWith rest (a .regs .now) (a .bank) (a .counter .now) (a .flags .now) in
     let l = a .code .now in
     second (a .size) (a .r) s l ram rom _ (omega arith)
-    (says-whole (a .size) (a .r) s l ram rom (Into (getD l 1 0 % 8)) (getD l 1 0) _ (into _ _ _ (c .before .before .before .match .keys4)) (c .into .ensures level (a .flags .now) spare ram rom))
+    (says-whole (a .size) (a .r) s l ram rom (Into (getD l 1 0 % 8)) (getD l 1 0) _ (into _ _ _ (c .before .before .before .match .keys4)) (c .into .ensures s ram rom))
 
 returns-6 : tie.Need-returns-6
-returns-6 c level spare ram rom =
+returns-6 c rest ram rom =
     let a = c .before .before .before .before .before .before .before .before .before .args in
-    let s = stateOf (a .regs .now) (a .counter .now) (a .bank) level (a .flags .now) spare in
+    let s = bankedAtWith rest (a .regs .now) (a .bank) (a .counter .now) (a .flags .now) in
     let l = a .code .now in
     second (a .size) (a .r) s l ram rom _ (omega arith)
-    (says-whole (a .size) (a .r) s l ram rom (Compute (arithOf (getD l 1 0 / 16 % 8)) (getD l 1 0 % 8)) (getD l 1 0) _ (compute _ _ _ (c .before .before .before .before .before .match .keys5)) (c .compute-with .ensures level spare ram rom ∙ rw (c .before .before .before .before .arith-of .ensures) refl))
+    (says-whole (a .size) (a .r) s l ram rom (Compute (arithOf (getD l 1 0 / 16 % 8)) (getD l 1 0 % 8)) (getD l 1 0) _ (compute _ _ _ (c .before .before .before .before .before .match .keys5)) (c .compute-with .ensures rest ram rom ∙ rw (c .before .before .before .before .arith-of .ensures) refl))
 
 returns-7 : tie.Need-returns-7
-returns-7 c level spare ram rom =
+returns-7 c rest ram rom =
     let a = c .before .before .before .before .before .before .before .before .args in
-    let s = stateOf (a .regs .now) (a .counter .now) (a .bank) level (a .flags .now) spare in
+    let s = bankedAtWith rest (a .regs .now) (a .bank) (a .counter .now) (a .flags .now) in
     let l = a .code .now in
     second (a .size) (a .r) s l ram rom _ (omega arith)
-    (c .compute-constant .ensures level spare ram rom)
+    (c .compute-constant .ensures rest ram rom)
 
 returns-8 : tie.Need-returns-8
-returns-8 c level spare ram rom =
+returns-8 c rest ram rom =
     let a = c .before .before .before .before .before .before .before .before .args in
-    let s = stateOf (a .regs .now) (a .counter .now) (a .bank) level (a .flags .now) spare in
+    let s = bankedAtWith rest (a .regs .now) (a .bank) (a .counter .now) (a .flags .now) in
     let l = a .code .now in
     second (a .size) (a .r) s l ram rom _ (omega arith)
-    (c .shifted .ensures level spare ram rom)
+    (c .shifted .ensures rest ram rom)
 
 returns-9 : tie.Need-returns-9
-returns-9 c level spare ram rom =
+returns-9 c rest ram rom =
     let a = c .before .before .before .before .before .before .before .before .before .before .args in
-    let s = stateOf (a .regs .now) (a .counter .now) (a .bank) level (a .flags .now) spare in
+    let s = bankedAtWith rest (a .regs .now) (a .bank) (a .counter .now) (a .flags .now) in
     let l = a .code .now in
     second (a .size) (a .r) s l ram rom _ (omega arith)
-    (says-whole (a .size) (a .r) s l ram rom _ (getD l 1 0) _ (counts (a .size) (Register (a .r)) (getD l 1 0) (c .before .before .before .before .before .if2 .left) (c .before .before .before .before .if3 .taken)) (c .counted .ensures level spare ram rom))
+    (says-whole (a .size) (a .r) s l ram rom _ (getD l 1 0) _ (counts (a .size) (Register (a .r)) (getD l 1 0) (c .before .before .before .before .before .if2 .left) (c .before .before .before .before .if3 .taken)) (c .counted .ensures rest ram rom))
 
 returns-10 : tie.Need-returns-10
 unfolding judge
-returns-10 c level spare ram rom =
+returns-10 c rest ram rom =
     let a = c .before .before .before .before .before .args in
-    let s = stateOf (a .regs .now) (a .counter .now) (a .bank) level (a .flags .now) spare in
+    let s = bankedAtWith rest (a .regs .now) (a .bank) (a .counter .now) (a .flags .now) in
     let l = a .code .now in
     let t = c .if2 .taken in
     second (a .size) (a .r) s l ram rom _ (omega arith)
@@ -129,9 +129,9 @@ returns-10 c level spare ram rom =
 
 returns-11 : tie.Need-returns-11
 unfolding judge
-returns-11 c level spare ram rom =
+returns-11 c rest ram rom =
     let a = c .before .before .before .before .before .before .args in
-    let s = stateOf (a .regs .now) (a .counter .now) (a .bank) level (a .flags .now) spare in
+    let s = bankedAtWith rest (a .regs .now) (a .bank) (a .counter .now) (a .flags .now) in
     let l = a .code .now in
     let t = c .if3 .left in
     second (a .size) (a .r) s l ram rom _ (omega arith)

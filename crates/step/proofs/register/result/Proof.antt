@@ -1,5 +1,5 @@
 use mathlib.Core.Path.{refl}
-use Rattle.state.specs.State.{withFlags, withBothFlags, withCounter}
+use Rattle.state.specs.State.{flaggedAt, withFlags, withBothFlags, withCounter}
 use Rattle.step.specs.Flag.{flagged}
 use Rattle.step.specs.Exec.{pastOf}
 use borrow.Author.Needs.{needs}
@@ -17,7 +17,7 @@ past-requires c κs = search needs
 
 returns : tie.Need-returns
 unfolding flagged withFlags withBothFlags pastOf withCounter
-returns c level spare ram = rw (c .before .before .write .ensures (c .past .last .0) level (c .before .before .before .before .pack .result) spare, c .past .ensures, c .before .before .before .before .pack .ensures) refl
+returns c rest ram = rw (c .before .before .write .ensures (flaggedAt rest (c .past .last .0) (c .before .before .before .before .pack .result)), c .past .ensures, c .before .before .before .before .pack .ensures) refl
 
 pub result-spec : {M : Type 1} → statement M
 result-spec = tie.close (tie.spec pack-requires write-requires past-requires returns)

@@ -1,5 +1,5 @@
 use mathlib.Core.Path.{refl}
-use Rattle.state.specs.State.{withCounter}
+use Rattle.state.specs.State.{standingAt, withCounter}
 use Rattle.step.specs.Exec.{pastOf}
 use borrow.Author.Needs.{needs}
 use Rattle.step.proofs.register.set.Statement.{statement}
@@ -13,7 +13,7 @@ past-requires c κs = search needs
 
 returns : tie.Need-returns
 unfolding pastOf withCounter
-returns c level flags spare ram = rw (c .before .before .write .ensures (c .past .last .0) level flags spare, c .past .ensures) refl
+returns c rest ram = rw (c .before .before .write .ensures (standingAt rest (c .past .last .0)), c .past .ensures) refl
 
 pub set-spec : {M : Type 1} → statement M
 set-spec = tie.close (tie.spec write-requires past-requires returns)

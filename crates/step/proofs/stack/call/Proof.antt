@@ -1,5 +1,5 @@
 use Rattle.little.specs.declared.Size.the-variants.{Long}
-use Rattle.state.specs.State.{stateOf, withCounter}
+use Rattle.state.specs.State.{bankedAt, withCounter}
 use Rattle.state.specs.declared.State.{State}
 use Rattle.step.specs.Stack.{pushOf}
 use Rattle.step.proofs.Laws.{then-done, then-refused}
@@ -21,21 +21,21 @@ same-length c = search needs
 
 returns : tie.Need-returns
 unfolding withCounter
-returns c level flags spare =
+returns c rest =
     let a = c .before .before .before .before .before .before .before .before .before .before .args in
-    let s = stateOf (a .regs .now) (a .counter .now) (a .bank) level flags spare in
+    let s = bankedAt rest (a .regs .now) (a .bank) (a .counter .now) in
     then-done s (a .ram .now) (c .before .before .before .before .push .result) _ _ (λ (t : State). withCounter t (a .to)) (pushOf s (a .ram .now) (a .rom .now) Long (a .counter .now))
-    (c .before .before .before .before .push .ensures (a .counter .now) level flags spare) (c .enum-told .given .1)
+    (c .before .before .before .before .push .ensures s) (c .enum-told .given .1)
 
 same-length-2 : tie.Need-same-length-2
 same-length-2 c = search needs
 
 returns-2 : tie.Need-returns-2
-returns-2 c level flags spare =
+returns-2 c rest =
     let a = c .before .before .before .before .before .before .before .before .before .before .before .args in
-    let s = stateOf (a .regs .now) (a .counter .now) (a .bank) level flags spare in
+    let s = bankedAt rest (a .regs .now) (a .bank) (a .counter .now) in
     then-refused s (a .ram .now) (c .before .before .before .before .before .push .result) _ _ (λ (t : State). withCounter t (a .to)) (c .before .w .given .0 .0) (pushOf s (a .ram .now) (a .rom .now) Long (a .counter .now))
-    (c .before .before .before .before .before .push .ensures (a .counter .now) level flags spare) (c .before .w .given .1)
+    (c .before .before .before .before .before .push .ensures s) (c .before .w .given .1)
 
 pub call-spec : {M : Type 1} → statement M
 call-spec =

@@ -13,10 +13,10 @@ enum-told-2 : tie.Need-enum-told-2
 enum-told-2 c = search needs
 
 returns : tie.Need-returns
-returns c counter level flags spare = c .write .ensures counter level flags spare ∙ rw (c .before .before .enum-told .given .1) refl
+returns c rest = c .write .ensures rest ∙ rw (c .before .before .enum-told .given .1) refl
 
 returns-2 : tie.Need-returns-2
-returns-2 c counter level flags spare = rw (c .enum-told2 .given .1) refl
+returns-2 c rest = rw (c .enum-told2 .given .1) refl
 
 pub move-end-spec : {M : Type 1} → statement M
 move-end-spec = tie.close (tie.spec enum-told write-requires enum-told-2 returns returns-2)

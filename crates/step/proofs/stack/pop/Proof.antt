@@ -1,5 +1,5 @@
 use mathlib.Core.Path.{sym, _∙_}
-use Rattle.state.specs.State.{stateOf}
+use Rattle.state.specs.State.{banked}
 use Rattle.state.specs.Register.{setRegister}
 use Rattle.step.proofs.Laws.{popped-by, not-popped}
 use borrow.Author.Needs.{needs}
@@ -25,18 +25,18 @@ enum-known-w : tie.Need-enum-known-w
 enum-known-w c = search needs
 
 returns : tie.Need-returns
-returns c counter level flags spare =
+returns c rest =
     let a = c .before .before .before .before .before .before .before .before .before .before .before .before .args in
-    let s = stateOf (a .regs .now) counter (a .bank) level flags spare in
-    let e = rw (c .before .before .before .before .before .before .before .before .pointer .ensures counter level flags spare) at (c .before .before .before .before .before .before .before .load .ensures) in
-    rw (c .write .ensures counter level flags spare, c .before .before .popped .ensures counter level flags spare)
+    let s = banked rest (a .regs .now) (a .bank) in
+    let e = rw (c .before .before .before .before .before .before .before .before .pointer .ensures) at (c .before .before .before .before .before .before .before .load .ensures) in
+    rw (c .write .ensures rest, c .before .before .popped .ensures rest)
     (sym (popped-by s (a .ram .now) (a .rom .now) (a .size) (λ t v. setRegister t (a .size) (a .code) v) (c .before .before .before .before .before .v .given .0 .0) (sym e ∙ c .before .before .before .before .before .v .given .1)))
 
 returns-2 : tie.Need-returns-2
-returns-2 c counter level flags spare =
+returns-2 c rest =
     let a = c .before .before .before .before .before .before .before .before .args in
-    let s = stateOf (a .regs .now) counter (a .bank) level flags spare in
-    let e = rw (c .before .before .before .before .pointer .ensures counter level flags spare) at (c .before .before .before .load .ensures) in
+    let s = banked rest (a .regs .now) (a .bank) in
+    let e = rw (c .before .before .before .before .pointer .ensures) at (c .before .before .before .load .ensures) in
     sym (not-popped s (a .ram .now) (a .rom .now) (a .size) (λ t v. setRegister t (a .size) (a .code) v) (c .before .w .given .0 .0) (sym e ∙ c .before .w .given .1))
 
 pub pop-spec : {M : Type 1} → statement M

@@ -1,7 +1,7 @@
 use mathlib.Core.Path.{ap, sym, _∙_}
 use Rattle.little.specs.declared.Size.the-variants.{Byte}
 use Rattle.alu.specs.Flag.{byteOf, flagsOf}
-use Rattle.state.specs.State.{stateOf, withFlags, withBothFlags}
+use Rattle.state.specs.State.{bankedWith, withFlags, withBothFlags}
 use Rattle.step.proofs.Laws.{popped-by, not-popped, flags-low}
 use Rattle.answer.specs.declared.Answer.the-variants.{Done}
 use Rattle.state.specs.declared.State.{State}
@@ -36,22 +36,22 @@ enum-known-w c = search needs
 
 returns : tie.Need-returns
 unfolding withFlags withBothFlags
-returns c counter level spare =
+returns c rest =
     let a = c .before .before .before .before .before .before .before .before .before .before .before .before .args in
     let f = a .flags .now in
-    let s = stateOf (a .regs .now) counter (a .bank) level f spare in
+    let s = bankedWith rest (a .regs .now) (a .bank) f in
     let v = c .before .before .before .before .before .v .given .0 .0 in
-    let e = rw (c .before .before .before .before .before .before .before .before .pointer .ensures counter level f spare) at (c .before .before .before .before .before .before .before .load .ensures) in
+    let e = rw (c .before .before .before .before .before .before .before .before .pointer .ensures) at (c .before .before .before .before .before .before .before .load .ensures) in
     rw (c .pack .ensures, c .before .unpack .ensures, flags-low v)
-    (ap (λ (t : State). after Done (withFlags t (byteOf (flagsOf v))) (a .ram .now)) (c .before .before .popped .ensures counter level f spare)
+    (ap (λ (t : State). after Done (withFlags t (byteOf (flagsOf v))) (a .ram .now)) (c .before .before .popped .ensures s)
     ∙ sym (popped-by s (a .ram .now) (a .rom .now) Byte (λ t x. withFlags t (byteOf (flagsOf x))) v (sym e ∙ c .before .before .before .before .before .v .given .1)))
 
 returns-2 : tie.Need-returns-2
-returns-2 c counter level spare =
+returns-2 c rest =
     let a = c .before .before .before .before .before .before .before .before .args in
     let f = a .flags .now in
-    let s = stateOf (a .regs .now) counter (a .bank) level f spare in
-    let e = rw (c .before .before .before .before .pointer .ensures counter level f spare) at (c .before .before .before .load .ensures) in
+    let s = bankedWith rest (a .regs .now) (a .bank) f in
+    let e = rw (c .before .before .before .before .pointer .ensures) at (c .before .before .before .load .ensures) in
     sym (not-popped s (a .ram .now) (a .rom .now) Byte (λ t x. withFlags t (byteOf (flagsOf x))) (c .before .w .given .0 .0) (sym e ∙ c .before .w .given .1))
 
 pub pop-f-spec : {M : Type 1} → statement M

@@ -21,7 +21,7 @@ write-requires : tie.Need-write-requires
 write-requires c κs = search needs
 
 returns : tie.Need-returns
-returns c counter level flags spare = c .write .ensures counter level flags spare ∙ rw (c .before .wrapping-add-u32 .ensures, c .before .before .before .read .ensures counter level flags spare, c .before .before .before .before .before .bytes .ensures) refl
+returns c rest = c .write .ensures rest ∙ rw (c .before .wrapping-add-u32 .ensures, c .before .before .before .read .ensures, c .before .before .before .before .before .bytes .ensures) refl
 
 pub popped-spec : {M : Type 1} → statement M
 popped-spec =

@@ -1,10 +1,9 @@
-use Prim.Native.Nat.{ℕ}
 use mathlib.Core.Path.{_≡_, ap, _∙_}
 use native.Mathlib.Omega.{arith}
 use Rattle.little.specs.Width.{bytesOf}
 use Rattle.little.specs.declared.Size.the-variants.{Long}
 use Rattle.memory.proofs.Laws.{bytes-le}
-use Rattle.state.specs.State.{stateOf}
+use Rattle.state.specs.State.{banked}
 use Rattle.state.specs.Register.{getRegister}
 use Rattle.state.specs.declared.State.{State}
 use Rattle.state.proofs.Laws.{register-lt}
@@ -19,12 +18,12 @@ use Rattle.step.proofs.stack.push.Tie as tie
 
 -- the end of the stack that the code finds
 end-is :
-    (c : tie.After-wrapping-sub-u32) (counter level flags spare : ℕ) →
-    c .wrapping-sub-u32 .result ≡ less 32 (getRegister (stateOf (c .before .before .before .before .before .before .args .regs .now) counter (c .before .before .before .before .before .before .args .bank) level flags spare) Long 7) (bytesOf (c .before .before .before .before .before .before .args .size))
-end-is c counter level flags spare =
+    (c : tie.After-wrapping-sub-u32) (rest : State) →
+    c .wrapping-sub-u32 .result ≡ less 32 (getRegister (banked rest (c .before .before .before .before .before .before .args .regs .now) (c .before .before .before .before .before .before .args .bank)) Long 7) (bytesOf (c .before .before .before .before .before .before .args .size))
+end-is c rest =
     let a = c .before .before .before .before .before .before .args in
-    let s = stateOf (a .regs .now) counter (a .bank) level flags spare in
-    let e = c .before .read .ensures counter level flags spare in
+    let s = banked rest (a .regs .now) (a .bank) in
+    let e = c .before .read .ensures in
     let n = c .before .before .before .bytes .ensures in
     rw (← e, ← n)
     (less-is 32 (c .before .read .result) (c .before .before .before .bytes .result) (c .wrapping-sub-u32 .result)
@@ -53,14 +52,14 @@ same-length c = search needs
 
 returns : tie.Need-returns
 unfolding pushOf
-returns c counter level flags spare =
+returns c rest =
     let a = c .before .before .before .before .before .before .before .before .before .before .before .before .args in
-    let s = stateOf (a .regs .now) counter (a .bank) level flags spare in
+    let s = banked rest (a .regs .now) (a .bank) in
     let x = less 32 (getRegister s Long 7) (bytesOf (a .size)) in
-    let e = end-is (c .before .before .before .before .before .before) counter level flags spare in
+    let e = end-is (c .before .before .before .before .before .before) rest in
     let stored = c .before .before .before .before .store .result in
     let m = c .before .before .before .before .store .last .0 in
-    ap (λ (t : State). after stored t m) (c .move-end .ensures counter level flags spare ∙ ap (endAfter stored s) e)
+    ap (λ (t : State). after stored t m) (c .move-end .ensures rest ∙ ap (endAfter stored s) e)
     ∙ end-after s x (a .ram .now) (a .rom .now) (a .size) (a .v) m stored (rw e at (c .before .before .before .before .store .ensures .1)) (rw e at (c .before .before .before .before .store .ensures .0))
 
 pub push-spec : {M : Type 1} → statement M

@@ -1,6 +1,6 @@
 use mathlib.Core.Path.{ap, sym, _∙_}
 use Rattle.little.specs.declared.Size.the-variants.{Long}
-use Rattle.state.specs.State.{stateOf, withCounter}
+use Rattle.state.specs.State.{bankedAt, withCounter}
 use Rattle.step.proofs.Laws.{popped-by, not-popped}
 use Rattle.answer.specs.declared.Answer.the-variants.{Done}
 use Rattle.state.specs.declared.State.{State}
@@ -26,21 +26,21 @@ enum-known-w c = search needs
 
 returns : tie.Need-returns
 unfolding withCounter
-returns c level flags spare =
+returns c rest =
     let a = c .before .before .before .before .before .before .before .before .before .before .args in
     let counter = a .counter .now in
-    let s = stateOf (a .regs .now) counter (a .bank) level flags spare in
+    let s = bankedAt rest (a .regs .now) (a .bank) counter in
     let v = c .before .before .before .v .given .0 .0 in
-    let e = rw (c .before .before .before .before .before .before .pointer .ensures counter level flags spare) at (c .before .before .before .before .before .load .ensures) in
-    ap (λ (t : State). after Done (withCounter t v) (a .ram .now)) (c .popped .ensures counter level flags spare)
+    let e = rw (c .before .before .before .before .before .before .pointer .ensures) at (c .before .before .before .before .before .load .ensures) in
+    ap (λ (t : State). after Done (withCounter t v) (a .ram .now)) (c .popped .ensures s)
     ∙ sym (popped-by s (a .ram .now) (a .rom .now) Long withCounter v (sym e ∙ c .before .before .before .v .given .1))
 
 returns-2 : tie.Need-returns-2
-returns-2 c level flags spare =
+returns-2 c rest =
     let a = c .before .before .before .before .before .before .before .before .args in
     let counter = a .counter .now in
-    let s = stateOf (a .regs .now) counter (a .bank) level flags spare in
-    let e = rw (c .before .before .before .before .pointer .ensures counter level flags spare) at (c .before .before .before .load .ensures) in
+    let s = bankedAt rest (a .regs .now) (a .bank) counter in
+    let e = rw (c .before .before .before .before .pointer .ensures) at (c .before .before .before .load .ensures) in
     sym (not-popped s (a .ram .now) (a .rom .now) Long withCounter (c .before .w .given .0 .0) (sym e ∙ c .before .w .given .1))
 
 pub ret-spec : {M : Type 1} → statement M

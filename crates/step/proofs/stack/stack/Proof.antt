@@ -1,4 +1,5 @@
 use mathlib.Core.Path.{refl, _∙_}
+use Rattle.state.specs.State.{bankedAtWith}
 use borrow.Author.Needs.{needs}
 use Rattle.step.proofs.stack.stack.Statement.{statement}
 use Rattle.step.proofs.stack.stack.Tie as tie
@@ -67,43 +68,43 @@ same-length : tie.Need-same-length
 same-length c = search needs
 
 returns : tie.Need-returns
-returns c level spare = let a = c .before .before .before .before .before .before .before .before .before .before .args in let counter = a .counter .now in let flags = a .flags .now in rw (c .before .before .before .before .before .before .enum-told .given .1) (c .before .before .push .ensures counter level flags spare)
+returns c rest = let a = c .before .before .before .before .before .before .before .before .before .before .args in let s = bankedAtWith rest (a .regs .now) (a .bank) (a .counter .now) (a .flags .now) in rw (c .before .before .before .before .before .before .enum-told .given .1) (c .before .before .push .ensures s)
 
 same-length-2 : tie.Need-same-length-2
 same-length-2 c = search needs
 
 returns-2 : tie.Need-returns-2
-returns-2 c level spare = let a = c .before .before .before .before .before .before .before .before .args in let counter = a .counter .now in let flags = a .flags .now in rw (c .before .before .before .before .enum-told2 .given .1) (c .pop-f .ensures counter level spare)
+returns-2 c rest = let a = c .before .before .before .before .before .before .before .before .args in let s = bankedAtWith rest (a .regs .now) (a .bank) (a .counter .now) (a .flags .now) in rw (c .before .before .before .before .enum-told2 .given .1) (c .pop-f .ensures s)
 
 same-length-3 : tie.Need-same-length-3
 same-length-3 c = search needs
 
 returns-3 : tie.Need-returns-3
-returns-3 c level spare = let a = c .before .before .before .before .before .before .before .before .before .before .before .before .args in let counter = a .counter .now in let flags = a .flags .now in rw (c .before .before .before .before .before .before .before .before .enum-told3 .given .1) (c .before .before .push2 .ensures counter level flags spare ∙ rw (c .before .before .before .before .before .read .ensures counter level flags spare, c .before .before .before .before .before .before .register-in .ensures) refl)
+returns-3 c rest = let a = c .before .before .before .before .before .before .before .before .before .before .before .before .args in let s = bankedAtWith rest (a .regs .now) (a .bank) (a .counter .now) (a .flags .now) in rw (c .before .before .before .before .before .before .before .before .enum-told3 .given .1) (c .before .before .push2 .ensures s ∙ rw (c .before .before .before .before .before .read .ensures, c .before .before .before .before .before .before .register-in .ensures) refl)
 
 same-length-4 : tie.Need-same-length-4
 same-length-4 c = search needs
 
 returns-4 : tie.Need-returns-4
-returns-4 c level spare = let a = c .before .before .before .before .before .before .before .before .args in let counter = a .counter .now in let flags = a .flags .now in rw (c .before .before .before .before .enum-told4 .given .1) (c .pop .ensures counter level flags spare ∙ rw (c .before .register-in2 .ensures) refl)
+returns-4 c rest = let a = c .before .before .before .before .before .before .before .before .args in let s = bankedAtWith rest (a .regs .now) (a .bank) (a .counter .now) (a .flags .now) in rw (c .before .before .before .before .enum-told4 .given .1) (c .pop .ensures s ∙ rw (c .before .register-in2 .ensures) refl)
 
 same-length-5 : tie.Need-same-length-5
 same-length-5 c = search needs
 
 returns-5 : tie.Need-returns-5
-returns-5 c level spare = let a = c .before .before .before .before .before .before .before .before .before .before .before .args in let counter = a .counter .now in let flags = a .flags .now in rw (c .before .before .before .before .before .before .before .enum-told5 .given .1) (c .before .before .call .ensures level flags spare ∙ rw (c .before .before .before .number-in .ensures) refl)
+returns-5 c rest = let a = c .before .before .before .before .before .before .before .before .before .before .before .args in let s = bankedAtWith rest (a .regs .now) (a .bank) (a .counter .now) (a .flags .now) in rw (c .before .before .before .before .before .before .before .enum-told5 .given .1) (c .before .before .call .ensures s ∙ rw (c .before .before .before .number-in .ensures) refl)
 
 same-length-6 : tie.Need-same-length-6
 same-length-6 c = search needs
 
 returns-6 : tie.Need-returns-6
-returns-6 c level spare = let a = c .before .before .before .before .before .before .before .before .before .before .before .before .before .args in let counter = a .counter .now in let flags = a .flags .now in rw (c .before .before .before .before .before .before .before .before .before .enum-told6 .given .1) (c .before .before .call2 .ensures level flags spare ∙ rw (c .before .before .before .before .before .before .displace .ensures, c .before .before .before .before .before .before .before .number-in2 .ensures) refl)
+returns-6 c rest = let a = c .before .before .before .before .before .before .before .before .before .before .before .before .before .args in let s = bankedAtWith rest (a .regs .now) (a .bank) (a .counter .now) (a .flags .now) in rw (c .before .before .before .before .before .before .before .before .before .enum-told6 .given .1) (c .before .before .call2 .ensures s ∙ rw (c .before .before .before .before .before .before .displace .ensures, c .before .before .before .before .before .before .before .number-in2 .ensures) refl)
 
 same-length-7 : tie.Need-same-length-7
 same-length-7 c = search needs
 
 returns-7 : tie.Need-returns-7
-returns-7 c level spare = let a = c .before .before .before .before .before .before .before .before .args in let counter = a .counter .now in let flags = a .flags .now in rw (c .before .before .before .before .enum-told7 .given .1) (c .ret .ensures level flags spare)
+returns-7 c rest = let a = c .before .before .before .before .before .before .before .before .args in let s = bankedAtWith rest (a .regs .now) (a .bank) (a .counter .now) (a .flags .now) in rw (c .before .before .before .before .enum-told7 .given .1) (c .ret .ensures s)
 
 pub stack-spec : {M : Type 1} → statement M
 stack-spec =

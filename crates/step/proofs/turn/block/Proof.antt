@@ -7,7 +7,7 @@ use native.Mathlib.Nat.{sub-self}
 use lib.ListN.{length}
 use borrow.Author.Needs.{needs}
 use Rattle.memory.specs.Access.{codeAt}
-use Rattle.state.specs.State.{stateOf}
+use Rattle.state.specs.State.{zeroState, bankedWith, bankedAtWith, standingAt}
 use Rattle.state.specs.declared.State.{State}
 use Rattle.answer.specs.declared.Answer.the-variants.{Done, Refused}
 use Rattle.step.specs.Block.{goesOn, endsAt}
@@ -24,7 +24,7 @@ Inv-loop f at bank flags₀ regs₀ counter₀ ram₀ rom more₀ stays left₀ 
     × (counter ≡ counter₀)
     × (length ram ≡ length ram₀)
     × (codeAt ram rom at ≡ codeAt ram₀ rom at)
-    × ((level spare : ℕ) → timesOf (more₀ - left) (stateOf regs₀ at bank level flags₀ spare) ram₀ rom ≡ did (stateOf regs at bank level flags spare) ram)
+    × ((rest : State) → timesOf (more₀ - left) (bankedAtWith rest regs₀ bank at flags₀) ram₀ rom ≡ did (bankedAtWith rest regs bank at flags) ram)
 
 abbrev μ-loop : tie.MeasureT-loop
 μ-loop f at bank flags₀ regs₀ counter₀ ram₀ rom more₀ stays left₀ flags regs counter ram more left =
@@ -32,28 +32,28 @@ abbrev μ-loop : tie.MeasureT-loop
 
 -- what the rounds before a round have left, and this one
 done-of :
-    (c : tie.After-round Inv-loop μ-loop) (level spare : ℕ) → c .round .result ≡ Done →
-    timesOf (suc (c .before .before .before .before .before .before .before .before .before .args .more .now - c .before .before .before .before .loop .left)) (stateOf (c .before .before .before .before .before .before .before .before .before .args .regs .now) (c .before .before .before .before .before .before .before .before .before .args .at) (c .before .before .before .before .before .before .before .before .before .args .bank) level (c .before .before .before .before .before .before .before .before .before .args .flags .now) spare) (c .before .before .before .before .before .before .before .before .before .args .ram .now) (c .before .before .before .before .before .before .before .before .before .args .rom .now)
-    ≡ did (endsAt (c .before .before .before .before .before .before .before .before .before .args .f) (c .before .before .before .before .before .before .before .before .before .args .at) (stateOf (c .round .last .1 .1 .1 .0) (c .before .before .before .before .before .before .before .before .before .args .counter .now) (c .before .before .before .before .before .before .before .before .before .args .bank) level (c .round .last .1 .1 .0) spare)) (c .round .last .1 .1 .1 .1 .0)
-done-of c level spare d =
+    (c : tie.After-round Inv-loop μ-loop) (rest : State) → c .round .result ≡ Done →
+    timesOf (suc (c .before .before .before .before .before .before .before .before .before .args .more .now - c .before .before .before .before .loop .left)) (bankedAtWith rest (c .before .before .before .before .before .before .before .before .before .args .regs .now) (c .before .before .before .before .before .before .before .before .before .args .bank) (c .before .before .before .before .before .before .before .before .before .args .at) (c .before .before .before .before .before .before .before .before .before .args .flags .now)) (c .before .before .before .before .before .before .before .before .before .args .ram .now) (c .before .before .before .before .before .before .before .before .before .args .rom .now)
+    ≡ did (endsAt (c .before .before .before .before .before .before .before .before .before .args .f) (c .before .before .before .before .before .before .before .before .before .args .at) (bankedAtWith rest (c .round .last .1 .1 .1 .0) (c .before .before .before .before .before .before .before .before .before .args .bank) (c .before .before .before .before .before .before .before .before .before .args .counter .now) (c .round .last .1 .1 .0))) (c .round .last .1 .1 .1 .1 .0)
+done-of c rest d =
     let a = c .before .before .before .before .before .before .before .before .before .args in
     let l = c .before .before .before .before .loop in
-    round-done (a .f) (a .at) (a .counter .now) (a .bank) level spare (a .ram .now) (a .rom .now) (stateOf (a .regs .now) (a .at) (a .bank) level (a .flags .now) spare) (c .before .before .before .before .before .before .before .before .before .pre) (a .more .now - l .left) (l .regs) (l .flags) (l .ram) (l .inv .4) (l .inv .5 level spare) (c .round .result) (c .round .last .1 .1 .1 .0) (c .round .last .1 .1 .0) (c .round .last .1 .1 .1 .1 .0) (c .round .ensures (a .counter .now) level spare) d
+    round-done (a .f) (a .at) (a .counter .now) (a .bank) rest (a .ram .now) (a .rom .now) (bankedAtWith rest (a .regs .now) (a .bank) (a .at) (a .flags .now)) (c .before .before .before .before .before .before .before .before .before .pre) (a .more .now - l .left) (l .regs) (l .flags) (l .ram) (l .inv .4) (l .inv .5 rest) (c .round .result) (c .round .last .1 .1 .1 .0) (c .round .last .1 .1 .0) (c .round .last .1 .1 .1 .1 .0) (c .round .ensures (standingAt rest (a .counter .now))) d
 
 -- another round is done in the same call
 goes :
-    (c : tie.Then2 Inv-loop μ-loop) (counter level spare : ℕ) →
-    (c .before .before .before .before .before .before .before .before .before .before .before .before .before .before .in-rom .result ≡ true) × (0 < c .before .before .before .before .before .before .before .before .before .before .before .before .loop .left) × (goesOn (c .before .before .before .before .before .before .before .before .before .before .before .before .before .before .before .before .before .args .f) (stateOf (c .before .before .before .before .before .before .before .before .round .last .1 .1 .1 .0) counter (c .before .before .before .before .before .before .before .before .before .before .before .before .before .before .before .before .before .args .bank) level (c .before .before .before .before .before .before .before .before .round .last .1 .1 .0) spare) ≡ true)
-goes c counter level spare =
-    again-says (c .before .before .before .before .before .before .before .before .before .before .before .before .before .before .before .before .before .args .f) (c .before .before .before .before .before .before .before .before .before .before .before .before .before .before .in-rom .result) (c .before .before .before .before .before .before .before .before .before .before .before .before .loop .left) (stateOf (c .before .before .before .before .before .before .before .before .round .last .1 .1 .1 .0) counter (c .before .before .before .before .before .before .before .before .before .before .before .before .before .before .before .before .before .args .bank) level (c .before .before .before .before .before .before .before .before .round .last .1 .1 .0) spare)
-    (sym (c .before .again .ensures counter level spare) ∙ c .if2 .taken)
+    (c : tie.Then2 Inv-loop μ-loop) (rest : State) →
+    (c .before .before .before .before .before .before .before .before .before .before .before .before .before .before .in-rom .result ≡ true) × (0 < c .before .before .before .before .before .before .before .before .before .before .before .before .loop .left) × (goesOn (c .before .before .before .before .before .before .before .before .before .before .before .before .before .before .before .before .before .args .f) (bankedWith rest (c .before .before .before .before .before .before .before .before .round .last .1 .1 .1 .0) (c .before .before .before .before .before .before .before .before .before .before .before .before .before .before .before .before .before .args .bank) (c .before .before .before .before .before .before .before .before .round .last .1 .1 .0)) ≡ true)
+goes c rest =
+    again-says (c .before .before .before .before .before .before .before .before .before .before .before .before .before .before .before .before .before .args .f) (c .before .before .before .before .before .before .before .before .before .before .before .before .before .before .in-rom .result) (c .before .before .before .before .before .before .before .before .before .before .before .before .loop .left) (bankedWith rest (c .before .before .before .before .before .before .before .before .round .last .1 .1 .1 .0) (c .before .before .before .before .before .before .before .before .before .before .before .before .before .before .before .before .before .args .bank) (c .before .before .before .before .before .before .before .before .round .last .1 .1 .0))
+    (sym (c .before .again .ensures rest) ∙ c .if2 .taken)
 
 in-rom-requires : tie.Need-in-rom-requires Inv-loop μ-loop
 in-rom-requires c κs = search needs
 
 loop-holds : tie.Need-loop-holds Inv-loop μ-loop
 unfolding timesOf
-loop-holds c = (omega arith, refl, refl, refl, refl, λ level spare. rw (sub-self (c .before .before .before .before .args .more .now)) refl)
+loop-holds c = (omega arith, refl, refl, refl, refl, λ rest. rw (sub-self (c .before .before .before .before .args .more .now)) refl)
 
 round-requires : tie.Need-round-requires Inv-loop μ-loop
 round-requires c κs = search needs
@@ -67,17 +67,17 @@ same-length c = c .before .before .before .before .before .before .before .round
 returns : tie.Need-returns Inv-loop μ-loop
 returns c = (
   c .before .before .before .before .before .before .before .before .before .before .before .loop .inv .1,
-  λ level spare.
+  λ rest.
       let a = c .before .before .before .before .before .before .before .before .before .before .before .before .before .before .before .before .args in
       let l = c .before .before .before .before .before .before .before .before .before .before .before .loop in
       let r = c .before .before .before .before .before .before .before .round in
       let z : a .more .now - l .left ≡ 0 = let t = c .if1 .taken in let i = l .inv .1 in omega (arith, t, i) in
       let y : a .more .now - l .left ≡ a .more .now - l .more = let t = c .if1 .taken in omega (arith, t) in
-      let s = stateOf (a .regs .now) (a .counter .now) (a .bank) level (a .flags .now) spare in
-      ap (λ (x : ℕ). after (Refused (c .before .before .before .a .given .0 .0)) (stateOf (r .last .1 .1 .1 .0) x (a .bank) level (r .last .1 .1 .0) spare) (r .last .1 .1 .1 .1 .0)) (l .inv .2)
-      ∙ first-not (a .f) (a .at) (a .counter .now) (a .bank) level spare (a .ram .now) (a .rom .now) (stateOf (a .regs .now) (a .at) (a .bank) level (a .flags .now) spare) (c .before .before .before .before .before .before .before .before .before .before .before .before .before .before .before .before .pre) (a .more .now - l .left) (l .regs) (l .flags) (l .ram) (l .inv .4) (l .inv .5 level spare) (r .result) (r .last .1 .1 .1 .0) (r .last .1 .1 .0) (r .last .1 .1 .1 .1 .0) (r .ensures (a .counter .now) level spare)
+      let s = bankedAtWith rest (a .regs .now) (a .bank) (a .counter .now) (a .flags .now) in
+      ap (λ (x : ℕ). after (Refused (c .before .before .before .a .given .0 .0)) (bankedAtWith rest (r .last .1 .1 .1 .0) (a .bank) x (r .last .1 .1 .0)) (r .last .1 .1 .1 .1 .0)) (l .inv .2)
+      ∙ first-not (a .f) (a .at) (a .counter .now) (a .bank) rest (a .ram .now) (a .rom .now) (bankedAtWith rest (a .regs .now) (a .bank) (a .at) (a .flags .now)) (c .before .before .before .before .before .before .before .before .before .before .before .before .before .before .before .before .pre) (a .more .now - l .left) (l .regs) (l .flags) (l .ram) (l .inv .4) (l .inv .5 rest) (r .result) (r .last .1 .1 .1 .0) (r .last .1 .1 .0) (r .last .1 .1 .1 .1 .0) (r .ensures (standingAt rest (a .counter .now)))
       (c .before .before .before .a .given .0 .0) (c .before .before .before .a .given .1) (a .regs .now) (a .flags .now) refl z
-      ∙ ap (λ (x : ℕ). leaves s (a .ram .now) (timesOf (suc x) (stateOf (a .regs .now) (a .at) (a .bank) level (a .flags .now) spare) (a .ram .now) (a .rom .now))) y,
+      ∙ ap (λ (x : ℕ). leaves s (a .ram .now) (timesOf (suc x) (bankedAtWith rest (a .regs .now) (a .bank) (a .at) (a .flags .now)) (a .ram .now) (a .rom .now))) y,
 )
 
 add-more : tie.Need-add-more Inv-loop μ-loop
@@ -96,10 +96,10 @@ returns-2 c =
     let n = c .if1 .left in
     let k : a .more .now - l .left ≡ suc (a .more .now - (l .left + 1)) = omega (arith, h, i, n) in (
       omega (arith, h, i, n),
-      λ level spare.
-          let s = stateOf (a .regs .now) (a .at) (a .bank) level (a .flags .now) spare in
-          let p = stateOf (a .regs .now) (a .counter .now) (a .bank) level (a .flags .now) spare in
-          later-not (a .f) (a .at) (a .counter .now) (a .bank) level spare (a .ram .now) (a .rom .now) s (c .before .before .before .before .before .before .before .before .before .before .before .before .before .before .before .before .pre) (a .more .now - l .left) (l .regs) (l .flags) (l .ram) (l .inv .4) (l .inv .5 level spare) (r .result) (r .last .1 .1 .1 .0) (r .last .1 .1 .0) (r .last .1 .1 .1 .1 .0) (r .ensures (a .counter .now) level spare)
+      λ rest.
+          let s = bankedAtWith rest (a .regs .now) (a .bank) (a .at) (a .flags .now) in
+          let p = bankedAtWith rest (a .regs .now) (a .bank) (a .counter .now) (a .flags .now) in
+          later-not (a .f) (a .at) (a .counter .now) (a .bank) rest (a .ram .now) (a .rom .now) s (c .before .before .before .before .before .before .before .before .before .before .before .before .before .before .before .before .pre) (a .more .now - l .left) (l .regs) (l .flags) (l .ram) (l .inv .4) (l .inv .5 rest) (r .result) (r .last .1 .1 .1 .0) (r .last .1 .1 .0) (r .last .1 .1 .1 .1 .0) (r .ensures (standingAt rest (a .counter .now)))
           (c .before .before .before .a .given .0 .0) (c .before .before .before .a .given .1) p
           ∙ ap (λ (x : ℕ). leaves p (a .ram .now) (timesOf x s (a .ram .now) (a .rom .now))) k,
     )
@@ -111,18 +111,18 @@ again-requires : tie.Need-again-requires Inv-loop μ-loop
 again-requires c κs = search needs
 
 sub-left : tie.Need-sub-left Inv-loop μ-loop
-sub-left c = goes c 0 0 0 .1
+sub-left c = goes c zeroState .1
 
 loop-less : tie.Need-loop-less Inv-loop μ-loop
-loop-less c = let h = goes c 0 0 0 .1 in omega (arith, h)
+loop-less c = let h = goes c zeroState .1 in omega (arith, h)
 
 loop-again : tie.Need-loop-again Inv-loop μ-loop
 loop-again c =
     let a = c .before .before .before .before .before .before .before .before .before .before .before .before .before .before .before .before .before .args in
     let l = c .before .before .before .before .before .before .before .before .before .before .before .before .loop in
     let r = c .before .before .before .before .before .before .before .before .round in
-    let h = goes c 0 0 0 .1 in
-    let k-rom = sym (c .before .before .before .before .before .before .before .before .before .before .before .before .before .before .in-rom .ensures) ∙ goes c 0 0 0 .0 in
+    let h = goes c zeroState .1 in
+    let k-rom = sym (c .before .before .before .before .before .before .before .before .before .before .before .before .before .before .in-rom .ensures) ∙ goes c zeroState .0 in
     let n : length (r .last .1 .1 .1 .1 .0) ≡ length (a .ram .now) = r .kept .1 .1 .1 .1 .0 ∙ l .inv .3 in
     let k : a .more .now - (l .left - 1) ≡ suc (a .more .now - l .left) = let i = l .inv .0 in omega (arith, h, i) in (
       omega arith,
@@ -130,11 +130,11 @@ loop-again c =
       l .inv .2,
       n,
       rom-same (a .ram .now) (a .rom .now) (a .at) (r .last .1 .1 .1 .1 .0) k-rom n,
-      λ level spare.
-          let s = stateOf (a .regs .now) (a .at) (a .bank) level (a .flags .now) spare in
+      λ rest.
+          let s = bankedAtWith rest (a .regs .now) (a .bank) (a .at) (a .flags .now) in
           ap (λ (x : ℕ). timesOf x s (a .ram .now) (a .rom .now)) k
-          ∙ round-again (a .f) (a .at) (a .counter .now) (a .bank) level spare (a .ram .now) (a .rom .now) s (c .before .before .before .before .before .before .before .before .before .before .before .before .before .before .before .before .before .pre) (a .more .now - l .left) (l .regs) (l .flags) (l .ram) (l .inv .4) (l .inv .5 level spare) (r .result) (r .last .1 .1 .1 .0) (r .last .1 .1 .0) (r .last .1 .1 .1 .1 .0) (r .ensures (a .counter .now) level spare) (c .before .before .before .before .enum-told .given .1)
-          (goes c (a .counter .now) level spare .2) (rom-below (a .ram .now) (a .rom .now) (a .at) k-rom),
+          ∙ round-again (a .f) (a .at) (a .counter .now) (a .bank) rest (a .ram .now) (a .rom .now) s (c .before .before .before .before .before .before .before .before .before .before .before .before .before .before .before .before .before .pre) (a .more .now - l .left) (l .regs) (l .flags) (l .ram) (l .inv .4) (l .inv .5 rest) (r .result) (r .last .1 .1 .1 .0) (r .last .1 .1 .0) (r .last .1 .1 .1 .1 .0) (r .ensures (standingAt rest (a .counter .now))) (c .before .before .before .before .enum-told .given .1)
+          (goes c (standingAt rest (a .counter .now)) .2) (rom-below (a .ram .now) (a .rom .now) (a .at) k-rom),
     )
 
 ended-requires : tie.Need-ended-requires Inv-loop μ-loop
@@ -146,11 +146,11 @@ same-length-3 c = c .before .before .before .before .before .before .before .bef
 returns-3 : tie.Need-returns-3 Inv-loop μ-loop
 returns-3 c = (
   c .before .before .before .before .before .before .before .before .before .before .before .before .before .before .before .loop .inv .0,
-  λ level spare.
+  λ rest.
       let a = c .before .before .before .before .before .before .before .before .before .before .before .before .before .before .before .before .before .before .before .before .args in
       let r = c .before .before .before .before .before .before .before .before .before .before .before .round in
-      ap (λ (s : State). after Done s (r .last .1 .1 .1 .1 .0)) (c .ended .ensures level spare ∙ ap (λ (x : ℕ). endsAt (a .f) (a .at) (stateOf (r .last .1 .1 .1 .0) x (a .bank) level (r .last .1 .1 .0) spare)) (c .before .before .before .before .before .before .before .before .before .before .before .before .before .before .before .loop .inv .2))
-      ∙ ap (leaves (stateOf (a .regs .now) (a .counter .now) (a .bank) level (a .flags .now) spare) (a .ram .now)) (sym (done-of (c .before .before .before .before .before .before .before .before .before .before .before) level spare (c .before .before .before .before .before .before .before .enum-told .given .1))),
+      ap (λ (s : State). after Done s (r .last .1 .1 .1 .1 .0)) (c .ended .ensures rest ∙ ap (λ (x : ℕ). endsAt (a .f) (a .at) (bankedAtWith rest (r .last .1 .1 .1 .0) (a .bank) x (r .last .1 .1 .0))) (c .before .before .before .before .before .before .before .before .before .before .before .before .before .before .before .loop .inv .2))
+      ∙ ap (leaves (bankedAtWith rest (a .regs .now) (a .bank) (a .counter .now) (a .flags .now)) (a .ram .now)) (sym (done-of (c .before .before .before .before .before .before .before .before .before .before .before) rest (c .before .before .before .before .before .before .before .enum-told .given .1))),
 )
 
 pub block-spec : {M : Type 1} → statement M

@@ -1,5 +1,5 @@
 use mathlib.Core.Path.{ap, sym, _∙_}
-use Rattle.state.specs.State.{stateOf}
+use Rattle.state.specs.State.{lent}
 use Rattle.answer.specs.declared.Answer.the-variants.{Done}
 use Rattle.step.specs.declared.kind.Kind.{Kind}
 use Rattle.step.specs.Try.{leaves}
@@ -53,43 +53,43 @@ same-length c = search needs
 returns : tie.Need-returns
 returns c = (
   fewer-same (c .before .before .puts .result) (c .before .before .before .before .before .before .before .before .before .before .before .before .args .more .now),
-  λ level.
+  λ rest.
       let a = c .before .before .before .before .before .before .before .before .before .before .before .before .args in
       let counter = a .counter .now in
       let flags = a .flags .now in
       let spare = a .spare .now in
-      let s = stateOf (a .regs .now) counter (a .bank .now) level flags spare in
-      let one = one-step (a .at) counter (a .ram .now) (a .rom .now) (λ t m. kindDone (a .kind) (a .size) (a .operand) (a .at) t m (a .rom .now)) (c .before .before .before .before .before .before .before .before .before .before .before .before .pre) (a .more .now) (a .regs .now) (a .bank .now) level flags spare in
+      let s = lent rest (a .regs .now) counter (a .bank .now) flags spare in
+      let one = one-step (a .at) counter (a .ram .now) (a .rom .now) (λ t m. kindDone (a .kind) (a .size) (a .operand) (a .at) t m (a .rom .now)) (c .before .before .before .before .before .before .before .before .before .before .before .before .pre) (a .more .now) s in
       let kind = ap (λ (k : Kind). kindDone k (a .size) (a .operand) (a .at) s (a .ram .now) (a .rom .now)) (sym (c .before .before .before .before .before .before .before .kind .given .1)) in
-      c .before .before .puts .ensures counter level spare ∙ ap (leaves s (a .ram .now)) (kind ∙ one),
+      c .before .before .puts .ensures s ∙ ap (leaves s (a .ram .now)) (kind ∙ one),
 )
 
 returns-2 : tie.Need-returns-2
 returns-2 c = (
   fewer-same Done (c .before .before .before .before .before .before .before .before .before .args .more .now),
-  λ level.
+  λ rest.
       let a = c .before .before .before .before .before .before .before .before .before .args in
       let counter = a .counter .now in
       let flags = a .flags .now in
       let spare = a .spare .now in
-      let s = stateOf (a .regs .now) counter (a .bank .now) level flags spare in
-      let one = one-step (a .at) counter (a .ram .now) (a .rom .now) (λ t m. kindDone (a .kind) (a .size) (a .operand) (a .at) t m (a .rom .now)) (c .before .before .before .before .before .before .before .before .before .pre) (a .more .now) (a .regs .now) (a .bank .now) level flags spare in
+      let s = lent rest (a .regs .now) counter (a .bank .now) flags spare in
+      let one = one-step (a .at) counter (a .ram .now) (a .rom .now) (λ t m. kindDone (a .kind) (a .size) (a .operand) (a .at) t m (a .rom .now)) (c .before .before .before .before .before .before .before .before .before .pre) (a .more .now) s in
       let kind = ap (λ (k : Kind). kindDone k (a .size) (a .operand) (a .at) s (a .ram .now) (a .rom .now)) (sym (c .before .before .before .before .kind2 .given .1)) in
-      rw (c .write .ensures counter level flags spare, c .before .number-in .ensures) (ap (leaves s (a .ram .now)) (kind ∙ one)),
+      rw (c .write .ensures s, c .before .number-in .ensures) (ap (leaves s (a .ram .now)) (kind ∙ one)),
 )
 
 returns-3 : tie.Need-returns-3
 returns-3 c = (
   fewer-same Done (c .before .before .before .before .before .before .before .before .before .before .before .before .args .more .now),
-  λ level.
+  λ rest.
       let a = c .before .before .before .before .before .before .before .before .before .before .before .before .args in
       let counter = a .counter .now in
       let flags = a .flags .now in
       let spare = a .spare .now in
-      let s = stateOf (a .regs .now) counter (a .bank .now) level flags spare in
-      let one = one-step (a .at) counter (a .ram .now) (a .rom .now) (λ t m. kindDone (a .kind) (a .size) (a .operand) (a .at) t m (a .rom .now)) (c .before .before .before .before .before .before .before .before .before .before .before .before .pre) (a .more .now) (a .regs .now) (a .bank .now) level flags spare in
+      let s = lent rest (a .regs .now) counter (a .bank .now) flags spare in
+      let one = one-step (a .at) counter (a .ram .now) (a .rom .now) (λ t m. kindDone (a .kind) (a .size) (a .operand) (a .at) t m (a .rom .now)) (c .before .before .before .before .before .before .before .before .before .before .before .before .pre) (a .more .now) s in
       let kind = ap (λ (k : Kind). kindDone k (a .size) (a .operand) (a .at) s (a .ram .now) (a .rom .now)) (sym (c .before .before .before .before .before .before .before .kind3 .given .1)) in
-      rw (c .control .ensures (a .regs .now) level, c .before .before .before .before .before .number-in2 .ensures) (ap (leaves s (a .ram .now)) (kind ∙ one)),
+      rw (c .control .ensures s, c .before .before .before .before .before .number-in2 .ensures) (ap (leaves s (a .ram .now)) (kind ∙ one)),
 )
 
 same-length-2 : tie.Need-same-length-2
@@ -98,15 +98,15 @@ same-length-2 c = search needs
 returns-4 : tie.Need-returns-4
 returns-4 c = (
   fewer-same (c .before .before .stack .result) (c .before .before .before .before .before .before .before .before .before .before .before .before .before .args .more .now),
-  λ level.
+  λ rest.
       let a = c .before .before .before .before .before .before .before .before .before .before .before .before .before .args in
       let counter = a .counter .now in
       let flags = a .flags .now in
       let spare = a .spare .now in
-      let s = stateOf (a .regs .now) counter (a .bank .now) level flags spare in
-      let one = one-step (a .at) counter (a .ram .now) (a .rom .now) (λ t m. kindDone (a .kind) (a .size) (a .operand) (a .at) t m (a .rom .now)) (c .before .before .before .before .before .before .before .before .before .before .before .before .before .pre) (a .more .now) (a .regs .now) (a .bank .now) level flags spare in
+      let s = lent rest (a .regs .now) counter (a .bank .now) flags spare in
+      let one = one-step (a .at) counter (a .ram .now) (a .rom .now) (λ t m. kindDone (a .kind) (a .size) (a .operand) (a .at) t m (a .rom .now)) (c .before .before .before .before .before .before .before .before .before .before .before .before .before .pre) (a .more .now) s in
       let kind = ap (λ (k : Kind). kindDone k (a .size) (a .operand) (a .at) s (a .ram .now) (a .rom .now)) (sym (c .before .before .before .before .before .before .before .before .kind4 .given .1)) in
-      c .before .before .stack .ensures level spare ∙ ap (leaves s (a .ram .now)) (kind ∙ one),
+      c .before .before .stack .ensures s ∙ ap (leaves s (a .ram .now)) (kind ∙ one),
 )
 
 same-length-3 : tie.Need-same-length-3
@@ -115,7 +115,7 @@ same-length-3 c = search needs
 returns-5 : tie.Need-returns-5
 returns-5 c =
     let a = c .before .before .before .before .before .before .before .before .before .before .before .before .before .before .args in
-    (c .before .before .block .ensures .0, λ level. c .before .before .block .ensures .1 level (a .spare .now))
+    (c .before .before .block .ensures .0, λ rest. c .before .before .block .ensures .1 (lent rest (a .regs .now) (a .counter .now) (a .bank .now) (a .flags .now) (a .spare .now)))
 
 pub effect-spec : {M : Type 1} → statement M
 effect-spec =

@@ -1,6 +1,6 @@
 use Prim.Native.Nat.{suc, _-_, _%_}
 use mathlib.Core.Path.{_≡_, subst}
-use Rattle.state.specs.State.{stateOf, withCounter}
+use Rattle.state.specs.State.{lent, withCounter}
 use Rattle.state.specs.declared.State.{State}
 use Rattle.step.specs.Try.{after, leaves}
 use Rattle.step.specs.Exec.{pastOf}
@@ -39,17 +39,17 @@ returns : tie.Need-returns
 unfolding withCounter
 returns c = (
   subst (λ (x : Answer). Fewer x (c .before .before .before .before .before .before .before .before .before .before .before .before .before .before .before .before .before .before .args .more .now) (c .before .before .before .before .effect .last .1 .1 .1 .1 .1 .1 .1 .1 .1 .1 .1 .0)) (c .enum-told .given .1) (c .before .before .before .before .effect .ensures .0),
-  λ level.
+  λ rest.
       let a = c .before .before .before .before .before .before .before .before .before .before .before .before .before .before .before .before .before .before .args in
       let i = a .i in
-      let s = stateOf (a .regs .now) (a .counter .now) (a .bank .now) level (a .flags .now) (a .spare .now) in
-      let p : stateOf (a .regs .now) (c .before .before .before .before .before .before .before .before .before .before .before .before .before .wrapping-add-u32 .result % 16777216) (a .bank .now) level (a .flags .now) (a .spare .now) ≡ pastOf (i .length) s = past-is (i .length) s (c .before .before .before .before .before .before .before .before .before .before .before .before .before .wrapping-add-u32 .result) (c .before .before .before .before .before .before .before .before .before .before .before .before .before .wrapping-add-u32 .ensures) in
+      let s = lent rest (a .regs .now) (a .counter .now) (a .bank .now) (a .flags .now) (a .spare .now) in
+      let p : lent rest (a .regs .now) (c .before .before .before .before .before .before .before .before .before .before .before .before .before .wrapping-add-u32 .result % 16777216) (a .bank .now) (a .flags .now) (a .spare .now) ≡ pastOf (i .length) s = past-is (i .length) s (c .before .before .before .before .before .before .before .before .before .before .before .before .before .wrapping-add-u32 .result) (c .before .before .before .before .before .before .before .before .before .before .before .before .before .wrapping-add-u32 .ensures) in
       let l = c .before .before .before .before .effect .last .1 .1 .1 .1 in
-      let u = stateOf (l .0) (l .1 .0) (l .1 .1 .0) level (l .1 .1 .1 .0) (l .1 .1 .1 .1 .0) in
+      let u = lent rest (l .0) (l .1 .0) (l .1 .1 .0) (l .1 .1 .1 .0) (l .1 .1 .1 .1 .0) in
       let m = l .1 .1 .1 .1 .1 .0 in
       let h =
       subst (λ (q : State). after (c .before .before .before .before .effect .result) u m ≡ leaves q (a .ram .now) (timesOf (suc (a .more .now - l .1 .1 .1 .1 .1 .1 .1 .0)) s (a .ram .now) (a .rom .now))) p
-      (c .before .before .before .before .effect .ensures .1 level) in
+      (c .before .before .before .before .effect .ensures .1 rest) in
       let t = timesOf (suc (a .more .now - l .1 .1 .1 .1 .1 .1 .1 .0)) s (a .ram .now) (a .rom .now) in
       went s (pastOf (i .length) s) (a .ram .now) (c .before .before .before .before .effect .result) u m t h (c .enum-told .given .1),
 )
@@ -61,17 +61,17 @@ returns-2 : tie.Need-returns-2
 unfolding withCounter
 returns-2 c = (
   subst (λ (x : Answer). Fewer x (c .before .before .before .before .before .before .before .before .before .before .before .before .before .before .before .before .before .before .before .args .more .now) (c .before .before .before .before .before .effect .last .1 .1 .1 .1 .1 .1 .1 .1 .1 .1 .1 .0)) (c .before .w .given .1) (c .before .before .before .before .before .effect .ensures .0),
-  λ level.
+  λ rest.
       let a = c .before .before .before .before .before .before .before .before .before .before .before .before .before .before .before .before .before .before .before .args in
       let i = a .i in
-      let s = stateOf (a .regs .now) (a .counter .now) (a .bank .now) level (a .flags .now) (a .spare .now) in
-      let p : stateOf (a .regs .now) (c .before .before .before .before .before .before .before .before .before .before .before .before .before .before .wrapping-add-u32 .result % 16777216) (a .bank .now) level (a .flags .now) (a .spare .now) ≡ pastOf (i .length) s = past-is (i .length) s (c .before .before .before .before .before .before .before .before .before .before .before .before .before .before .wrapping-add-u32 .result) (c .before .before .before .before .before .before .before .before .before .before .before .before .before .before .wrapping-add-u32 .ensures) in
+      let s = lent rest (a .regs .now) (a .counter .now) (a .bank .now) (a .flags .now) (a .spare .now) in
+      let p : lent rest (a .regs .now) (c .before .before .before .before .before .before .before .before .before .before .before .before .before .before .wrapping-add-u32 .result % 16777216) (a .bank .now) (a .flags .now) (a .spare .now) ≡ pastOf (i .length) s = past-is (i .length) s (c .before .before .before .before .before .before .before .before .before .before .before .before .before .before .wrapping-add-u32 .result) (c .before .before .before .before .before .before .before .before .before .before .before .before .before .before .wrapping-add-u32 .ensures) in
       let l = c .before .before .before .before .before .effect .last .1 .1 .1 .1 in
-      let u = stateOf (l .0) (l .1 .0) (l .1 .1 .0) level (l .1 .1 .1 .0) (l .1 .1 .1 .1 .0) in
+      let u = lent rest (l .0) (l .1 .0) (l .1 .1 .0) (l .1 .1 .1 .0) (l .1 .1 .1 .1 .0) in
       let m = l .1 .1 .1 .1 .1 .0 in
       let h =
       subst (λ (q : State). after (c .before .before .before .before .before .effect .result) u m ≡ leaves q (a .ram .now) (timesOf (suc (a .more .now - l .1 .1 .1 .1 .1 .1 .1 .0)) s (a .ram .now) (a .rom .now))) p
-      (c .before .before .before .before .before .effect .ensures .1 level) in
+      (c .before .before .before .before .before .effect .ensures .1 rest) in
       let t = timesOf (suc (a .more .now - l .1 .1 .1 .1 .1 .1 .1 .0)) s (a .ram .now) (a .rom .now) in
       came-back s (i .length) (a .ram .now) (c .before .before .before .before .before .effect .result) u m (c .before .w .given .0 .0) t h (c .before .w .given .1),
 )

@@ -2,7 +2,7 @@ use Prim.Native.Nat.{_<_}
 use mathlib.Core.Path.{refl, ap, sym, _∙_}
 use native.Mathlib.Omega.{arith}
 use lib.ListN.{length}
-use Rattle.state.specs.State.{stateOf}
+use Rattle.state.specs.State.{lent}
 use Rattle.code.specs.Listed.{decodeOf}
 use Rattle.code.specs.declared.Decoded.the-variants.{Short, Unlisted}
 use Rattle.step.specs.Try.{leaves}
@@ -27,9 +27,9 @@ returns c =
     let a = c .before .before .before .before .before .before .args in
     let code = c .before .fetch .result .now in (
       refl,
-      λ level.
-          let s = stateOf (a .regs .now) (a .counter .now) (a .bank .now) level (a .flags .now) (a .spare .now) in
-          ap (leaves s (a .ram .now)) (once-by s (a .ram .now) (a .rom .now) code Short (a .more .now) (c .before .fetch .ensures) (none-says code (omega (arith, c .if1 .taken)))),
+      λ rest.
+          let s = lent rest (a .regs .now) (a .counter .now) (a .bank .now) (a .flags .now) (a .spare .now) in
+          ap (leaves s (a .ram .now)) (once-by s (a .ram .now) (a .rom .now) code Short (a .more .now) (c .before .fetch .ensures .0) (none-says code (omega (arith, c .if1 .taken)))),
     )
 
 shared-slice-read-b : tie.Need-shared-slice-read-b
@@ -51,7 +51,7 @@ enum-known-i : tie.Need-enum-known-i
 enum-known-i c = search needs
 
 execute-requires : tie.Need-execute-requires
-execute-requires c κs = ap decodeOf (sym (c .before .before .before .before .before .before .before .before .before .before .before .before .before .before .before .fetch .ensures)) ∙ sym (c .before .before .before .before .before .before .before .before .before .before .decode .ensures) ∙ c .before .before .before .before .before .before .before .before .i .given .1
+execute-requires c κs = ap decodeOf (sym (c .before .before .before .before .before .before .before .before .before .before .before .before .before .before .before .fetch .ensures .0)) ∙ sym (c .before .before .before .before .before .before .before .before .before .before .decode .ensures) ∙ c .before .before .before .before .before .before .before .before .i .given .1
 
 enum-told : tie.Need-enum-told
 enum-told c = search needs
@@ -67,11 +67,11 @@ returns-2 c =
     let a = c .before .before .before .before .before .before .before .before .before .before .before .before .before .before .args in
     let code = c .before .before .before .before .before .before .before .before .before .fetch .result .now in (
       fewer-same (c .register .result) (a .more .now),
-      λ level.
-          let s = stateOf (a .regs .now) (a .counter .now) (a .bank .now) level (a .flags .now) (a .spare .now) in
-          c .register .ensures level (a .spare .now) (a .ram .now) (a .rom .now)
+      λ rest.
+          let s = lent rest (a .regs .now) (a .counter .now) (a .bank .now) (a .flags .now) (a .spare .now) in
+          c .register .ensures s (a .ram .now) (a .rom .now)
           ∙ ap (leaves s (a .ram .now))
-          (once-by s (a .ram .now) (a .rom .now) code _ (a .more .now) (c .before .before .before .before .before .before .before .before .before .fetch .ensures) (register-says code (there (c .before .before .before .before .before .before .before .before)) (c .before .before .before .before .before .size-of .result) (c .before .before .before .before .before .before .match .keys1) (c .before .before .before .before .before .size-of .ensures))),
+          (once-by s (a .ram .now) (a .rom .now) code _ (a .more .now) (c .before .before .before .before .before .before .before .before .before .fetch .ensures .0) (register-says code (there (c .before .before .before .before .before .before .before .before)) (c .before .before .before .before .before .size-of .result) (c .before .before .before .before .before .before .match .keys1) (c .before .before .before .before .before .size-of .ensures))),
     )
 
 same-length-3 : tie.Need-same-length-3
@@ -82,11 +82,11 @@ returns-3 c =
     let a = c .before .before .before .before .before .before .before .before .before .before .before .before .before .args in
     let code = c .before .before .before .before .before .before .before .before .fetch .result .now in (
       fewer-same (c .short-jump .result) (a .more .now),
-      λ level.
-          let s = stateOf (a .regs .now) (a .counter .now) (a .bank .now) level (a .flags .now) (a .spare .now) in
-          c .short-jump .ensures (a .regs .now) (a .bank .now) level (a .spare .now) (a .ram .now) (a .rom .now)
+      λ rest.
+          let s = lent rest (a .regs .now) (a .counter .now) (a .bank .now) (a .flags .now) (a .spare .now) in
+          c .short-jump .ensures s (a .ram .now) (a .rom .now)
           ∙ ap (leaves s (a .ram .now))
-          (once-by s (a .ram .now) (a .rom .now) code _ (a .more .now) (c .before .before .before .before .before .before .before .before .fetch .ensures) (jump-says code (there (c .before .before .before .before .before .before .before)) (c .before .before .before .before .if2 .left) (c .before .before .before .if3 .taken))),
+          (once-by s (a .ram .now) (a .rom .now) code _ (a .more .now) (c .before .before .before .before .before .before .before .before .fetch .ensures .0) (jump-says code (there (c .before .before .before .before .before .before .before)) (c .before .before .before .before .if2 .left) (c .before .before .before .if3 .taken))),
     )
 
 same-length-4 : tie.Need-same-length-4
@@ -103,9 +103,9 @@ returns-5 c =
     let a = c .before .before .before .before .before .before .before .before .before .before .before .before .args in
     let code = c .before .before .before .before .before .before .before .fetch .result .now in (
       refl,
-      λ level.
-          let s = stateOf (a .regs .now) (a .counter .now) (a .bank .now) level (a .flags .now) (a .spare .now) in
-          ap (leaves s (a .ram .now)) (once-by s (a .ram .now) (a .rom .now) code Short (a .more .now) (c .before .before .before .before .before .before .before .fetch .ensures) (sym (c .before .before .decode .ensures) ∙ c .enum-told .given .1)),
+      λ rest.
+          let s = lent rest (a .regs .now) (a .counter .now) (a .bank .now) (a .flags .now) (a .spare .now) in
+          ap (leaves s (a .ram .now)) (once-by s (a .ram .now) (a .rom .now) code Short (a .more .now) (c .before .before .before .before .before .before .before .fetch .ensures .0) (sym (c .before .before .decode .ensures) ∙ c .enum-told .given .1)),
     )
 
 same-length-6 : tie.Need-same-length-6
@@ -116,9 +116,9 @@ returns-6 c =
     let a = c .before .before .before .before .before .before .before .before .before .before .before .before .args in
     let code = c .before .before .before .before .before .before .before .fetch .result .now in (
       refl,
-      λ level.
-          let s = stateOf (a .regs .now) (a .counter .now) (a .bank .now) level (a .flags .now) (a .spare .now) in
-          ap (leaves s (a .ram .now)) (once-by s (a .ram .now) (a .rom .now) code Unlisted (a .more .now) (c .before .before .before .before .before .before .before .fetch .ensures) (sym (c .before .before .decode .ensures) ∙ c .enum-told2 .given .1)),
+      λ rest.
+          let s = lent rest (a .regs .now) (a .counter .now) (a .bank .now) (a .flags .now) (a .spare .now) in
+          ap (leaves s (a .ram .now)) (once-by s (a .ram .now) (a .rom .now) code Unlisted (a .more .now) (c .before .before .before .before .before .before .before .fetch .ensures .0) (sym (c .before .before .decode .ensures) ∙ c .enum-told2 .given .1)),
     )
 
 pub once-spec : {M : Type 1} → statement M
