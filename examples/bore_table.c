@@ -1,8 +1,8 @@
 /*
  * Searches a bore table for the outlet's mark with the core's repeating compare, as the mill's firmware does.
  *
- *   rt staticlib module
- *   cc -I include examples/bore_table.c target/staticlib/libmodule.a -o bore_table
+ *   ./build
+ *   cc -I dist examples/bore_table.c dist/libtlcs900h.a -o bore_table
  *   ./bore_table
  */
 #include <stdio.h>
@@ -57,12 +57,12 @@ static void search(uint8_t mark) {
         return;
     }
     number = tlcs900h_run(record, sizeof record, ram, sizeof ram, rom, sizeof rom, 1000, &done);
-    past = get(record + 12, 4) - (ROM_START + TABLE); /* XHL of bank 0 stands behind the last entry compared */
-    zero = get(record + 84, 2) >> 6 & 1;              /* Z: that entry was equal */
+    past = get(record + TLCS900H_XHL, 4) - (ROM_START + TABLE); /* XHL of bank 0 stands behind the last entry compared */
+    zero = record[TLCS900H_F] >> 6 & 1;                         /* Z: that entry was equal */
     if (number == TLCS900H_UNLISTED && zero)
         printf("mark %02X: port %u, after %u steps\n", mark, past - 1, done);
     else
-        printf("mark %02X: no port, after %u steps (%u)\n", mark, done, number);
+        printf("mark %02X: no port, after %u steps (%s)\n", mark, done, tlcs900h_name(number));
 }
 
 int main(void) {

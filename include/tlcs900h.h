@@ -1,14 +1,14 @@
 /*
  * A proved TLCS-900/H core: reset, one step, many steps, and the length of an instruction.
  *
- * Link with libmodule.a (x86-64 Linux). It calls no function of the operating system, keeps nothing between calls and
- * allocates nothing: two threads may call it at once, each with its own record and RAM.
- * tlcs900h_show is in a second archive, liblook.a, so that the one that runs the firmware holds the decoder once.
+ * Link with libtlcs900h.a (x86-64 Linux). It calls no other function, keeps nothing between calls and allocates nothing:
+ * two threads may call it at once, each with its own record and RAM. A call takes less than TLCS900H_STACK bytes of stack.
+ * What tlcs900h_show needs is linked only where it is called.
  *
  * The machine
  *   RAM  holds the addresses 0 to ram_len - 1.
  *   ROM  holds the top addresses and ends at FFFFFFH: its first byte stands at 1000000H - rom_len.
- *   Either may be empty, and neither may be longer than 65,536 bytes.
+ *   Either may be empty, and neither may be longer than TLCS900H_MEMORY bytes.
  *
  * The record is the whole state of the machine, TLCS900H_RECORD bytes, every number low byte first:
  *   offset  0   XWA XBC XDE XHL of bank 0, of bank 1, of bank 2, of bank 3: four bytes each
@@ -18,17 +18,25 @@
  *               the bank in bits 8 to 10 (0 to 3), bit 11 one, the interrupt level in bits 12 to 14, bit 15 one
  *   offset 86   F', one byte (bits 5 and 3 zero)
  *   offset 87   a zero byte
- * It may be copied, stored and handed back later; tlcs900h_reset makes the first one.
+ * It may be copied, stored and handed back later; tlcs900h_reset makes the first one. A run of 0 steps tells whether a
+ * record is good: with both memories empty it changes nothing, and answers 0 for a state's record and 2 for any other.
+ *
+ * Parts of a register: WA is the low two bytes of XWA, A its byte 0 and W its byte 1. So it is with BC, C and B; with DE, E
+ * and D; with HL, L and H; and IX, IY, IZ and SP are the low two bytes of theirs. The bank in use is
+ * record[TLCS900H_BANK] & 3; its registers stand TLCS900H_BANK_SIZE times that number behind those of bank 0. The A that
+ * the firmware sees is
+ *   record[TLCS900H_BANK_SIZE * (record[TLCS900H_BANK] & 3) + TLCS900H_A]
  *
  * The caller's part
  *   Every pointer is the caller's memory, lent for the length of the call. Each must be good for the length that follows
  *   it, and for writing where it is not const. A null pointer with length 0 is an empty memory. `done` and `length` are
  *   never null. The parts of one call must not overlap, and nothing else may write them while it runs.
  *
- * The answer of each call is a number:
+ * The answer of each call is a number, 0 to 7, and depends on nothing but what the call is given. A refused step or run,
+ * asked again, is refused with the same number (and *done is then 0) until the caller changes the record, RAM or ROM.
  */
-#ifndef TLCS900H_H
-#define TLCS900H_H
+#ifndef TLCS900H_INCLUDED
+#define TLCS900H_INCLUDED
 
 #include <stddef.h>
 #include <stdint.h>
@@ -37,9 +45,49 @@
 extern "C" {
 #endif
 
-#define TLCS900H_RECORD 88
-#define TLCS900H_MOST_STEPS 1000000
+/*
+ * The version of this header and of the archive beside it. The first number grows where a program that was right before
+ * has to be changed; the second where something was added.
+ */
+#define TLCS900H_VERSION_MAJOR 1
+#define TLCS900H_VERSION_MINOR 0
 
+#define TLCS900H_RECORD 88          /* the bytes of a record */
+#define TLCS900H_MEMORY 65536       /* the most bytes of RAM, and of ROM */
+#define TLCS900H_LEAST_ROM 256      /* the fewest bytes of ROM for a reset */
+#define TLCS900H_MOST_STEPS 1000000 /* the most steps of a run */
+#define TLCS900H_STACK 1024         /* a call takes less stack than so many bytes */
+
+/* Offsets in a record. */
+enum {
+    /* of bank 0; those of bank b stand TLCS900H_BANK_SIZE * b bytes behind */
+    TLCS900H_XWA = 0,
+    TLCS900H_XBC = 4,
+    TLCS900H_XDE = 8,
+    TLCS900H_XHL = 12,
+    TLCS900H_BANK_SIZE = 16,
+    /* their bytes 0 and 1 */
+    TLCS900H_A = 0,
+    TLCS900H_W = 1,
+    TLCS900H_C = 4,
+    TLCS900H_B = 5,
+    TLCS900H_E = 8,
+    TLCS900H_D = 9,
+    TLCS900H_L = 12,
+    TLCS900H_H = 13,
+    /* the same in every bank */
+    TLCS900H_XIX = 64,
+    TLCS900H_XIY = 68,
+    TLCS900H_XIZ = 72,
+    TLCS900H_XSP = 76,
+    TLCS900H_COUNTER = 80,
+    TLCS900H_SR = 84,
+    TLCS900H_F = 84,      /* the low byte of SR */
+    TLCS900H_BANK = 85,   /* the high byte of SR: the bank in use is its low two bits */
+    TLCS900H_F_PRIME = 86 /* F' */
+};
+
+/* The numbers that a call answers. */
 enum {
     TLCS900H_DONE = 0,     /* done */
     TLCS900H_TOO_LONG = 1, /* RAM or ROM is longer than 65,536 bytes */
@@ -50,6 +98,21 @@ enum {
     TLCS900H_TO_ROM = 6,   /* a store would go to ROM */
     TLCS900H_TOO_MANY = 7  /* a run is asked for more than 1,000,000 steps */
 };
+
+/* A few words for a number, to print. A program that does not call this holds none of them. */
+static inline const char *tlcs900h_name(uint8_t number) {
+    switch (number) {
+    case TLCS900H_DONE: return "done";
+    case TLCS900H_TOO_LONG: return "memory too long";
+    case TLCS900H_INVALID: return "not valid";
+    case TLCS900H_NO_CODE: return "no code there";
+    case TLCS900H_UNLISTED: return "code not listed";
+    case TLCS900H_MISSING: return "operand missing";
+    case TLCS900H_TO_ROM: return "store to ROM";
+    case TLCS900H_TOO_MANY: return "too many steps";
+    default: return "no such number";
+    }
+}
 
 /*
  * Writes the record of the reset state: XSP 100H, bank 0, level 7, everything else zero, and the counter from the low 24

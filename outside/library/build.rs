@@ -1,10 +1,8 @@
-//! Tells cargo where `rt staticlib` leaves the two archives.
+//! Tells cargo where the library's archive is: the script `build` at the top writes it.
 
 fn main() {
     let here = std::env::var("CARGO_MANIFEST_DIR").expect("cargo says where the crate is");
-    let archives = format!("{here}/../../target/staticlib");
-    println!("cargo:rustc-link-search=native={archives}");
-    for name in ["module", "look"] {
-        println!("cargo:rerun-if-changed={archives}/lib{name}.a");
-    }
+    let dist = format!("{here}/../../dist");
+    println!("cargo:rustc-link-search=native={dist}");
+    println!("cargo:rerun-if-changed={dist}/libtlcs900h.a");
 }

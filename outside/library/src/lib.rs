@@ -8,7 +8,7 @@
 const UNWRITTEN: u32 = 0xDEAD_BEEF;
 
 mod surface {
-    #[link(name = "module", kind = "static")]
+    #[link(name = "tlcs900h", kind = "static")]
     extern "C" {
         pub fn tlcs900h_reset(
             record: *mut u8,
@@ -38,10 +38,7 @@ mod surface {
             steps: u32,
             done: *mut u32,
         ) -> u8;
-    }
 
-    #[link(name = "look", kind = "static")]
-    extern "C" {
         pub fn tlcs900h_show(
             ram: *const u8,
             ram_length: usize,

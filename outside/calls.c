@@ -1,0 +1,464 @@
+/*
+ * Every call of the library from C, at every length that could be wrong. All that is lent lies between bytes that the call
+ * must leave alone. What is expected is written from the header and document 01. A line a group; the last line counts them.
+ */
+#include <stdio.h>
+#include <string.h>
+
+#include "tlcs900h.h"
+
+#define COUNT(list) (sizeof(list) / sizeof(list)[0])
+
+enum { GUARD = 64, SPACE = GUARD + 65537 + GUARD };
+
+/* What is lent to a call: `length` bytes behind a guard, and guard behind them. `kept` is what it must all be afterwards. */
+struct lent {
+    uint8_t bytes[SPACE], kept[SPACE];
+    size_t length;
+    int null; /* handed over as a null pointer */
+};
+
+struct size {
+    size_t length;
+    int null;
+};
+
+static const struct size record_sizes[] = {{0, 1}, {0, 0}, {1, 0}, {87, 0}, {88, 0}, {89, 0}, {176, 0}};
+static const struct size memory_sizes[] = {{0, 1}, {0, 0}, {255, 0}, {256, 0}, {65536, 0}, {65537, 0}};
+static const struct size whole = {88, 0}, small = {256, 0};
+
+static struct lent record, ram, rom;
+static uint32_t word[3], kept_word; /* `done` or `length`, between two others */
+static uint8_t noise;               /* 00H, then FFH: a byte written by mistake differs from what stood there in one of them */
+static unsigned long tried, wrong;
+static unsigned passed, failed;
+
+static void lend(struct lent *l, struct size size) {
+    size_t i;
+    for (i = 0; i < SPACE; i++) l->bytes[i] = (uint8_t)((i * 29 + 7) ^ noise);
+    l->length = size.length;
+    l->null = size.null;
+}
+
+static uint8_t *at(struct lent *l) { return l->null ? NULL : l->bytes + GUARD; }
+
+static uint8_t *kept(struct lent *l) { return l->kept + GUARD; }
+
+/* Writes a number low byte first. */
+static void put(uint8_t *to, int bytes, uint32_t value) {
+    for (; bytes > 0; bytes--, value >>= 8) *to++ = (uint8_t)value;
+}
+
+/* A valid state's record: all flags 1, bank 2, level 5, F' 91H, and registers of noise. */
+static void lend_record(struct size size, uint32_t counter) {
+    uint8_t *r = record.bytes + GUARD;
+    lend(&record, size);
+    put(r + 80, 4, counter);
+    put(r + 84, 4, 0x0091DAD7);
+}
+
+/* Sets down what all of it is before a call. */
+static void keep(void) {
+    memcpy(record.kept, record.bytes, SPACE);
+    memcpy(ram.kept, ram.bytes, SPACE);
+    memcpy(rom.kept, rom.bytes, SPACE);
+    word[0] = word[1] = word[2] = kept_word = 0xDEADBEEF ^ noise;
+}
+
+static int same(const struct lent *l) { return memcmp(l->bytes, l->kept, SPACE) == 0; }
+
+/* Holds the number of a call to what it should be, and all that was lent to what was kept. */
+static void held(const char *call, uint8_t number, uint8_t expected) {
+    uint32_t beside = 0xDEADBEEF ^ noise;
+    int words = word[0] == beside && word[1] == kept_word && word[2] == beside;
+    tried++;
+    if (number == expected && same(&record) && same(&ram) && same(&rom) && words) return;
+    if (wrong++ >= 5) return;
+    printf("%s: record %lu, RAM %lu, ROM %lu bytes: number %u, to be %u; count %lu, to be %lu; record %s, RAM %s, ROM %s\n", call,
+           (unsigned long)record.length, (unsigned long)ram.length, (unsigned long)rom.length, number, expected,
+           (unsigned long)word[1], (unsigned long)kept_word, same(&record) ? "right" : "wrong", same(&ram) ? "right" : "wrong",
+           same(&rom) ? "right" : "wrong");
+}
+
+static uint8_t reset(void) {
+    return tlcs900h_reset(at(&record), record.length, at(&ram), ram.length, at(&rom), rom.length);
+}
+
+static uint8_t step(void) {
+    return tlcs900h_step(at(&record), record.length, at(&ram), ram.length, at(&rom), rom.length);
+}
+
+static uint8_t run(uint32_t steps) {
+    return tlcs900h_run(at(&record), record.length, at(&ram), ram.length, at(&rom), rom.length, steps, &word[1]);
+}
+
+static uint8_t show(uint32_t address) {
+    return tlcs900h_show(at(&ram), ram.length, at(&rom), rom.length, address, &word[1]);
+}
+
+static int too_long(void) { return ram.length > 65536 || rom.length > 65536; }
+
+/* Does a thing for every length of the record and of both memories. */
+static void every_length(void (*each)(struct size)) {
+    size_t i, j, k;
+    for (i = 0; i < COUNT(record_sizes); i++)
+        for (j = 0; j < COUNT(memory_sizes); j++)
+            for (k = 0; k < COUNT(memory_sizes); k++) {
+                lend(&ram, memory_sizes[j]);
+                lend(&rom, memory_sizes[k]);
+                each(record_sizes[i]);
+            }
+}
+
+/* ---- the header's constants and names */
+static void same_number(unsigned long is, unsigned long expected) {
+    tried++;
+    if (is == expected) return;
+    wrong++;
+    printf("a constant is %lu, to be %lu\n", is, expected);
+}
+
+static void constants(void) {
+    same_number(TLCS900H_VERSION_MAJOR, 1);
+    same_number(TLCS900H_VERSION_MINOR, 0);
+    same_number(TLCS900H_RECORD, 88);
+    same_number(TLCS900H_MEMORY, 65536);
+    same_number(TLCS900H_LEAST_ROM, 256);
+    same_number(TLCS900H_MOST_STEPS, 1000000);
+    same_number(TLCS900H_XIX, 64);
+    same_number(TLCS900H_XIY, 68);
+    same_number(TLCS900H_XIZ, 72);
+    same_number(TLCS900H_XSP, 76);
+    same_number(TLCS900H_COUNTER, 80);
+    same_number(TLCS900H_SR, 84);
+    same_number(TLCS900H_F, 84);
+    same_number(TLCS900H_BANK, 85);
+    same_number(TLCS900H_F_PRIME, 86);
+}
+
+/* The registers of bank 0, in the record's order, and the distance to the next bank. */
+static void bank_constants(void) {
+    same_number(TLCS900H_XWA, 0);
+    same_number(TLCS900H_A, 0);
+    same_number(TLCS900H_W, 1);
+    same_number(TLCS900H_XBC, 4);
+    same_number(TLCS900H_C, 4);
+    same_number(TLCS900H_B, 5);
+    same_number(TLCS900H_XDE, 8);
+    same_number(TLCS900H_E, 8);
+    same_number(TLCS900H_D, 9);
+    same_number(TLCS900H_XHL, 12);
+    same_number(TLCS900H_L, 12);
+    same_number(TLCS900H_H, 13);
+    same_number(TLCS900H_BANK_SIZE, 16);
+}
+
+static void same_name(unsigned long is, unsigned long expected, const char *name) {
+    same_number(is, expected);
+    tried++;
+    if (strcmp(tlcs900h_name((uint8_t)is), name) == 0) return;
+    wrong++;
+    printf("%lu is called '%s', to be '%s'\n", is, tlcs900h_name((uint8_t)is), name);
+}
+
+static void numbers(void) {
+    same_name(TLCS900H_DONE, 0, "done");
+    same_name(TLCS900H_TOO_LONG, 1, "memory too long");
+    same_name(TLCS900H_INVALID, 2, "not valid");
+    same_name(TLCS900H_NO_CODE, 3, "no code there");
+    same_name(TLCS900H_UNLISTED, 4, "code not listed");
+    same_name(TLCS900H_MISSING, 5, "operand missing");
+    same_name(TLCS900H_TO_ROM, 6, "store to ROM");
+    same_name(TLCS900H_TOO_MANY, 7, "too many steps");
+    same_name(8, 8, "no such number");
+    same_name(255, 255, "no such number");
+}
+
+/* ---- reset: 1, then 5, then 2 */
+static void reset_once(struct size size) {
+    uint8_t number;
+    lend(&record, size);
+    if (rom.length >= 256) put(rom.bytes + GUARD + rom.length - 256, 4, 0xFF543210); /* the vector, at FFFF00H */
+    keep();
+    number = too_long() ? 1 : rom.length < 256 ? 5 : size.length != 88 ? 2 : 0;
+    if (number == 0) {
+        memset(kept(&record), 0, 88);
+        put(kept(&record) + 76, 4, 0x100);
+        put(kept(&record) + 80, 4, 0x543210);
+        put(kept(&record) + 84, 2, 0xF800);
+    }
+    held("reset", reset(), number);
+}
+
+static void resets(void) { every_length(reset_once); }
+
+/* ---- one step of NOP, at the first address and at the last: 1, then 2, then 3 */
+static void step_at(struct size size, uint32_t counter, int broken) {
+    uint8_t number;
+    lend_record(size, counter);
+    if (broken) record.bytes[GUARD + 87] = 1;
+    if (ram.length > 0) ram.bytes[GUARD] = 0;
+    if (rom.length > 0) rom.bytes[GUARD + rom.length - 1] = 0;
+    keep();
+    number = too_long() ? 1 : size.length != 88 || broken ? 2 : (counter == 0 ? ram.length : rom.length) == 0 ? 3 : 0;
+    if (number == 0) put(kept(&record) + 80, 4, (counter + 1) % 0x1000000);
+    held("step", step(), number);
+}
+
+static void step_once(struct size size) {
+    step_at(size, 0, 0);
+    step_at(size, 0xFFFFFF, 0);
+    step_at(size, 0, 1);
+}
+
+static void steps(void) { every_length(step_once); }
+
+/* ---- runs over a RAM of NOPs: 7, then 1, then 2, then 3 behind the last of them */
+static void run_for(struct size size, uint32_t steps, int broken) {
+    uint8_t number;
+    lend_record(size, 0);
+    if (broken) record.bytes[GUARD + 85] |= 4;
+    memset(ram.bytes + GUARD, 0, ram.length);
+    keep();
+    number = steps > 1000000 ? 7 : too_long() ? 1 : size.length != 88 || broken ? 2 : steps > ram.length ? 3 : 0;
+    kept_word = 0;
+    if (number == 0 || number == 3) {
+        kept_word = steps > ram.length ? (uint32_t)ram.length : steps;
+        put(kept(&record) + 80, 4, kept_word);
+    }
+    held("run", run(steps), number);
+}
+
+static void run_once(struct size size) {
+    static const uint32_t asked[] = {0, 1, 255, 256, 257, 1000000, 1000001, 0xFFFFFFFF};
+    size_t i;
+    for (i = 0; i < COUNT(asked); i++) {
+        run_for(size, asked[i], 0);
+        run_for(size, asked[i], 1);
+    }
+}
+
+static void runs(void) { every_length(run_once); }
+
+/* ---- show over memories of NOPs: 1, then 2, then 3 */
+static void show_once(struct size size) {
+    static const uint32_t places[] = {0,        254,      255,      256,      65535,    65536,     0xFEFFFF,
+                                      0xFF0000, 0xFFFEFF, 0xFFFF00, 0xFFFF01, 0xFFFFFF, 0x1000000, 0xFFFFFFFF};
+    size_t i;
+    lend(&record, size);
+    memset(ram.bytes + GUARD, 0, ram.length);
+    memset(rom.bytes + GUARD, 0, rom.length);
+    for (i = 0; i < COUNT(places); i++) {
+        int there = places[i] < ram.length || places[i] >= 0x1000000 - rom.length;
+        uint8_t number = too_long() ? 1 : places[i] >= 0x1000000 ? 2 : there ? 0 : 3;
+        keep();
+        kept_word = number == 0;
+        held("show", show(places[i]), number);
+    }
+}
+
+static void shows(void) { every_length(show_once); }
+
+/* ---- instructions of 1 to 6 bytes, whole or cut off by the end of their memory; and codes that are not listed */
+struct code {
+    uint8_t length, bytes[6];
+};
+
+static void show_end(struct lent *memory, uint32_t end, const uint8_t *bytes, uint8_t there, uint8_t number, uint8_t length) {
+    lend(&ram, small);
+    lend(&rom, small);
+    lend(&record, whole);
+    memcpy(memory->bytes + GUARD + 256 - there, bytes, there);
+    keep();
+    kept_word = length;
+    held("show", show(end - there), number);
+}
+
+static void lengths(void) {
+    static const struct code listed[] = {{1, {0x00}},
+                                         {2, {0x21, 0x05}},
+                                         {3, {0x31, 0x34, 0x12}},
+                                         {4, {0x1D, 0x10, 0x20, 0x30}},
+                                         {5, {0x43, 0x78, 0x56, 0x34, 0x12}},
+                                         {6, {0xE8, 0xC8, 0x78, 0x56, 0x34, 0x12}}};
+    static const struct code unlisted[] = {{1, {0x01}}, {1, {0x2F}}, {2, {0x17, 0x04}}, {3, {0xC9, 0xEC, 0x10}}};
+    size_t i;
+    uint8_t there;
+    for (i = 0; i < COUNT(listed); i++)
+        for (there = 1; there <= listed[i].length; there++) {
+            int cut = there < listed[i].length;
+            show_end(&ram, 0x100, listed[i].bytes, there, cut ? 3 : 0, cut ? 0 : listed[i].length);
+            show_end(&rom, 0x1000000, listed[i].bytes, there, cut ? 3 : 0, cut ? 0 : listed[i].length);
+        }
+    for (i = 0; i < COUNT(unlisted); i++)
+        for (there = 1; there <= unlisted[i].length; there++) {
+            show_end(&ram, 0x100, unlisted[i].bytes, there, there < unlisted[i].length ? 3 : 4, 0);
+            show_end(&rom, 0x1000000, unlisted[i].bytes, there, there < unlisted[i].length ? 3 : 4, 0);
+        }
+}
+
+/* ---- each refusal of an instruction leaves the record and RAM, in a step and in a run */
+static void lend_code(uint32_t counter, const uint8_t *bytes, size_t length) {
+    lend(&ram, small);
+    lend(&rom, small);
+    lend_record(whole, counter);
+    memcpy(ram.bytes + GUARD, bytes, length);
+}
+
+static void refused(uint32_t counter, const uint8_t *bytes, uint8_t number) {
+    lend_code(counter, bytes, 6);
+    keep();
+    held("step", step(), number);
+    kept_word = 0;
+    held("run", run(1000), number);
+    held("run", run(1000), number); /* the same again, while nothing has changed */
+}
+
+static void refusals(void) {
+    static const uint8_t unlisted[6] = {0x01};
+    static const uint8_t load[6] = {0xC1, 0x00, 0x80, 0x21};          /* LD A,(8000H), where nothing is */
+    static const uint8_t load_half[6] = {0xD1, 0xFF, 0x00, 0x20};     /* LD WA,(00FFH), half of it in RAM */
+    static const uint8_t store[6] = {0xF1, 0x00, 0x01, 0x41};         /* LD (0100H),A, behind RAM */
+    static const uint8_t store_half[6] = {0xF1, 0xFF, 0x00, 0x50};    /* LD (00FFH),WA, half of it in RAM */
+    static const uint8_t store_rom[6] = {0xF2, 0x80, 0xFF, 0xFF, 0x41}; /* LD (FFFF80H),A */
+    static const uint8_t add_rom[6] = {0xC2, 0x80, 0xFF, 0xFF, 0x89};   /* ADD (FFFF80H),A */
+    refused(0x8000, unlisted, 3);
+    refused(0, unlisted, 4);
+    refused(0, load, 5);
+    refused(0, load_half, 5);
+    refused(0, store, 5);
+    refused(0, store_half, 5);
+    refused(0, store_rom, 6);
+    refused(0, add_rom, 6);
+}
+
+/* ---- a done step changes what it names and the counter, and no more */
+static void load_constant(uint8_t code, uint8_t bank, size_t offset, int bytes) {
+    uint8_t load[6] = {0, 0x9A, 0xBC, 0xDE, 0xF1, 0};
+    load[0] = code;
+    lend_code(0, load, 6);
+    record.bytes[GUARD + 85] = (uint8_t)(0xD8 | bank);
+    keep();
+    memcpy(kept(&record) + offset, load + 1, (size_t)bytes);
+    put(kept(&record) + 80, 4, (uint32_t)bytes + 1);
+    held("step", step(), 0);
+}
+
+/* The eight bytes, words and longs, in document 01's order, in each bank. */
+static void registers(void) {
+    static const size_t byte_at[8] = {TLCS900H_W, TLCS900H_A, TLCS900H_B, TLCS900H_C,
+                                      TLCS900H_D, TLCS900H_E, TLCS900H_H, TLCS900H_L};
+    static const size_t long_at[8] = {TLCS900H_XWA, TLCS900H_XBC, TLCS900H_XDE, TLCS900H_XHL,
+                                      TLCS900H_XIX, TLCS900H_XIY, TLCS900H_XIZ, TLCS900H_XSP};
+    uint8_t r, bank;
+    for (bank = 0; bank < 4; bank++)
+        for (r = 0; r < 8; r++) {
+            size_t from = (size_t)TLCS900H_BANK_SIZE * bank, shared = r < 4 ? from : 0;
+            load_constant((uint8_t)(0x20 + r), bank, from + byte_at[r], 1);
+            load_constant((uint8_t)(0x30 + r), bank, shared + long_at[r], 2);
+            load_constant((uint8_t)(0x40 + r), bank, shared + long_at[r], 4);
+        }
+}
+
+static void changes(void) {
+    static const uint8_t store[6] = {0xF1, 0x10, 0x00, 0x60}; /* LD (0010H),XWA, of bank 2 */
+    static const uint8_t swap[6] = {0x16};                    /* EX F,F' */
+    static const uint8_t bank[6] = {0x17, 0x03};              /* LDF 3 */
+    lend_code(0, store, 6);
+    keep();
+    memcpy(kept(&ram) + 0x10, kept(&record) + 32, 4);
+    put(kept(&record) + 80, 4, 4);
+    held("step", step(), 0);
+    lend_code(0, swap, 6);
+    keep();
+    put(kept(&record) + 80, 4, 1);
+    put(kept(&record) + 84, 4, 0x00D7DA91);
+    held("step", step(), 0);
+    lend_code(0, bank, 6);
+    keep();
+    put(kept(&record) + 80, 4, 2);
+    kept(&record)[85] = 0xDB;
+    held("step", step(), 0);
+}
+
+/* ---- a run that stops, and is asked again; and the longest run */
+static void stops(void) {
+    static const uint8_t sum[6] = {0x21, 0x05, 0xC9, 0xC8, 0x03, 0x01}; /* LD A,5; ADD A,3; then a code that is not listed */
+    static const uint8_t round[6] = {0x68, 0xFE};                       /* JR to itself */
+    lend_code(0, sum, 6);
+    keep();
+    kept(&record)[TLCS900H_BANK_SIZE * (kept(&record)[TLCS900H_BANK] & 3) + TLCS900H_A] = 8; /* as the header says */
+    put(kept(&record) + 80, 4, 5);
+    kept(&record)[84] = 0; /* not negative, not zero, no carry of any kind, no overflow */
+    kept_word = 2;
+    held("run", run(1000), 4);
+    kept_word = 0;
+    held("run", run(1000), 4);
+    held("step", step(), 4);
+    held("run", run(0), 0);
+    lend_code(0, round, 6);
+    keep();
+    kept_word = 1000000;
+    held("run", run(1000000), 0);
+    kept_word = 0;
+    held("run", run(1000001), 7);
+}
+
+/* ---- every bit of a record turned over, one at a time: a run of 0 steps tells whether the record is good */
+static int may_turn(size_t byte, int bit) {
+    if (byte < 83) return 1;                                  /* registers, and a counter below 2^24 */
+    if (byte == 84 || byte == 86) return bit != 5 && bit != 3; /* F and F' */
+    if (byte == 85) return bit < 2 || (4 <= bit && bit < 7);   /* bank and level */
+    return 0;
+}
+
+static void record_bits(void) {
+    static const uint8_t nop[6] = {0};
+    size_t byte;
+    int bit;
+    for (byte = 0; byte < 88; byte++)
+        for (bit = 0; bit < 8; bit++) {
+            uint8_t number = may_turn(byte, bit) ? 0 : 2;
+            lend_code(0, nop, 6);
+            record.bytes[GUARD + byte] ^= (uint8_t)(1 << bit);
+            keep();
+            kept_word = 0;
+            held("run", run(0), number);
+            word[1] = 1;
+            held("run", tlcs900h_run(at(&record), 88, NULL, 0, NULL, 0, 0, &word[1]), number);
+            if (number == 0) continue;
+            held("run", run(1), number);
+            held("step", step(), number);
+        }
+}
+
+static void group(const char *name, void (*does)(void)) {
+    tried = wrong = 0;
+    noise = 0;
+    does();
+    noise = 0xFF;
+    does();
+    printf("%s: %lu tried, %lu wrong\n", name, tried, wrong);
+    if (wrong == 0 && tried > 0)
+        passed++;
+    else
+        failed++;
+}
+
+int main(void) {
+    group("constants of the header", constants);
+    group("where a bank's registers stand", bank_constants);
+    group("the numbers and their names", numbers);
+    group("reset at every length", resets);
+    group("step at every length", steps);
+    group("run at every length", runs);
+    group("show at every length", shows);
+    group("lengths of instructions, whole and cut off", lengths);
+    group("refused instructions leave the record and RAM", refusals);
+    group("constants loaded into every register of every bank", registers);
+    group("a store, F and F' exchanged, a bank chosen", changes);
+    group("a run that stops, and the longest", stops);
+    group("records with one bit turned over", record_bits);
+    printf("%u passed, %u failed\n", passed, failed);
+    return failed != 0;
+}

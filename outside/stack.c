@@ -1,0 +1,109 @@
+/*
+ * How much stack each call takes: it is called on a painted stack, and what is no longer paint was used. Every first byte of
+ * an instruction is tried with every byte behind it, and with every byte behind one, two and three others; from RAM and from
+ * ROM; with registers that point to RAM, to ROM and to neither. The header names a bound; the last line counts the calls
+ * that keep below it. For x86-64.
+ */
+#define _XOPEN_SOURCE 700
+#include <stdio.h>
+#include <string.h>
+#include <ucontext.h>
+
+#include "tlcs900h.h"
+
+enum { CASES = 256, MEMORY = 256, SPACE = 65536 };
+
+static uint8_t records[CASES][TLCS900H_RECORD], rams[CASES][MEMORY], roms[CASES][MEMORY];
+static uint8_t space[SPACE], *top; /* the painted stack; where it stood just before a call */
+static uint32_t counter, count;
+static unsigned long answers[8];
+static ucontext_t here, there;
+
+/* The stack pointer: what a call pushes for itself lies below it. */
+#define MARK() __asm__ volatile("mov %%rsp, %0" : "=r"(top))
+
+static void resets(void) {
+    MARK();
+    for (int i = 0; i < CASES; i++) answers[tlcs900h_reset(records[i], TLCS900H_RECORD, rams[i], MEMORY, roms[i], MEMORY)]++;
+}
+
+static void steps(void) {
+    MARK();
+    for (int i = 0; i < CASES; i++) answers[tlcs900h_step(records[i], TLCS900H_RECORD, rams[i], MEMORY, roms[i], MEMORY)]++;
+}
+
+static void runs(void) {
+    MARK();
+    for (int i = 0; i < CASES; i++)
+        answers[tlcs900h_run(records[i], TLCS900H_RECORD, rams[i], MEMORY, roms[i], MEMORY, 20, &count)]++;
+}
+
+static void shows(void) {
+    MARK();
+    for (int i = 0; i < CASES; i++) answers[tlcs900h_show(rams[i], MEMORY, roms[i], MEMORY, counter, &count)]++;
+}
+
+static void put(uint8_t *to, uint32_t value) {
+    for (int i = 0; i < 4; i++, value >>= 8) to[i] = (uint8_t)value;
+}
+
+/* A case for every byte `behind` bytes behind the first one. */
+static void prepare(int first, int behind, int in_rom, uint32_t pointer) {
+    counter = in_rom ? 0xFFFF10 : 0x10;
+    memset(rams, 0, sizeof rams);
+    memset(roms, 0, sizeof roms);
+    for (int i = 0; i < CASES; i++) {
+        uint8_t *code = (in_rom ? roms : rams)[i] + 0x10;
+        code[0] = (uint8_t)first;
+        code[1 + behind] = (uint8_t)i;
+        put(roms[i], counter);
+        for (int r = TLCS900H_XWA; r <= TLCS900H_XSP; r += 4) put(records[i] + r, pointer);
+        put(records[i] + TLCS900H_COUNTER, counter);
+        put(records[i] + TLCS900H_SR, i % 2 ? 0xF8D7 : 0xF800);
+    }
+}
+
+/* The bytes of stack that one round of calls takes. */
+static size_t taken(void (*call)(void), int paint) {
+    size_t clean = 0;
+    memset(space, paint, sizeof space);
+    getcontext(&there);
+    there.uc_stack.ss_sp = space;
+    there.uc_stack.ss_size = sizeof space;
+    there.uc_link = &here;
+    makecontext(&there, call, 0);
+    swapcontext(&here, &there);
+    while (space[clean] == paint) clean++;
+    return (size_t)(top - space) - clean;
+}
+
+/* The most that it takes for every kind of instruction. */
+static size_t most(void (*call)(void)) {
+    static const uint32_t pointers[] = {0x00000080, 0x00FFFF80, 0x00800000};
+    size_t deepest = 0;
+    for (int first = 0; first < 256; first++)
+        for (int round = 0; round < 24; round++) {
+            size_t bytes;
+            prepare(first, round % 4, round / 4 % 2, pointers[round / 8]);
+            bytes = taken(call, first % 2 ? 0xA5 : 0x5A);
+            if (bytes > deepest) deepest = bytes;
+        }
+    return deepest;
+}
+
+static int keeps(const char *name, void (*call)(void)) {
+    size_t bytes;
+    memset(answers, 0, sizeof answers);
+    bytes = most(call);
+    printf("%s takes %lu bytes of stack at most; it answered 0 to 6 so often:", name, (unsigned long)bytes);
+    for (int number = 0; number <= 6; number++) printf(" %lu", answers[number]);
+    printf("\n");
+    return bytes < TLCS900H_STACK && answers[0] > 0;
+}
+
+int main(void) {
+    int passed = keeps("tlcs900h_reset", resets) + keeps("tlcs900h_step", steps) + keeps("tlcs900h_run", runs) +
+                 keeps("tlcs900h_show", shows);
+    printf("%d passed, %d failed\n", passed, 4 - passed);
+    return passed != 4;
+}
