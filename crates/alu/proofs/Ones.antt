@@ -1,17 +1,16 @@
 -- The ones of a number of several parts, and their parity.
 use mathlib.Core.Path.{_≡_, refl, sym, ap, ap₂, _∙_}
-use mathlib.Core.Bool.{Bool, Bool·beq}
-use mathlib.Core.List.{[], _∷_}
+use mathlib.Core.Bool.{Bool, true, false, cond, Bool·beq}
+use mathlib.Core.List.{List, [], _∷_}
 use lib.ListN.{getD}
 use Prim.Native.Nat.{ℕ, zero, suc, _+_, _*_, _/_, _%_, _^_, _<_}
-use native.Mathlib.Nat.{zero-add, suc-add, add-assoc, add-comm, add-mod, mod-lt, div-one, zero-lt-suc, le-of-suc-le-suc, not-suc-le-zero}
+use native.Mathlib.Nat.{zero-add, add-zero, suc-add, add-suc, add-assoc, add-comm, add-mod, mod-lt, div-one, zero-lt-suc, le-of-suc-le-suc, not-suc-le-zero}
 use native.Mathlib.Numerals.{add-one, one-add}
-use lib.Dec.{T, eqb}
+use lib.Dec.{eqb}
 use lib.Bits.{bitAnd, bitXor, xor-add-and, xor-shr}
 use native.Mathlib.Omega.{arith}
 use lib.Pow.{field, mod-mod-pow, shr-shr}
 use Rattle.alu.specs.Parity.{onesOf, evenOnes}
-use Rattle.alu.proofs.Bools.{beq-eq, upto, below}
 
 -- bits above the k low ones do not count
 pub ones-low : (k x : ℕ) → onesOf k (x % 2 ^ k) ≡ onesOf k x
@@ -83,14 +82,25 @@ even-xor k a b = ap (λ (n : ℕ). eqb n 0) (ones-xor k a b) ∙ even-sum (onesO
 pub even-halves : (k x : ℕ) → evenOnes k (bitXor (x / 2 ^ k) x % 2 ^ k) ≡ evenOnes (k + k) x
 even-halves k x = even-low k (bitXor (x / 2 ^ k) x) ∙ even-xor k (x / 2 ^ k) x ∙ sym (even-cat k k x)
 
--- the entry of x in a table of bits of four rows
-abbrev pub entryIn : ℕ → ℕ → ℕ → ℕ → ℕ → Bool
-entryIn a b c d x = eqb (getD (a ∷ b ∷ c ∷ d ∷ []) (x / 64) 0 / 2 ^ (x % 64) % 2) 1
+-- the values of f at n numbers from i on
+abbrev valuesFrom : (ℕ → ℕ) → ℕ → ℕ → List ℕ
+valuesFrom f i zero = []
+valuesFrom f i (suc n) = f i ∷ valuesFrom f (suc i) n
 
--- the table's rule, by one test computed over all its entries
-abbrev pub isParity : ℕ → ℕ → ℕ → ℕ → Bool
-isParity a b c d = upto (λ (x : ℕ). Bool·beq (entryIn a b c d x) (evenOnes 8 x)) 256
+value-at : (f : ℕ → ℕ) (i n k : ℕ) → k < n → getD (valuesFrom f i n) k 0 ≡ f (i + k)
+value-at f i zero k h = absurd (not-suc-le-zero h)
+value-at f i (suc n) zero h = ap f (sym (add-zero i))
+value-at f i (suc n) (suc k) h = value-at f (suc i) n k (le-of-suc-le-suc h) ∙ ap f (suc-add i k ∙ sym (add-suc i k))
 
-pub even-entry : (a b c d x : ℕ) → x < 256 → T (isParity a b c d) → entryIn a b c d x ≡ evenOnes 8 x
-even-entry a b c d x h p =
-    beq-eq (entryIn a b c d x) (evenOnes 8 x) (below (λ (n : ℕ). Bool·beq (entryIn a b c d n) (evenOnes 8 n)) 256 p x h)
+-- the sign of a byte in the table: 49, which is '1', where its ones are even, and 48 where they are odd
+abbrev signOf : ℕ → ℕ
+signOf x = cond (evenOnes 8 x) 49 48
+
+sign-even : (b : Bool) → eqb (cond b 49 48) 49 ≡ b
+sign-even true = refl
+sign-even false = refl
+
+-- the table's rule; where it is cited, antt computes the signs of all 256 bytes and holds them against the constant
+pub even-entry : (x : ℕ) → x < 256 → eqb (getD (valuesFrom signOf 0 256) x 0) 49 ≡ evenOnes 8 x
+even-entry x h =
+    ap (λ (n : ℕ). eqb n 49) (value-at signOf 0 256 x h ∙ ap signOf (zero-add x)) ∙ sign-even (evenOnes 8 x)

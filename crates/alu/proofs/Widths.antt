@@ -5,11 +5,13 @@ use Prim.Native.Nat.{ℕ, zero, suc, _+_, _-_, _*_, _/_, _^_, _≤_, _<_, zero-l
 use native.Mathlib.Nat.{le-refl, pow-suc, not-suc-le-zero}
 use native.Mathlib.Numerals.{sub-one}
 use native.Mathlib.Omega.{arith}
-use lib.Dec.{lit<, lit≤, ltb}
+use lib.Dec.{lit<, lit≤, leb, ltb}
+use lib.Bits.{bitAnd, and-le-r}
+use borrow.Author.Tests.{le-leb, lt-leb, leb-true, leb-false}
 use Rattle.little.specs.declared.Size.{Size}
 use Rattle.little.specs.declared.Size.the-variants.{Byte, Word, Long}
 use Rattle.little.specs.Width.{bitsOf, bytesOf}
-use Rattle.alu.specs.Width.{one}
+use Rattle.alu.specs.Width.{one, negative}
 
 pub one-le : (b : Bool) → one b ≤ 1
 one-le true = le-refl 1
@@ -22,6 +24,18 @@ twice (suc j) h =
     let e : 2 ^ suc j ≡ 2 ^ j * 2 = pow-suc 2 j in
     let f : 2 ^ (suc j - 1) ≡ 2 ^ j = ap (λ (n : ℕ). 2 ^ n) (sub-one (suc j)) in
     omega arith
+
+-- what a mask of at most 32 ones leaves fits a long
+pub masked-lt : (x m : ℕ) → 0 < m → m ≤ 4294967296 → bitAnd x (m - 1) < 4294967296
+masked-lt x m p h = omega (arith, and-le-r x (m - 1))
+
+-- the top bit of x is a one where twice x reaches 2 ^ k
+pub negative-twice : (k x : ℕ) → 0 < k → leb (2 ^ k) (x * 2) ≡ negative k x
+negative-twice k x p = go (negative k x) refl
+  where
+    go : (b : Bool) → negative k x ≡ b → leb (2 ^ k) (x * 2) ≡ b
+    go true e = le-leb (2 ^ k) (x * 2) (omega (arith, twice k p, leb-true (2 ^ (k - 1)) x e))
+    go false e = lt-leb (2 ^ k) (x * 2) (omega (arith, twice k p, leb-false (2 ^ (k - 1)) x e))
 
 -- a size has bits, and at most 32
 pub bits-pos : (s : Size) → 0 < bitsOf s

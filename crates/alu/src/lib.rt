@@ -1,7 +1,7 @@
 // Arithmetic, logic and shifts of the three sizes, with their flags.
 use little::Size;
 ghost use mathlib.Core.Path.{_≡_};
-ghost use mathlib.Core.Bool.{cond, _&&_};
+ghost use mathlib.Core.Bool.{false, cond, _&&_};
 ghost use Prim.Native.Nat.{_+_, _-_, _*_, _^_, _≤_, _<_};
 ghost use lib.Dec.{leb, ltb};
 ghost use Rattle.little.specs.Width.{bitsOf};
@@ -76,16 +76,12 @@ fn top(size: Size) -> u32
     (modulus(size) / 2) as u32
 }
 
-// The low bits of x; each remainder is by a constant, so that none is a division.
+// The low bits of x: those below the modulus, by a mask, so that nothing is divided.
 fn low(size: Size, x: u64) -> u32
     ensures { λ r. ⌜ r ≡ low (bitsOf size) x ⌝ }
     ensures bounded { λ r. ⌜ r < 2 ^ bitsOf size ⌝ }
 {
-    match size {
-        Size::Byte => (x % 0x100) as u32,
-        Size::Word => (x % 0x1_0000) as u32,
-        Size::Long => (x % 0x1_0000_0000) as u32,
-    }
+    (x & (modulus(size) - 1)) as u32
 }
 
 fn negative(size: Size, x: u32) -> bool
@@ -163,7 +159,8 @@ pub fn sub(size: Size, a: u32, b: u32, carry: bool) -> Computed
 
 // ---- logic
 
-// V of logic and shifts. The ones of a word are even where those of its two bytes taken together are.
+// V of logic and shifts. The ones of a word are even where those of its two bytes taken together are. Two functions call this,
+// so that the compiler keeps the table in a function of its own, and lays it out only where it is read.
 fn parity(size: Size, x: u32) -> bool
     ensures { λ r. ⌜ r ≡ parityOf (bitsOf size) x ⌝ }
 {
@@ -174,29 +171,29 @@ fn parity(size: Size, x: u32) -> bool
     }
 }
 
-// A result whose V is its parity, with N 0.
-fn plain(size: Size, r: u32, h: bool, c: bool) -> Computed
-    ensures { λ a. ⌜ a ≡ plain (bitsOf size) r h c ⌝ }
+// A result of logic: its V is its parity, with N and C 0.
+fn plain(size: Size, r: u32, h: bool) -> Computed
+    ensures { λ a. ⌜ a ≡ plain (bitsOf size) r h false ⌝ }
 {
-    judged(size, r, h, parity(size, r), false, c)
+    judged(size, r, h, parity(size, r), false, false)
 }
 
 pub fn and(size: Size, a: u32, b: u32) -> Computed
     ensures { λ r. ⌜ r ≡ andOf (bitsOf size) a b ⌝ }
 {
-    plain(size, low(size, a as u64 & b as u64), true, false)
+    plain(size, low(size, a as u64 & b as u64), true)
 }
 
 pub fn or(size: Size, a: u32, b: u32) -> Computed
     ensures { λ r. ⌜ r ≡ orOf (bitsOf size) a b ⌝ }
 {
-    plain(size, low(size, a as u64 | b as u64), false, false)
+    plain(size, low(size, a as u64 | b as u64), false)
 }
 
 pub fn xor(size: Size, a: u32, b: u32) -> Computed
     ensures { λ r. ⌜ r ≡ xorOf (bitsOf size) a b ⌝ }
 {
-    plain(size, low(size, a as u64 ^ b as u64), false, false)
+    plain(size, low(size, a as u64 ^ b as u64), false)
 }
 
 // The eight operations on two operands, with the carry that was.
@@ -223,14 +220,15 @@ struct Shifted {
     out: bool,
 }
 
-// One place to the left.
+// One place to the left: the top bit goes out where twice x reaches the modulus. The size is asked once for both.
 fn left(size: Size, x: u32) -> Shifted
     ensures { λ r. ⌜ r ≡ leftOf (bitsOf size) x ⌝ }
 {
-    let value = low(size, x as u64 * 2);
+    let m = modulus(size);
+    let twice = x as u64 * 2;
     Shifted {
-        value,
-        out: negative(size, x),
+        value: (twice & (m - 1)) as u32,
+        out: m <= twice,
     }
 }
 
@@ -289,7 +287,8 @@ pub fn shift_by(kind: Shift, size: Size, a: u32, code: u8) -> Computed
     ensures { λ r. ⌜ r ≡ shiftOf kind (bitsOf size) a (placesOf code) ⌝ }
 {
     let t = places(kind, size, low(size, a as u64), false, places_of(code));
-    plain(size, (t % 0x1_0000_0000) as u32, false, 0x1_0000_0000 <= t)
+    let r = (t % 0x1_0000_0000) as u32;
+    judged(size, r, false, parity(size, r), false, 0x1_0000_0000 <= t)
 }
 
 // ---- INC and DEC
