@@ -2,4 +2,5 @@ pub mod Sound
 pub mod Bits
 pub mod Laws
 pub mod Valid
+pub mod Names
 mod Examples

@@ -1,3 +1,4 @@
 pub mod State
 pub mod Register
+pub mod Names
 pub mod Sound
