@@ -24,7 +24,7 @@ use Rattle.step.specs.Reset.{resetOf}
 use Rattle.run.specs.declared.Ran.{Ran}
 use Rattle.run.specs.Run.{Result, result, runOf}
 use Rattle.line.specs.Text.{digitOf, hexOf, decimalIn, decimalOf, after, lineOf}
-use Rattle.line.specs.Lines.{written, Within, emptyLine, plus, grown, counts, whereOf, registerOf, registersOf, refusedLine, ranLine, zeros, resultLine, unlessRefused, lineFor}
+use Rattle.line.specs.Lines.{written, Within, emptyLine, plus, grown, counts, whereOf, registerOf, registersOf, refusedLine, ranLine, zeros, resultLine, unlessRefused, lineFor, LineMeets}
 
 -- ---- two additions are one
 grown-joins : (l : Line) (a b : List ℕ) → grown (grown l a) b ≡ grown l (a ++ b)
@@ -256,5 +256,7 @@ for-short image = go (ltb 32768 (length image)) (resetOf zeros image .answer) (r
     go false (Refused w) r = refused-short w
     go false Done r = ran-short (r .state) (r .done) (r .answer)
 
-pub line-whole : (image : List ℕ) {r : Line} → r ≡ grown emptyLine (lineFor image) → (written r ≡ lineFor image) × Within r
-line-whole image e = subst (λ (r : Line). (written r ≡ lineFor image) × Within r) (sym e) (whole (lineFor image) (for-short image))
+pub line-whole : (image : List ℕ) {r : Line} → r ≡ grown emptyLine (lineFor image) → LineMeets image r
+line-whole image e =
+    let w = subst (λ (r : Line). (written r ≡ lineFor image) × Within r) (sym e) (whole (lineFor image) (for-short image)) in
+    (e, w .0, w .1)

@@ -23,7 +23,7 @@ use Rattle.line.specs.Text.{hexOf, decimalIn}
 use Rattle.line.specs.Statements.{Settled, ExampleLine}
 
 pub settled : Settled
-settled image r r' e f = e ∙ sym f
+settled image r r' e f = e .0 ∙ sym (f .0)
 
 pub example-line : ExampleLine
 unfolding valueOf loadOf codeAt placeOf getBits setBits slotIn setSlot slotOf registerAt setRegister zeroState resetState validOf longOf withLong withCounter withBothFlags withFlags byteOf flagsOf operated computedOf sumOf bankNumberRows bankRows flagRows constantRows stackRows jumpRows relativeRows registerFormRows absoluteRows memoryFormRows memoryAtRows storeFormRows firstRows decodeOf placesRows registerRows lookup numberAt judge pastOf effectOf executedOf flagged valueIn storing resetOf guarded onceOf tryOf goOf runOf ranLine lineFor hexOf decimalIn

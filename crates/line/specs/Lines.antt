@@ -88,3 +88,7 @@ unfoldable pub lineFor : List ℕ → List ℕ
 lineFor image =
     cond (ltb 32768 (length image)) (refusedLine TooLong)
     (unlessRefused (resetOf zeros image .answer) (resultLine (runOf 1000 (resetOf zeros image .state) zeros image)))
+
+-- what the call promises of its result r: this line, with zeros behind its end; and that its bytes can be lent
+abbrev pub LineMeets : List ℕ → Line → Type 0
+LineMeets image r = (r ≡ grown emptyLine (lineFor image)) × (written r ≡ lineFor image) × Within r

@@ -3,12 +3,12 @@ use mathlib.Core.Path.{_≡_}
 use mathlib.Core.List.{List}
 use Prim.Native.Nat.{ℕ}
 use Rattle.line.specs.declared.Line.{Line}
-use Rattle.line.specs.Lines.{emptyLine, grown, lineFor}
+use Rattle.line.specs.Lines.{lineFor, LineMeets}
 use Rattle.line.specs.Example.{exampleImage, exampleLine}
 
--- two lines that meet the statement are the same, with the bytes behind their end
+-- any two lines that meet what the call promises are the same, with the bytes behind their end
 abbrev pub Settled : Type 0
-Settled = (image : List ℕ) (r r' : Line) → r ≡ grown emptyLine (lineFor image) → r' ≡ grown emptyLine (lineFor image) → r ≡ r'
+Settled = (image : List ℕ) (r r' : Line) → LineMeets image r → LineMeets image r' → r ≡ r'
 
 -- document 01's example
 abbrev pub ExampleLine : Type 0

@@ -3,7 +3,7 @@ ghost use mathlib.Core.Path.{_≡_};
 ghost use mathlib.Core.List.{[], _∷_};
 ghost use Prim.Native.Nat.{_%_};
 ghost use Rattle.line.specs.Text.{digitOf, decimalIn, decimalOf, hexOf, after};
-ghost use Rattle.line.specs.Lines.{written, Within, emptyLine, grown, counts, whereOf, registerOf, registersOf, refusedLine, ranLine, lineFor};
+ghost use Rattle.line.specs.Lines.{emptyLine, grown, counts, whereOf, registerOf, registersOf, refusedLine, ranLine, LineMeets};
 use answer::Answer;
 use answer::Why;
 use little::Size;
@@ -122,9 +122,7 @@ fn ran(r: Ran) -> Line
 
 // Resets on an image, runs 1,000 steps with 4,096 zero bytes of RAM, and gives the line.
 pub fn for_image(image: &[u8]) -> Line
-    ensures { λ r. ⌜ r ≡ grown emptyLine (lineFor (now (image .entry))) ⌝ }
-    ensures { λ r. ⌜ written r ≡ lineFor (now (image .entry)) ⌝ }
-    ensures { λ r. ⌜ Within r ⌝ }
+    ensures { λ r. ⌜ LineMeets (now (image .entry)) r ⌝ }
 {
     if 32768 < image.len() {
         return refused(Why::TooLong);

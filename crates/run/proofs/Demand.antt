@@ -17,10 +17,9 @@ use Rattle.step.specs.Block.{roundOf}
 use Rattle.step.specs.Exec.{pastOf}
 use Rattle.run.specs.Run.{ends, goOf, runOf}
 use Rattle.run.specs.Repeat.{At, ElementsThere, TargetsInRam, Spares, EqualAt, NoneEqual, countOf, roundsOf}
-use Rattle.run.specs.Demand.{EndsAfter, GoesOnAfter, CopyRepeats, CompareFinds, CompareExhausts, NotBefore, StopsAtRefusal, StopsByStart}
+use Rattle.run.specs.Demand.{EndsAfter, GoesOnAfter, CopyRepeats, CompareFinds, CompareExhausts, NotBefore, StopsByStart}
 use Rattle.run.proofs.Laws.{go-none}
 use Rattle.run.proofs.Counts.{count-some}
-use Rattle.run.proofs.Rounds.{round-why}
 use Rattle.run.proofs.Repeats.{Clear, Goes, Ended, repeat-on, repeat-ends, repeat-refused, refused-at, run-at}
 
 -- a compare writes nothing
@@ -92,24 +91,18 @@ not-before f s ram rom n a lt there writable spared none =
       x .2 .counter,
     )
 
-pub stops-at-refusal : StopsAtRefusal
-stops-at-refusal f s ram rom n steps t m w a lt more few there writable spared none e r =
-    let z : n + suc (steps - suc n) ≡ steps = omega arith in (
-      run-at steps f s ram rom a few
-          ∙ ap (λ (k : ℕ). goOf k 0 s ram rom) (sym z)
-          ∙ repeat-refused n (steps - suc n) f s ram rom t m w a lt (record { there = there; writable = writable; spared = spared }) none e r,
-      round-why f t m rom w r,
-    )
-
 pub stops-by-start : StopsByStart
 stops-by-start f s ram rom n steps w a lt more few there writable spared none r =
     let x = repeat-on n 0 0 f s ram rom a lt (record { there = there; writable = writable; spared = spared }) none in
     let t = x .0 in
     let m = x .1 in
-    let e = x .2 .rounds in (
+    let e = x .2 .rounds in
+    let z : n + suc (steps - suc n) ≡ steps = omega arith in (
       t,
       m,
       e,
-      stops-at-refusal f s ram rom n steps t m w a lt more few there writable spared none e
-          (refused-at n 0 0 f s ram rom t m (x .2) w r) .0,
+      run-at steps f s ram rom a few
+          ∙ ap (λ (k : ℕ). goOf k 0 s ram rom) (sym z)
+          ∙ repeat-refused n (steps - suc n) f s ram rom t m w a lt (record { there = there; writable = writable; spared = spared }) none e
+          (refused-at n 0 0 f s ram rom t m (x .2) w r),
     )

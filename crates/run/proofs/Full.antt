@@ -25,7 +25,9 @@ use Rattle.code.specs.Memory.{memoryRows, copies, compares, blocks, indirectRow
 use Rattle.code.specs.Listed.{bankRows, flagRows, constantRows, stackRows, jumpRows, relativeRows, registerFormRows, absoluteRows, memoryFormRows, memoryAtRows, storeFormRows, firstRows, decodeOf}
 use Rattle.run.specs.Repeat.{At, ElementsThere, TargetsInRam, Spares, NoneEqual, countOf, passed, elementOf, targetOf}
 use Rattle.run.specs.Table.{filled, begin}
-use Rattle.run.specs.Evidence.{ldir, cpir, fullRam, fullRom, seekRom, fullCopy, fullSeek, FullMet}
+use Rattle.run.specs.Evidence.{ldir, cpir, fullRam, fullRom, seekRom, fullCopy, fullSeek, StartMet, tells}
+use Rattle.run.specs.Endings.{atCount}
+use Rattle.run.proofs.Demand.{copy-none}
 use Rattle.run.proofs.Tests.{fits, at-by}
 
 -- ---- the memories and the registers
@@ -124,16 +126,13 @@ seek-none i h q =
     let z : _≡_ {A = ℕ} 0 1 = cc in
     omega arith
 
-pub full-met : FullMet
-full-met = (
-  copy-count,
+pub copy-met : StartMet (tells ldir fullCopy fullRam fullRom atCount 65536)
+copy-met = (copy-at, rw copy-count (copy-there, copy-writable, copy-none 65536 ldir fullCopy fullRam fullRom refl), copy-count, copy-spares)
+
+pub seek-met : StartMet (tells cpir fullSeek fullRam seekRom atCount 65536)
+seek-met = (
+  seek-at,
+  rw seek-count (seek-there, (λ c. let z : _≡_ {A = ℕ} 0 1 = cc in absurd (omega arith)), seek-none),
   seek-count,
-  (
-    copy-at,
-    refl,
-    rw copy-count copy-there,
-    rw copy-count copy-writable,
-    rw copy-count copy-spares,
-  ),
-  (seek-at, refl, rw seek-count seek-there, rw seek-count seek-none),
+  λ c. let z : _≡_ {A = ℕ} 0 1 = cc in absurd (omega arith),
 )

@@ -35,7 +35,7 @@ use Rattle.run.specs.Repeat.{At, ElementsThere, TargetsInRam, Spares, Eq
 use Rattle.run.proofs.Bytes.{loaded-fits}
 use Rattle.run.proofs.Laws.{go-none, go-did, go-no, run-goes}
 use Rattle.run.proofs.Registers.{once, once-lt}
-use Rattle.run.proofs.Rounds.{Pointers, Rounded, Left, left-length, left-compare, round-leaves, ready-did, round-no-element, round-no-target, round-why, refused-not, same-did, compared-equal, copy-unequal}
+use Rattle.run.proofs.Rounds.{Pointers, Rounded, Left, left-length, left-compare, round-leaves, ready-did, round-no-element, round-no-target, refused-not, same-did, compared-equal, copy-unequal}
 use Rattle.run.proofs.Counts.{count-some, count-round, count-bc, goes-on, goes-not, rounds-none, rounds-did, rounds-no, passed-more, passed-none}
 use Rattle.run.proofs.Steps.{at-pointers, at-valid, within, step-did, step-no, at-next}
 

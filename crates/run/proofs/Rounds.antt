@@ -265,24 +265,6 @@ module _ (f : Form) (s : State) (ram rom : List ℕ) where
       )
       go x false c = (compared f (x .0) s, ram, round-compares f s ram rom (x .0) (x .1) c)
 
-  loaded-why : (a : ℕ) (z : Size) (w : Why) → loadOf ram rom a z ≡ Refused w → w ≡ why.Missing
-  unfolding loadOf
-  loaded-why a z w e = go (operandAt ram rom a z) e
-    where
-      go : (q : Place) → loadFrom q ram rom (bytesOf z) ≡ Refused w → w ≡ why.Missing
-      go (Ram o) h = let x : _≡_ {A = ℕ} 0 1 = cc in absurd (omega arith)
-      go (Rom o) h = let x : _≡_ {A = ℕ} 0 1 = cc in absurd (omega arith)
-      go Missing h = cc
-
-  stored-why : (t : State) (a : ℕ) (z : Size) (v : ℕ) (w : Why) → storing t ram rom a z v ≡ no w → (w ≡ why.Missing) ⊎ (w ≡ why.ToRom)
-  unfolding storing storeOf
-  stored-why t a z v w e = go (operandAt ram rom a z) e
-    where
-      go : (q : Place) → storedBy (storeTo q) t (ramAfter ram rom a z v) ≡ no w → (w ≡ why.Missing) ⊎ (w ≡ why.ToRom)
-      go (Ram o) h = refused-not (sym h)
-      go (Rom o) h = inr (cc)
-      go Missing h = inl (cc)
-
   -- a round whose element is missing, and a copy's whose target is not RAM
   pub round-no-element :
       placeOf (length ram) (length rom) (pointerOf s (f .from)) (bytesOf (f .size)) ≡ Missing → roundOf f s ram rom ≡ no why.Missing
@@ -304,17 +286,6 @@ module _ (f : Form) (s : State) (ram rom : List ℕ) where
   round-no-target q w c h k e =
       let x = loaded-there (pointerOf s (f .from)) (f .size) h in
       round-copies f s ram rom (x .0) (x .1) c ∙ stored-no (copied f s) (pointerOf s (f .to)) (f .size) (x .0) q w k e
-
-  pub round-why : (w : Why) → roundOf f s ram rom ≡ no w → (w ≡ why.Missing) ⊎ (w ≡ why.ToRom)
-  round-why w e = go (loadOf ram rom (pointerOf s (f .from)) (f .size)) refl (f .copies) refl
-    where
-      go : (l : Loaded) → loadOf ram rom (pointerOf s (f .from)) (f .size) ≡ l → (b : Bool) → f .copies ≡ b → (w ≡ why.Missing) ⊎ (w ≡ why.ToRom)
-      go (Refused x) h b c =
-          let y : no x ≡ no w = sym (round-refused f s ram rom x h) ∙ e in
-          let z : x ≡ w = cc in
-          inl (sym z ∙ loaded-why (pointerOf s (f .from)) (f .size) x h)
-      go (Value x) h true c = stored-why (copied f s) (pointerOf s (f .to)) (f .size) x w (sym (round-copies f s ram rom x h c) ∙ e)
-      go (Value x) h false c = refused-not (sym e ∙ round-compares f s ram rom x h c)
 
 -- ---- a compare's round is equal where A or WA equals the element
 flags-back : (s : State) (g : Flags) → flagsIn (flagged s g) ≡ g

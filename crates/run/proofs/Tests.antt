@@ -7,8 +7,8 @@ use mathlib.Core.Bool.{Bool, true, false, not, _&&_, _||_}
 use native.Mathlib.Omega.{arith}
 use lib.Dec.{T, T-not, leb, ltb, eqb, leb→le, ltb→lt, eqb→eq, eqb-refl}
 use lib.ListN.{length, getD}
+use Rattle.answer.specs.declared.Why.{Why}
 use Rattle.little.specs.Width.{bytesOf}
-use Rattle.memory.specs.Place.{placeOf}
 use Rattle.memory.specs.Access.{loadOf, codeAt}
 use Rattle.memory.specs.declared.Place.{Place}
 use Rattle.memory.specs.declared.Place.the-variants.{Ram, Rom, Missing}
@@ -26,8 +26,9 @@ use Rattle.code.specs.declared.Instruction.{Instruction}
 use Rattle.code.specs.declared.Decoded.the-variants.{Whole}
 use Rattle.step.specs.Block.{accumulator}
 use Rattle.little.specs.Bytes.{Bytes}
-use Rattle.run.specs.Repeat.{At, ElementsThere, TargetsInRam, Spares, EqualAt, NoneEqual, elementOf, targetOf, countOf}
-use Rattle.run.specs.Evidence.{CopyMet, FindMet, ExhaustMet, BeforeMet}
+use Rattle.run.specs.Repeat.{At, Spares, EqualAt, RefusedAt, elementOf, targetOf, elementPlace, countOf}
+use Rattle.run.specs.Endings.{atCount, atEqual, atRefusal, Passes}
+use Rattle.run.specs.Evidence.{StartMet, tells}
 
 and-left : (a b : Bool) → T (a && b) → T a
 and-left true b t = tt
@@ -84,35 +85,51 @@ value-not : (a : ℕ) → T (differs (Value a) a) → ⊥
 unfolding differs
 value-not a t = T-not (eqb a a) t (eqb-refl a)
 
-module _ (n : ℕ) (f : Form) (s : State) (ram rom : List ℕ) where
-  abbrev pub thereTest : ℕ → Bool
-  thereTest i = present (placeOf (length ram) (length rom) (elementOf f s i) (bytesOf (f .size)))
+-- what is asked of copies alone
+unfoldable pub only : Bool → Bool → Bool
+only c b = not c || b
 
-  pub there : T (below n thereTest) → ElementsThere n f s ram rom
-  there t i h e = missing-not (subst (λ (p : Place). T (present p)) e (below-says n thereTest t i h))
+only-says : (c b : Bool) → T (only c b) → c ≡ true → T b
+unfolding only
+only-says true b t e = t
+only-says false b t e = let z : _≡_ {A = ℕ} 0 1 = cc in absurd (omega arith)
 
-  abbrev pub noneTest : ℕ → Bool
-  noneTest i = differs (loadOf ram rom (elementOf f s i) (f .size)) (accumulator s (f .size))
-
-  pub none : T (below n noneTest) → NoneEqual n f s ram rom
-  none t i h q =
-      value-not (accumulator s (f .size))
-      (subst (λ (l : Loaded). T (differs l (accumulator s (f .size)))) (q .1) (below-says n noneTest t i h))
-
-module _ (n : ℕ) (f : Form) (s : State) (ram : List ℕ) where
-  abbrev pub writableTest : ℕ → Bool
-  writableTest i = leb (targetOf f s i + bytesOf (f .size)) (length ram)
-
-  pub writable : T (below n writableTest) → TargetsInRam n f s ram
-  writable t c i h = leb→le _ _ (below-says n writableTest t i h)
-
-module _ (n : ℕ) (f : Form) (s : State) where
+module _ (f : Form) (s : State) where
+  -- the target of a round spares the instruction's own two bytes
   abbrev pub sparedTest : ℕ → Bool
-  sparedTest i = leb (targetOf f s i + bytesOf (f .size)) (s .counter) || leb (s .counter + 2) (targetOf f s i)
+  sparedTest i = only (f .copies) (leb (targetOf f s i + bytesOf (f .size)) (s .counter) || leb (s .counter + 2) (targetOf f s i))
 
-  pub spared : T (below n sparedTest) → Spares n f s
-  spared t c i h =
-      either-le (targetOf f s i + bytesOf (f .size)) (s .counter) (s .counter + 2) (targetOf f s i) (below-says n sparedTest t i h)
+  pub spared : (n : ℕ) → T (below n sparedTest) → Spares n f s
+  spared n t c i h =
+      either-le (targetOf f s i + bytesOf (f .size)) (s .counter) (s .counter + 2) (targetOf f s i)
+      (only-says (f .copies) _ (below-says n sparedTest t i h) c)
+
+module _ (f : Form) (s : State) (ram rom : List ℕ) where
+  -- nothing ends it in a round: the element is there, the target is RAM, and it is not equal
+  abbrev thereTest : ℕ → Bool
+  thereTest i = present (elementPlace f s ram rom i)
+
+  abbrev writableTest : ℕ → Bool
+  writableTest i = only (f .copies) (leb (targetOf f s i + bytesOf (f .size)) (length ram))
+
+  abbrev noneTest : ℕ → Bool
+  noneTest i = only (not (f .copies)) (differs (loadOf ram rom (elementOf f s i) (f .size)) (accumulator s (f .size)))
+
+  abbrev pub passTest : ℕ → Bool
+  passTest i = thereTest i && (writableTest i && noneTest i)
+
+  pub passes : (n : ℕ) → T (below n passTest) → Passes n f s ram rom
+  passes n t = (
+    (λ i h e. missing-not (subst (λ (p : Place). T (present p)) e (and-left (thereTest i) _ (below-says n passTest t i h)))),
+    (λ c i h. leb→le _ _ (only-says (f .copies) _ (and-left (writableTest i) (noneTest i) (both i h)) c)),
+    λ i h q.
+        value-not (accumulator s (f .size))
+        (subst (λ (l : Loaded). T (differs l (accumulator s (f .size)))) (q .1)
+        (only-says (not (f .copies)) _ (and-right (writableTest i) (noneTest i) (both i h)) (ap not (q .0)))),
+  )
+    where
+      both : (i : ℕ) → i < n → T (writableTest i && noneTest i)
+      both i h = and-right (thereTest i) _ (below-says n passTest t i h)
 
 -- ---- the state, and the instruction at its counter
 abbrev pub soundTest : State → Bool
@@ -169,25 +186,23 @@ module _ (f : Form) (s : State) (ram rom : List ℕ) where
         repeats = again;
       }
 
-  -- ---- what each statement supposes
+  -- ---- a start that tells each ending
   module _ (t : T atTest) (v : validOf s ≡ true) (h : decodeOf (codeAt ram rom (s .counter)) ≡ Whole (block f)) (a : f .again ≡ true) where
-    pub copy-met :
-        f .copies ≡ true → T (below (countOf s) (thereTest (countOf s) f s ram rom))
-        → T (below (countOf s) (writableTest (countOf s) f s ram)) → T (below (countOf s) (sparedTest (countOf s) f s)) → CopyMet f s ram rom
-    copy-met c x y z = (at-by t v h a, c, there (countOf s) f s ram rom x, writable (countOf s) f s ram y, spared (countOf s) f s z)
+    pub count-met :
+        (n : ℕ) → countOf s ≡ n → T (below n (passTest f s ram rom)) → T (below n (sparedTest f s)) → StartMet (tells f s ram rom atCount n)
+    count-met n e x y = (at-by t v h a, subst (λ (k : ℕ). Passes k f s ram rom) (sym e) (passes f s ram rom n x), e, spared f s n y)
 
-    pub find-met :
-        (i : ℕ) → T (ltb i (countOf s)) → T (below (i + 1) (thereTest (i + 1) f s ram rom)) → T (below i (noneTest i f s ram rom))
-        → EqualAt f s ram rom i → FindMet f s ram rom i
-    find-met i l x y q = (at-by t v h a, ltb→lt i (countOf s) l, there (i + 1) f s ram rom x, none i f s ram rom y, q)
+    pub equal-met :
+        (i : ℕ) → T (ltb i (countOf s)) → T (below i (passTest f s ram rom)) → EqualAt f s ram rom i
+        → StartMet (tells f s ram rom (atEqual i) (i + 1))
+    equal-met i l x q = (
+      at-by t v h a,
+      (ltb→lt i (countOf s) l, passes f s ram rom i x, q),
+      refl,
+      λ c. let b = q .0 in let z : _≡_ {A = ℕ} 0 1 = cc in absurd (omega arith),
+    )
 
-    pub exhaust-met :
-        f .copies ≡ false → T (below (countOf s) (thereTest (countOf s) f s ram rom))
-        → T (below (countOf s) (noneTest (countOf s) f s ram rom)) → ExhaustMet f s ram rom
-    exhaust-met c x y = (at-by t v h a, c, there (countOf s) f s ram rom x, none (countOf s) f s ram rom y)
-
-    pub before-met :
-        (n : ℕ) → T (ltb n (countOf s)) → T (below n (thereTest n f s ram rom)) → T (below n (writableTest n f s ram))
-        → T (below n (sparedTest n f s)) → T (below n (noneTest n f s ram rom)) → BeforeMet f s ram rom n
-    before-met n l x y z w =
-        (at-by t v h a, ltb→lt n (countOf s) l, there n f s ram rom x, writable n f s ram y, spared n f s z, none n f s ram rom w)
+    pub refusal-met :
+        (n : ℕ) {w : Why} → T (ltb n (countOf s)) → T (below n (passTest f s ram rom)) → RefusedAt f s ram rom n w → T (below n (sparedTest f s))
+        → StartMet (tells f s ram rom (atRefusal n w) n)
+    refusal-met n l x r y = (at-by t v h a, (ltb→lt n (countOf s) l, passes f s ram rom n x, r), refl, spared f s n y)

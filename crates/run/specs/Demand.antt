@@ -1,16 +1,13 @@
 -- Demand 3: what is proved of a repeating copy or compare. Each statement is proved in proofs/Demand.antt.
-use Prim.Native.Nat.{ℕ, suc, _+_, _-_, _*_, _%_, _^_, _<_, _≤_}
+use Prim.Native.Nat.{ℕ, _+_, _<_, _≤_}
 use mathlib.Core.Path.{_≡_}
-use mathlib.Core.Logic.{_⊎_}
 use mathlib.Core.List.{List}
-use mathlib.Core.Bool.{Bool, true, false}
+use mathlib.Core.Bool.{true, false}
 use Rattle.answer.specs.declared.Answer.the-variants.{Done, Refused}
 use Rattle.answer.specs.declared.Why.{Why}
-use Rattle.answer.specs.declared.Why.the-variants.{Missing, ToRom}
 use Rattle.state.specs.declared.State.{State}
 use Rattle.code.specs.declared.Form.{Form}
-use Rattle.step.specs.Try.{did, no}
-use Rattle.step.specs.Block.{roundOf}
+use Rattle.step.specs.Try.{did}
 use Rattle.step.specs.Exec.{pastOf}
 use Rattle.run.specs.Run.{mostSteps, ends, runOf}
 use Rattle.run.specs.Repeat.{At, ElementsThere, TargetsInRam, Spares, EqualAt, NoneEqual, RefusedAt, countOf, roundsOf}
@@ -58,16 +55,8 @@ NotBefore =
     ElementsThere n f s ram rom → TargetsInRam n f s ram → Spares n f s → NoneEqual n f s ram rom →
     GoesOnAfter n f s ram rom
 
--- a round that first meets a missing element or a ROM target stops it with 5 or 6: the n earlier rounds are done, and nothing of that one
-abbrev pub StopsAtRefusal : Type 0
-StopsAtRefusal =
-    (f : Form) (s : State) (ram rom : List ℕ) (n steps : ℕ) (t : State) (m : List ℕ) (w : Why) → At f s ram rom → n < countOf s →
-    n < steps → steps ≤ mostSteps →
-    ElementsThere n f s ram rom → TargetsInRam n f s ram → Spares n f s → NoneEqual n f s ram rom →
-    roundsOf n f s ram rom ≡ did t m → roundOf f t m rom ≡ no w →
-    (runOf steps s ram rom ≡ ends n t m (Refused w)) × ((w ≡ Missing) ⊎ (w ≡ ToRom))
-
--- the same by the start alone: element n is missing, or its target is missing or ROM, and n earlier rounds are done
+-- a round that first meets a missing element, or a target that is missing or ROM, stops it with 5 or 6, told by the start alone:
+-- the n earlier rounds are done, and nothing of that one
 abbrev pub StopsByStart : Type 0
 StopsByStart =
     (f : Form) (s : State) (ram rom : List ℕ) (n steps : ℕ) (w : Why) → At f s ram rom → n < countOf s →

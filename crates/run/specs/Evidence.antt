@@ -1,52 +1,53 @@
--- Starts that meet all that demand 3 supposes, so that its statements say something; and what they say there.
-use Prim.Native.Nat.{ℕ, _+_, _<_, _≤_}
+-- Starts that meet all that demand 3 supposes, each with the ending that it tells; so the demand says something of each.
+-- Proved in proofs/Evidence.antt.
+use Prim.Native.Nat.{ℕ, _<_}
 use mathlib.Core.Path.{_≡_}
 use mathlib.Core.List.{List, [], _∷_}
 use mathlib.Core.Bool.{Bool, true, false}
 use lib.ListN.{replicate}
-use Rattle.answer.specs.declared.Why.{Why}
 use Rattle.answer.specs.declared.Why.the-variants.{Missing, ToRom}
 use Rattle.little.specs.declared.Size.{Size}
 use Rattle.little.specs.declared.Size.the-variants.{Byte, Word}
 use Rattle.state.specs.declared.State.{State}
 use Rattle.code.specs.declared.Form.{Form}
-use Rattle.step.specs.Try.{did, no}
-use Rattle.step.specs.Block.{roundOf}
-use Rattle.run.specs.Repeat.{At, ElementsThere, TargetsInRam, Spares, EqualAt, NoneEqual, countOf, roundsOf}
-use Rattle.run.specs.Demand.{EndsAfter, GoesOnAfter, StopsAfter}
-use Rattle.run.specs.Endings.{atCount, atEqual, atRefusal, Told}
-use Rattle.run.specs.Table.{begin, _▹_, A, WA, BC, XDE, XHL, XIX, Counter}
+use Rattle.run.specs.Repeat.{At, Spares}
+use Rattle.run.specs.Demand.{GoesOnAfter}
+use Rattle.run.specs.Endings.{Ending, atCount, atEqual, atRefusal, Told, roundsDone, ComesTo}
+use Rattle.run.specs.Table.{begin, _▹_, A, WA, BC, XDE, XHL, XIX, Bank, Counter}
 use Rattle.run.specs.Runs.{ldirRam, ldirStart, lddrRam, lddrStart, cpirRam, cpirStart, cpdrRam, cpdrStart}
 
--- ---- what each statement supposes
-module _ (f : Form) (s : State) (ram rom : List ℕ) where
-  -- all that CopyRepeats supposes
-  abbrev pub CopyMet : Type 0
-  CopyMet =
-      At f s ram rom × (f .copies ≡ true)
-      × ElementsThere (countOf s) f s ram rom × TargetsInRam (countOf s) f s ram × Spares (countOf s) f s
+-- ---- a start: a form, the state and the memories; the ending that they tell, and how many rounds are done by then
+pub record Start : Type 0 where
+  pub form : Form
+  pub state : State
+  pub ram : List ℕ
+  pub rom : List ℕ
+  pub ending : Ending
+  pub rounds : ℕ
 
-  -- all that CompareFinds supposes of a match at element i
-  abbrev pub FindMet : ℕ → Type 0
-  FindMet i =
-      At f s ram rom × (i < countOf s)
-      × ElementsThere (i + 1) f s ram rom × NoneEqual i f s ram rom × EqualAt f s ram rom i
+-- it meets all that the demand supposes, and tells this ending after so many rounds
+abbrev pub StartMet : Start → Type 0
+StartMet b =
+    At (b .form) (b .state) (b .ram) (b .rom)
+    × Told (b .ending) (b .form) (b .state) (b .ram) (b .rom)
+    × (roundsDone (b .ending) (b .state) ≡ b .rounds)
+    × Spares (b .rounds) (b .form) (b .state)
 
-  -- all that CompareExhausts supposes
-  abbrev pub ExhaustMet : Type 0
-  ExhaustMet =
-      At f s ram rom × (f .copies ≡ false)
-      × ElementsThere (countOf s) f s ram rom × NoneEqual (countOf s) f s ram rom
+-- its run comes to that ending, and not before
+abbrev pub StartSays : Start → Type 0
+StartSays b =
+    ComesTo (b .ending) (b .form) (b .state) (b .ram) (b .rom)
+    × ((k : ℕ) → k < b .rounds → GoesOnAfter k (b .form) (b .state) (b .ram) (b .rom))
 
-  -- all that NotBefore supposes of n steps
-  abbrev pub BeforeMet : ℕ → Type 0
-  BeforeMet n =
-      At f s ram rom × (n < countOf s)
-      × ElementsThere n f s ram rom × TargetsInRam n f s ram × Spares n f s × NoneEqual n f s ram rom
+-- something holds of each of a list
+infixr 20 _and_
+pub data OfEach (P : Start → Type 0) : List Start → Type 0 where
+  none : OfEach P []
+  _and_ : {b : Start} {bs : List Start} → P b → OfEach P bs → OfEach P (b ∷ bs)
 
-  -- all that StopsAtRefusal supposes of a refusal after n rounds
-  abbrev pub RefusalMet : ℕ → Why → Type 0
-  RefusalMet n w = BeforeMet n × ((t : State) × (m : List ℕ) × (roundsOf n f s ram rom ≡ did t m) × (roundOf f t m rom ≡ no w))
+-- a row of the table
+abbrev pub tells : Form → State → List ℕ → List ℕ → Ending → ℕ → Start
+tells f s ram rom e n = record { form = f; state = s; ram = ram; rom = rom; ending = e; rounds = n }
 
 -- ---- LDIR, LDDR, CPIR and CPDR
 -- the form of a repeating copy, and of a repeating compare
@@ -72,7 +73,7 @@ cpir = comparing Byte true 4
 abbrev pub cpdr : Form
 cpdr = comparing Word false 2
 
--- ---- small starts, those of the tables of runs
+-- ---- more starts than those of the tables of runs
 -- LDDR of four bytes down to 1, 0 and then the end of ROM, where it stands
 abbrev pub toRomRam : List ℕ
 toRomRam = 0x00 ∷ 0x00 ∷ 0x00 ∷ 0xC3 ∷ 0xC4 ∷ 0xC5 ∷ []
@@ -83,34 +84,11 @@ toRomRom = 0x83 ∷ 0x13 ∷ 0x00 ∷ 0x00 ∷ []
 abbrev pub toRomStart : State
 toRomStart = begin 0x00 ▹ XHL 5 ▹ XDE 1 ▹ BC 4 ▹ Counter 0xFFFFFC
 
--- each of these starts meets what is supposed
-abbrev pub SmallMet : Type 0
-SmallMet =
-    CopyMet ldir ldirStart ldirRam []
-    × CopyMet lddr lddrStart lddrRam []
-    × FindMet cpir (cpirStart ▹ A 0x11) cpirRam [] 0
-    × FindMet cpir (cpirStart ▹ A 0x33) cpirRam [] 2
-    × ExhaustMet cpir (cpirStart ▹ A 0x44) cpirRam []
-    × FindMet cpdr (cpdrStart ▹ WA 0x5678) cpdrRam [] 0
-    × FindMet cpdr (cpdrStart ▹ WA 0x1234) cpdrRam [] 1
-    × ExhaustMet cpdr (cpdrStart ▹ WA 0xFFFF) cpdrRam []
-    × BeforeMet ldir ldirStart ldirRam [] 2
-    × BeforeMet cpir (cpirStart ▹ A 0x33) cpirRam [] 2
-    × RefusalMet cpir (cpirStart ▹ A 0x44 ▹ XIX 5 ▹ BC 9) cpirRam [] 2 Missing
-    × RefusalMet (copying Byte false 2 3) toRomStart toRomRam toRomRom 2 ToRom
+-- CPIR at (XHL), a pointer that each bank has for itself, over 11 22 33
+abbrev pub bankRam : List ℕ
+bankRam = 0x83 ∷ 0x15 ∷ 0x00 ∷ 0x00 ∷ 0x11 ∷ 0x22 ∷ 0x33 ∷ []
 
--- and tells its ending: each ending, and each way to be refused, is told somewhere
-abbrev pub SmallTold : Type 0
-SmallTold =
-    Told atCount ldir ldirStart ldirRam []
-    × Told atCount cpir (cpirStart ▹ A 0x44) cpirRam []
-    × Told (atEqual 2) cpir (cpirStart ▹ A 0x33) cpirRam []
-    × Told (atRefusal 2 Missing) cpir (cpirStart ▹ A 0x44 ▹ XIX 5 ▹ BC 9) cpirRam []
-    × Told (atRefusal 2 ToRom) (copying Byte false 2 3) toRomStart toRomRam toRomRom
-    × Told (atRefusal 0 Missing) ldir (ldirStart ▹ XDE 0x1000) ldirRam []
-
--- ---- BC 0, with memories of 65,536 bytes
--- ROM begins with LDIR, and is copied whole to RAM
+-- BC 0, with memories of 65,536 bytes: ROM begins with LDIR, and is copied whole to RAM
 unfoldable pub fullRam : List ℕ
 fullRam = replicate 65536 0x00
 
@@ -127,26 +105,38 @@ seekRom = 0x84 ∷ 0x15 ∷ []
 unfoldable pub fullSeek : State
 fullSeek = begin 0x00 ▹ A 1 ▹ XIX 0 ▹ BC 0 ▹ Counter 0xFFFFFE
 
--- both count 65,536, and meet what is supposed
-abbrev pub FullMet : Type 0
-FullMet =
-    (countOf fullCopy ≡ 65536) × (countOf fullSeek ≡ 65536)
-    × CopyMet ldir fullCopy fullRam fullRom
-    × ExhaustMet cpir fullSeek fullRam seekRom
+-- ---- the table
+unfoldable pub evidence : List Start
+evidence =
+    -- copies end at the count: up and down, and where the target is one above the source, which is overwritten as it goes
+    tells ldir ldirStart ldirRam [] atCount 3
+    ∷ tells lddr lddrStart lddrRam [] atCount 2
+    ∷ tells ldir (ldirStart ▹ XDE 5) ldirRam [] atCount 3
+    -- compares end at the first equal element, the first of all and the last, or at the count
+    ∷ tells cpir (cpirStart ▹ A 0x11) cpirRam [] (atEqual 0) 1
+    ∷ tells cpir (cpirStart ▹ A 0x33) cpirRam [] (atEqual 2) 3
+    ∷ tells cpir (cpirStart ▹ A 0x44) cpirRam [] atCount 3
+    ∷ tells cpdr (cpdrStart ▹ WA 0x5678) cpdrRam [] (atEqual 0) 1
+    ∷ tells cpdr (cpdrStart ▹ WA 0x1234) cpdrRam [] (atEqual 1) 2
+    ∷ tells cpdr (cpdrStart ▹ WA 0xFFFF) cpdrRam [] atCount 2
+    -- refused: a compare's element is missing; a copy's element is; its target is missing; its target is ROM
+    ∷ tells cpir (cpirStart ▹ A 0x44 ▹ XIX 5 ▹ BC 9) cpirRam [] (atRefusal 2 Missing) 2
+    ∷ tells ldir (ldirStart ▹ XHL 8 ▹ XDE 2 ▹ BC 5) ldirRam [] (atRefusal 2 Missing) 2
+    ∷ tells ldir (ldirStart ▹ XDE 9) ldirRam [] (atRefusal 1 Missing) 1
+    ∷ tells (copying Byte false 2 3) toRomStart toRomRam toRomRom (atRefusal 2 ToRom) 2
+    -- each ending in another bank
+    ∷ tells ldir (begin 0x00 ▹ Bank 2 ▹ XHL 4 ▹ XDE 7 ▹ BC 3) ldirRam [] atCount 3
+    ∷ tells (comparing Byte true 3) (begin 0x00 ▹ Bank 3 ▹ A 0x33 ▹ XHL 4 ▹ BC 3) bankRam [] (atEqual 2) 3
+    ∷ tells ldir (begin 0x00 ▹ Bank 1 ▹ XHL 8 ▹ XDE 2 ▹ BC 5) ldirRam [] (atRefusal 2 Missing) 2
+    -- BC 0 is 65,536 rounds
+    ∷ tells ldir fullCopy fullRam fullRom atCount 65536
+    ∷ tells cpir fullSeek fullRam seekRom atCount 65536
+    ∷ []
 
--- ---- what demand 3 says at these starts
--- how each of these runs ends
-abbrev pub DemandSays : Type 0
-DemandSays =
-    EndsAfter 3 ldir ldirStart ldirRam []
-    × EndsAfter 2 lddr lddrStart lddrRam []
-    × EndsAfter 3 cpir (cpirStart ▹ A 0x33) cpirRam []
-    × EndsAfter 3 cpir (cpirStart ▹ A 0x44) cpirRam []
-    × EndsAfter 1 cpdr (cpdrStart ▹ WA 0x5678) cpdrRam []
-    × EndsAfter 2 cpdr (cpdrStart ▹ WA 0xFFFF) cpdrRam []
-    × EndsAfter 65536 ldir fullCopy fullRam fullRom
-    × GoesOnAfter 65535 ldir fullCopy fullRam fullRom
-    × EndsAfter 65536 cpir fullSeek fullRam seekRom
-    × GoesOnAfter 65535 cpir fullSeek fullRam seekRom
-    × StopsAfter 2 9 Missing cpir (cpirStart ▹ A 0x44 ▹ XIX 5 ▹ BC 9) cpirRam []
-    × StopsAfter 2 4 ToRom (copying Byte false 2 3) toRomStart toRomRam toRomRom
+-- each of these starts meets what is supposed
+abbrev pub EvidenceMet : Type 0
+EvidenceMet = OfEach StartMet evidence
+
+-- and so the demand says of each how its run ends
+abbrev pub EvidenceSays : Type 0
+EvidenceSays = OfEach StartSays evidence

@@ -1,5 +1,6 @@
 -- Many steps.
 use Prim.Native.Nat.{ℕ, zero, suc, _+_}
+use mathlib.Core.Path.{_≡_}
 use mathlib.Core.List.{List}
 use mathlib.Core.Bool.{cond}
 use lib.Dec.{ltb}
@@ -53,3 +54,7 @@ unfoldable pub runOf : ℕ → State → List ℕ → List ℕ → Result
 runOf n s ram rom =
     cond (ltb mostSteps n) (ends 0 s ram (Refused TooMany))
     (afterChecks (guarded s ram rom (did s ram)) s ram (goOf n 0 s ram rom))
+
+-- what the call promises of its result r, and of RAM m after it
+abbrev pub RunMeets : ℕ → State → List ℕ → List ℕ → Ran → List ℕ → Type 0
+RunMeets n s ram rom r m = result r m ≡ runOf n s ram rom

@@ -10,13 +10,13 @@ use Rattle.state.specs.declared.State.{State}
 use Rattle.step.specs.Try.{Outcome, no}
 use Rattle.step.specs.Step.{tryOf, stepOf}
 use Rattle.run.specs.declared.Ran.{Ran}
-use Rattle.run.specs.Run.{mostSteps, Result, result, ends, runOf}
+use Rattle.run.specs.Run.{mostSteps, Result, ends, runOf, RunMeets}
 
--- the statement of the call settles its full result: two answers that meet it, with the RAM after them, are the same
+-- any two results that meet what the call promises are the same, and so is RAM after them
 abbrev pub RunSettled : Type 0
 RunSettled =
     (n : ℕ) (s : State) (ram rom : List ℕ) (p q : Ran) (l m : List ℕ) →
-    result p l ≡ runOf n s ram rom → result q m ≡ runOf n s ram rom → (p ≡ q) × (l ≡ m)
+    RunMeets n s ram rom p l → RunMeets n s ram rom q m → (p ≡ q) × (l ≡ m)
 
 -- a run with n steps before it
 abbrev pub later : ℕ → Result → Result

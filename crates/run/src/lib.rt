@@ -4,7 +4,7 @@ ghost use mathlib.Core.Bool.{true, false};
 ghost use lib.ListN.{length};
 ghost use Rattle.state.specs.State.{validOf};
 ghost use Rattle.step.specs.Step.{tooLong};
-ghost use Rattle.run.specs.Run.{result, stopped, goOf, runOf};
+ghost use Rattle.run.specs.Run.{result, stopped, goOf, RunMeets};
 use answer::Answer;
 use answer::Why;
 use state::State;
@@ -67,7 +67,7 @@ fn go(s: State, ram: &mut [u8], rom: &[u8], steps: u32) -> Ran
 
 // All the steps asked for, or those before the first one refused.
 pub fn run(s: State, ram: &mut [u8], rom: &[u8], steps: u32) -> Ran
-    ensures { λ r. ⌜ result r (now (ram .exit)) ≡ runOf steps s (now (ram .entry)) (now (rom .entry)) ⌝ }
+    ensures { λ r. ⌜ RunMeets steps s (now (ram .entry)) (now (rom .entry)) r (now (ram .exit)) ⌝ }
 {
     if 1000000 < steps {
         return refuse(s, Why::TooMany);

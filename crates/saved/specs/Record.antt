@@ -1,5 +1,6 @@
 -- A saved state: one record of 88 bytes with no header.
 use Prim.Native.Nat.{ℕ, zero, suc}
+use mathlib.Core.Path.{_≡_}
 use mathlib.Core.List.{List, [], _∷_, _++_}
 use mathlib.Core.Bool.{Bool, cond, _&&_}
 use lib.ListN.{length, getD, take, drop}
@@ -35,6 +36,10 @@ saveAnswer s n = cond (canSave s n) Done (Refused Invalid)
 -- what the buffer holds after it
 unfoldable pub saveBytes : State → List ℕ → List ℕ
 saveBytes s buffer = cond (canSave s (length buffer)) (recordOf s) buffer
+
+-- what a save promises of its answer a, and of what the buffer holds after it, c
+abbrev pub SaveMeets : State → List ℕ → Answer → List ℕ → Type 0
+SaveMeets s buffer a c = (a ≡ saveAnswer s (length buffer)) × (c ≡ saveBytes s buffer)
 
 -- ---- loading
 -- the first n numbers of four bytes
@@ -72,3 +77,7 @@ refusedRecord w = record { answer = Refused w; state = zeroState }
 -- what a load gives
 unfoldable pub loadOf : List ℕ → Restored
 loadOf l = cond (isRecord l) (record { answer = Done; state = stateAt l }) (refusedRecord Invalid)
+
+-- what a load promises of its result r
+abbrev pub LoadMeets : List ℕ → Restored → Type 0
+LoadMeets l r = r ≡ loadOf l

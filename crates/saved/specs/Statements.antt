@@ -13,7 +13,7 @@ use Rattle.state.specs.State.{zeroState, validOf}
 use Rattle.state.specs.Sound.{Sound}
 use Rattle.state.specs.declared.State.{State}
 use Rattle.saved.specs.declared.Restored.{Restored}
-use Rattle.saved.specs.Record.{recordOf, saveAnswer, saveBytes, stateAt, isRecord, loadOf}
+use Rattle.saved.specs.Record.{recordOf, saveAnswer, saveBytes, SaveMeets, stateAt, isRecord, loadOf, LoadMeets}
 
 -- a saved state reads back as itself
 abbrev pub SavedReadsBack : Type 0
@@ -47,5 +47,5 @@ BadRecords = (l : List ℕ) → isRecord l ≡ false → loadOf l ≡ record { a
 -- two outcomes of a save, or of a load, that meet what it promises are the same
 abbrev pub Settled : Type 0
 Settled =
-    ((s : State) (b c d : List ℕ) (a e : Answer) → (a ≡ saveAnswer s (length b)) × (c ≡ saveBytes s b) → (e ≡ saveAnswer s (length b)) × (d ≡ saveBytes s b) → (a ≡ e) × (c ≡ d))
-    × ((l : List ℕ) (r q : Restored) → r ≡ loadOf l → q ≡ loadOf l → r ≡ q)
+    ((s : State) (b c d : List ℕ) (a e : Answer) → SaveMeets s b a c → SaveMeets s b e d → (a ≡ e) × (c ≡ d))
+    × ((l : List ℕ) (r q : Restored) → LoadMeets l r → LoadMeets l q → r ≡ q)

@@ -3,7 +3,7 @@ ghost use mathlib.Core.Path.{_≡_};
 ghost use lib.ListN.{length, take};
 ghost use Prim.Native.Nat.{_≤_};
 ghost use Rattle.saved.specs.Sr.{srOf};
-ghost use Rattle.saved.specs.Record.{longsBytes, longsAt, saveAnswer, saveBytes, srAt, stateAt, fixedAt, loadOf, refusedRecord};
+ghost use Rattle.saved.specs.Record.{longsBytes, longsAt, SaveMeets, srAt, stateAt, fixedAt, LoadMeets, refusedRecord};
 use answer::Answer;
 use answer::Why;
 use state::Bank;
@@ -40,8 +40,7 @@ fn save_longs(s: State, out: &mut [u8])
 
 // Saves a valid state into a buffer of 88 bytes; any other state or buffer is refused, and the buffer stays.
 pub fn save(s: State, out: &mut [u8]) -> Answer
-    ensures { λ r. ⌜ r ≡ saveAnswer s (length (now (out .entry))) ⌝ }
-    ensures { λ _. ⌜ now (out .exit) ≡ saveBytes s (now (out .entry)) ⌝ }
+    ensures { λ r. ⌜ SaveMeets s (now (out .entry)) r (now (out .exit)) ⌝ }
 {
     if s.valid() {
         if out.len() == 88 {
@@ -122,7 +121,7 @@ fn refuse() -> Restored
 
 // The state of a record; where the record breaks its rules, the refusal and the all-zero state.
 pub fn load(bytes: &[u8]) -> Restored
-    ensures { λ r. ⌜ r ≡ loadOf (now (bytes .entry)) ⌝ }
+    ensures { λ r. ⌜ LoadMeets (now (bytes .entry)) r ⌝ }
 {
     if bytes.len() != 88 {
         return refuse();

@@ -7,4 +7,5 @@ pub mod Rounds
 pub mod Kept
 pub mod Touched
 pub mod Statements
+pub mod Shown
 pub mod Examples

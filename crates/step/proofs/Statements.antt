@@ -1,11 +1,11 @@
 -- The statements that a user reads, proved.
 use Prim.Native.Nat.{ℕ, _-_, _<_, _≤_, _^_}
 use mathlib.Core.Path.{_≡_, refl, ap, sym, _∙_, subst}
-use mathlib.Core.List.{List, [], _++_}
+use mathlib.Core.List.{List}
 use mathlib.Core.Bool.{Bool, true, false, cond, _||_}
 use mathlib.Core.Logic.{_⊎_, inl, inr}
 use native.Mathlib.Omega.{arith}
-use lib.ListN.{length, take, drop, take-append-drop}
+use lib.ListN.{length}
 use lib.Dec.{ltb}
 use borrow.Author.Tests.{ltb-true, ltb-false, le-ltb}
 use Rattle.answer.specs.declared.Why.{Why}
@@ -32,10 +32,9 @@ use Rattle.step.specs.Try.{Try, did, no, Outcome, leaves, andThen}
 use Rattle.step.specs.Block.{moved, copied, compared, roundOf, goesOn, endsAt}
 use Rattle.step.specs.Exec.{pastOf, effectOf, executedOf}
 use Rattle.step.specs.Step.{tooLong, guarded, done, onceOf, tryOf, stepOf}
-use Rattle.step.specs.Show.{judgedOf, showAnswerOf, lengthIn, shownOf}
 use Rattle.step.specs.Reset.{resetOf, resetFrom}
 use Rattle.step.specs.Touched.{Span, none, bytes, readOf, targetOf, loadTo, readAnswer, storeAnswer, answerBy, Spares}
-use Rattle.step.specs.Statements.{_⇔_, RefusedChangesNothing, Within, Passed, RefusedWhen, KeepsValid, StoresOnlyThere, Settled, ShownStands, ResetMissing, single, RoundIsSingle}
+use Rattle.step.specs.Statements.{_⇔_, RefusedChangesNothing, Within, Passed, RefusedWhen, KeepsValid, StoresOnlyThere, Settled, ResetMissing, single, RoundIsSingle}
 use Rattle.step.proofs.Touched.{Kept, Fair}
 use Rattle.step.proofs.Kept.{valid-kept, sound-kept, spares-length, executed-fair}
 
@@ -326,7 +325,7 @@ pub settled : (s : State) (ram rom : List ℕ) (at : ℕ) → Settled s ram rom 
 settled s ram rom at =
     record {
       step = λ r q m n e f. (ap (λ (o : Outcome). given o) (e ∙ sym f), ap (λ (o : Outcome). o .ram) (e ∙ sym f));
-      show = λ a b e f. e ∙ sym f;
+      show = λ p q a b v w e f. (e .0 ∙ sym (f .0), e .1 ∙ sym (f .1));
       showAnswer = λ a b e f. e ∙ sym f;
       reset = λ r q e f. e ∙ sym f;
     }
@@ -335,17 +334,6 @@ settled s ram rom at =
 reset-at : (ram rom : List ℕ) {p : Place} → Within ram rom → placeOf (length ram) (length rom) 0xFFFF00 4 ≡ p → resetOf ram rom ≡ resetFrom (loadFrom p ram rom 4)
 unfolding resetOf
 reset-at ram rom {p} w e = rw (not-long (length ram) (length rom) (w .0) (w .1)) (ap resetFrom (load-in ram rom 0xFFFF00 Long 4 refl e))
-
-pub shown-stands : ShownStands
-unfolding showAnswerOf shownOf
-shown-stands ram rom at = go (tooLong (length ram) (length rom)) (ltb at (2 ^ 24))
-  where
-    go :
-        (b c : Bool) → cond b (Refused TooLong) (cond c (judgedOf (decodeOf (codeAt ram rom at))) (Refused Invalid)) ≡ Done →
-        (rest : List ℕ) × (cond b [] (cond c (take (lengthIn (decodeOf (codeAt ram rom at))) (codeAt ram rom at)) []) ++ rest ≡ codeAt ram rom at)
-    go true c e = let z : _≡_ {A = ℕ} 0 1 = cc in absurd (omega arith)
-    go false true e = let n = lengthIn (decodeOf (codeAt ram rom at)) in (drop n (codeAt ram rom at), take-append-drop n (codeAt ram rom at))
-    go false false e = let z : _≡_ {A = ℕ} 0 1 = cc in absurd (omega arith)
 
 pub reset-missing : ResetMissing
 reset-missing ram rom w = (

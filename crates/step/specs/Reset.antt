@@ -1,5 +1,6 @@
 -- Reset.
 use Prim.Native.Nat.{ℕ}
+use mathlib.Core.Path.{_≡_}
 use mathlib.Core.List.{List}
 use mathlib.Core.Bool.{cond}
 use lib.ListN.{length}
@@ -22,3 +23,7 @@ resetFrom (loaded.Refused w) = refusedWith zeroState w
 -- 1; then the vector, the four bytes at FFFF00H: 5 where they are missing, which is where ROM is shorter than 256 bytes
 unfoldable pub resetOf : List ℕ → List ℕ → Stepped
 resetOf ram rom = cond (tooLong (length ram) (length rom)) (refusedWith zeroState TooLong) (resetFrom (loadOf ram rom 0xFFFF00 Long))
+
+-- what the call promises of its result r
+abbrev pub ResetMeets : List ℕ → List ℕ → Stepped → Type 0
+ResetMeets ram rom r = r ≡ resetOf ram rom

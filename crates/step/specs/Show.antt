@@ -1,5 +1,6 @@
 -- An instruction's bytes, shown where they stand.
 use Prim.Native.Nat.{ℕ, _^_}
+use mathlib.Core.Path.{_≡_}
 use mathlib.Core.List.{List, []}
 use mathlib.Core.Bool.{cond}
 use lib.ListN.{length, take}
@@ -41,3 +42,10 @@ shownOf ram rom at =
 -- where they stand: in the memory that holds them; a refusal shows a part of ROM
 unfoldable pub shownFrom : List ℕ → List ℕ → ℕ → ℕ × ℕ → ℕ × ℕ → ℕ × ℕ
 shownFrom ram rom at p q = cond (eqb (length (shownOf ram rom at)) 0) q (standsAt (placeOf (length ram) (length rom) at 1) p q)
+
+-- what the calls promise: of the answer a; and of the part, its bytes b and where it stands, w, with RAM at p and ROM at q
+abbrev pub ShowAnswerMeets : List ℕ → List ℕ → ℕ → Answer → Type 0
+ShowAnswerMeets ram rom at a = a ≡ showAnswerOf ram rom at
+
+abbrev pub ShowMeets : List ℕ → List ℕ → ℕ → ℕ × ℕ → ℕ × ℕ → List ℕ → ℕ × ℕ → Type 0
+ShowMeets ram rom at p q b w = (b ≡ shownOf ram rom at) × (w ≡ shownFrom ram rom at p q)

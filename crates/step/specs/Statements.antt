@@ -1,7 +1,7 @@
 -- What a user may hold each call to. Each statement is proved in proofs/Statements.antt.
 use Prim.Native.Nat.{ℕ, _<_, _≤_, _^_}
 use mathlib.Core.Path.{_≡_}
-use mathlib.Core.List.{List, _++_}
+use mathlib.Core.List.{List, [], _++_}
 use mathlib.Core.Bool.{true, false}
 use mathlib.Core.Logic.{_⊎_}
 use lib.ListN.{length}
@@ -11,7 +11,8 @@ use Rattle.answer.specs.declared.Answer.{Answer}
 use Rattle.answer.specs.declared.Answer.the-variants.{Done, Refused}
 use Rattle.answer.specs.Number.{whyNumber}
 use Rattle.little.specs.declared.Size.{Size}
-use Rattle.memory.specs.Access.{codeAt}
+use Rattle.memory.specs.Access.{codeAt, standsAt}
+use Rattle.memory.specs.Place.{placeOf}
 use Rattle.state.specs.State.{validOf, zeroState}
 use Rattle.state.specs.Sound.{Sound}
 use Rattle.state.specs.declared.State.{State}
@@ -22,12 +23,12 @@ use Rattle.code.specs.declared.Instruction.{Instruction}
 use Rattle.code.specs.declared.Decoded.the-variants as decoded
 use Rattle.code.specs.Listed.{decodeOf}
 use Rattle.step.specs.declared.Stepped.{Stepped}
-use Rattle.step.specs.Try.{outcome, andThen, refusedWith}
+use Rattle.step.specs.Try.{andThen, refusedWith}
 use Rattle.step.specs.Block.{roundOf, endsAt}
 use Rattle.step.specs.Exec.{pastOf, effectOf}
-use Rattle.step.specs.Step.{stepOf}
-use Rattle.step.specs.Show.{shownOf, showAnswerOf}
-use Rattle.step.specs.Reset.{resetOf}
+use Rattle.step.specs.Step.{stepOf, StepMeets}
+use Rattle.step.specs.Show.{shownOf, showAnswerOf, shownFrom, ShowMeets, ShowAnswerMeets}
+use Rattle.step.specs.Reset.{resetOf, ResetMeets}
 use Rattle.step.specs.Touched.{readOf, targetOf, answerBy, Spares}
 
 infix 5 _⇔_
@@ -73,17 +74,26 @@ StoresOnlyThere =
     decodeOf (codeAt ram rom (s .counter)) ≡ decoded.Whole i →
     Spares (targetOf (i .op) (i .size) (i .operand) (pastOf (i .length) s)) ram (stepOf s ram rom .ram)
 
--- any two results that meet a call's statement are the same, and so is RAM after them
+-- any two results that meet what a call promises are the same, and so is RAM after them; a part that is shown stands in one place
 pub record Settled (s : State) (ram rom : List ℕ) (at : ℕ) : Type 0 where
-  pub step : (r q : Stepped) (m n : List ℕ) → outcome r m ≡ stepOf s ram rom → outcome q n ≡ stepOf s ram rom → (r ≡ q) × (m ≡ n)
-  pub show : (a b : List ℕ) → a ≡ shownOf ram rom at → b ≡ shownOf ram rom at → a ≡ b
-  pub showAnswer : (a b : Answer) → a ≡ showAnswerOf ram rom at → b ≡ showAnswerOf ram rom at → a ≡ b
-  pub reset : (r q : Stepped) → r ≡ resetOf ram rom → q ≡ resetOf ram rom → r ≡ q
+  pub step : (r q : Stepped) (m n : List ℕ) → StepMeets s ram rom r m → StepMeets s ram rom q n → (r ≡ q) × (m ≡ n)
+  pub show :
+      (p q : ℕ × ℕ) (a b : List ℕ) (v w : ℕ × ℕ) → ShowMeets ram rom at p q a v → ShowMeets ram rom at p q b w → (a ≡ b) × (v ≡ w)
+  pub showAnswer : (a b : Answer) → ShowAnswerMeets ram rom at a → ShowAnswerMeets ram rom at b → a ≡ b
+  pub reset : (r q : Stepped) → ResetMeets ram rom r → ResetMeets ram rom q → r ≡ q
 
--- what is shown stands at the address: the code there begins with it
+-- what is shown stands at the address: the code there begins with it, and it is a part of the memory that holds it
 abbrev pub ShownStands : Type 0
 ShownStands =
-    (ram rom : List ℕ) (at : ℕ) → showAnswerOf ram rom at ≡ Done → (rest : List ℕ) × (shownOf ram rom at ++ rest ≡ codeAt ram rom at)
+    (ram rom : List ℕ) (at : ℕ) (p q : ℕ × ℕ) → showAnswerOf ram rom at ≡ Done →
+    ((rest : List ℕ) × (shownOf ram rom at ++ rest ≡ codeAt ram rom at))
+    × (shownFrom ram rom at p q ≡ standsAt (placeOf (length ram) (length rom) at 1) p q)
+
+-- a refusal shows an empty part of ROM
+abbrev pub RefusedShowsNone : Type 0
+RefusedShowsNone =
+    (ram rom : List ℕ) (at : ℕ) (p q : ℕ × ℕ) (w : Why) → showAnswerOf ram rom at ≡ Refused w →
+    (shownOf ram rom at ≡ []) × (shownFrom ram rom at p q ≡ q)
 
 -- within the limits, reset is refused with 5 and the all-zero state exactly where ROM is shorter than 256 bytes; else it is done
 abbrev pub ResetMissing : Type 0

@@ -1,5 +1,6 @@
 -- One step: its checks in order, then the instruction at the counter.
 use Prim.Native.Nat.{ℕ, _^_}
+use mathlib.Core.Path.{_≡_}
 use mathlib.Core.List.{List}
 use mathlib.Core.Bool.{Bool, cond, _||_}
 use lib.ListN.{length}
@@ -11,7 +12,8 @@ use Rattle.code.specs.declared.Decoded.{Decoded}
 use Rattle.code.specs.declared.Decoded.the-variants as decoded
 use Rattle.state.specs.State.{validOf}
 use Rattle.state.specs.declared.State.{State}
-use Rattle.step.specs.Try.{Try, no, Outcome, leaves}
+use Rattle.step.specs.declared.Stepped.{Stepped}
+use Rattle.step.specs.Try.{Try, no, Outcome, outcome, leaves}
 use Rattle.step.specs.Exec.{executedOf}
 
 -- 1: RAM or ROM is longer than 65,536 bytes
@@ -39,3 +41,7 @@ tryOf s ram rom = guarded s ram rom (onceOf s ram rom)
 -- what a step leaves
 unfoldable pub stepOf : State → List ℕ → List ℕ → Outcome
 stepOf s ram rom = leaves s ram (tryOf s ram rom)
+
+-- what the call promises of its result r, and of RAM m after it
+abbrev pub StepMeets : State → List ℕ → List ℕ → Stepped → List ℕ → Type 0
+StepMeets s ram rom r m = outcome r m ≡ stepOf s ram rom

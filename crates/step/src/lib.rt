@@ -5,9 +5,9 @@ ghost use Rattle.memory.specs.Access.{codeAt};
 ghost use Rattle.code.specs.Listed.{decodeOf};
 ghost use Rattle.step.specs.Try.{doneWith, refusedWith, outcome, leaves};
 ghost use Rattle.step.specs.Exec.{executedOf};
-ghost use Rattle.step.specs.Step.{tooLong, onceOf, stepOf};
-ghost use Rattle.step.specs.Show.{judgedOf, lengthIn, showAnswerOf, shownOf, shownFrom};
-ghost use Rattle.step.specs.Reset.{resetOf};
+ghost use Rattle.step.specs.Step.{tooLong, onceOf, StepMeets};
+ghost use Rattle.step.specs.Show.{judgedOf, lengthIn, ShowAnswerMeets, ShowMeets};
+ghost use Rattle.step.specs.Reset.{ResetMeets};
 use answer::Answer;
 use answer::Why;
 use code::Decoded;
@@ -90,7 +90,7 @@ pub fn too_long(ram_len: usize, rom_len: usize) -> bool
 
 // One step, with all its checks.
 pub fn step(s: State, ram: &mut [u8], rom: &[u8]) -> Stepped
-    ensures { λ r. ⌜ outcome r (now (ram .exit)) ≡ stepOf s (now (ram .entry)) (now (rom .entry)) ⌝ }
+    ensures { λ r. ⌜ StepMeets s (now (ram .entry)) (now (rom .entry)) r (now (ram .exit)) ⌝ }
 {
     if too_long(ram.len(), rom.len()) {
         return refuse(s, Why::TooLong);
@@ -113,7 +113,7 @@ fn judged(d: Decoded) -> Answer
 
 // Whether there is an instruction to show at an address.
 pub fn show_answer<'a>(ram: &'a [u8], rom: &'a [u8], at: u32) -> Answer
-    ensures { λ r. ⌜ r ≡ showAnswerOf (now (ram .entry)) (now (rom .entry)) at ⌝ }
+    ensures { λ r. ⌜ ShowAnswerMeets (now (ram .entry)) (now (rom .entry)) at r ⌝ }
 {
     if too_long(ram.len(), rom.len()) {
         return Answer::Refused(Why::TooLong);
@@ -136,8 +136,7 @@ fn length_in(code: &[u8]) -> usize
 
 // The bytes of the instruction at an address, as a part of the memory that holds them; none where it is refused.
 pub fn show<'a>(ram: &'a [u8], rom: &'a [u8], at: u32) -> &'a [u8]
-    ensures { λ r. ⌜ now r ≡ shownOf (now (ram .entry)) (now (rom .entry)) at ⌝ }
-    ensures { λ r. ⌜ ptr r ≡ shownFrom (now (ram .entry)) (now (rom .entry)) at (ptr (ram .entry)) (ptr (rom .entry)) ⌝ }
+    ensures { λ r. ⌜ ShowMeets (now (ram .entry)) (now (rom .entry)) at (ptr (ram .entry)) (ptr (rom .entry)) (now r) (ptr r) ⌝ }
 {
     if too_long(ram.len(), rom.len()) {
         return &rom[..0];
@@ -154,7 +153,7 @@ pub fn show<'a>(ram: &'a [u8], rom: &'a [u8], at: u32) -> &'a [u8]
 }
 
 pub fn reset(ram: &[u8], rom: &[u8]) -> Stepped
-    ensures { λ r. ⌜ r ≡ resetOf (now (ram .entry)) (now (rom .entry)) ⌝ }
+    ensures { λ r. ⌜ ResetMeets (now (ram .entry)) (now (rom .entry)) r ⌝ }
 {
     if too_long(ram.len(), rom.len()) {
         return refuse(State::zero(), Why::TooLong);

@@ -12,7 +12,7 @@ returns : tie.Need-returns
 returns c =
     let image = c .before .before .before .args .image .now in
     let e = c .refused .ensures ∙ ap (grown emptyLine) (sym (for-long image (c .before .if1 .taken))) in
-    (e, line-whole image e)
+    line-whole image e
 
 slice-aggregate-ram : tie.Need-slice-aggregate-ram
 slice-aggregate-ram c = search needs
@@ -30,7 +30,7 @@ returns-2 : tie.Need-returns-2
 returns-2 c =
     let image = c .before .before .before .before .before .before .before .before .before .before .args .image .now in
     let e = c .refused2 .ensures ∙ ap (grown emptyLine) (sym (for-stops image (c .before .before .before .before .before .before .before .before .if1 .left) (c .before .before .before .before .before .reset .result) (c .before .before .before .before .before .reset .ensures) (c .before .before .before .a .given .0 .0) (c .before .before .before .a .given .1))) in
-    (e, line-whole image e)
+    line-whole image e
 
 enum-told : tie.Need-enum-told
 enum-told c = search needs
@@ -45,7 +45,7 @@ returns-3 : tie.Need-returns-3
 returns-3 c =
     let image = c .before .before .before .before .before .before .before .before .before .before .args .image .now in
     let e = c .ran .ensures ∙ ap (grown emptyLine) (sym (for-ran image (c .before .before .before .before .before .before .before .before .if1 .left) (c .before .before .before .before .before .reset .result) (c .before .before .before .before .before .reset .ensures) (c .before .before .run .result) (c .before .before .run .last .1 .0) (c .before .before .before .enum-told .given .1) (c .before .before .run .ensures))) in
-    (e, line-whole image e)
+    line-whole image e
 
 pub for-image-spec : {M : Type 1} → statement M
 for-image-spec =
