@@ -17,20 +17,21 @@ use Rattle.memory.specs.Access as access
 use Rattle.memory.specs.declared.Loaded.{Loaded}
 use Rattle.memory.specs.declared.Loaded.the-variants as loaded
 use Rattle.state.specs.State.{validOf, zeroState}
+use Rattle.state.specs.Sound.{Sound}
 use Rattle.state.specs.declared.State.{State}
 use Rattle.state.proofs.Valid.{Valid, valid-says, valid-from, valid-reset, and-true}
 use Rattle.saved.specs.declared.Restored.{Restored}
 use Rattle.saved.specs.Record.{recordOf, saveAnswer, saveBytes, stateAt, fixedAt, isRecord, loadOf, refusedRecord}
 use Rattle.step.specs.declared.Stepped.{Stepped}
 use Rattle.step.specs.Try.{Try, did, no, Outcome, leaves, refusedWith}
-use Rattle.step.specs.Step.{tooLong, guarded, onceOf, tryOf, stepOf}
+use Rattle.step.specs.Step.{tooLong, guarded, tryOf, stepOf}
 use Rattle.step.specs.Reset.{resetFrom, resetOf}
-use Rattle.step.proofs.Kept.{Keeps, keeps-once}
+use Rattle.step.proofs.Statements.{keeps-valid}
 use Rattle.run.specs.declared.Ran.{Ran}
 use Rattle.run.specs.Run.{Result, result, ends, afterChecks, goOf, runOf}
 use Rattle.run.proofs.Laws.{go-did, go-no}
 use Rattle.run.proofs.Joins.{one-step-run}
-use Rattle.module.specs.Calls.{left, roomAnswer, whereDone, resetAnswer, resetBytes, openedOf, stepLeft, runLeft, runDone}
+use Rattle.module.specs.Calls.{roomAnswer, whereDone, resetAnswer, resetBytes, openedOf, stepLeft, runLeft, runDone, CResetMeets, CStepMeets, CRunMeets}
 
 -- ---- the states that are written are valid
 zero-valid : Valid zeroState
@@ -46,42 +47,51 @@ reset-valid ram rom = go (tooLong (length ram) (length rom)) (access.loadOf ram 
     go false (loaded.Value v) = valid-reset v
     go false (loaded.Refused w) = zero-valid
 
-module _ (s : State) (ram rom : List ℕ) (ok : Valid s) where
-  keeps-try : Keeps ram (tryOf s ram rom)
-  unfolding Keeps tryOf guarded
-  keeps-try = go (tooLong (length ram) (length rom)) (validOf s)
+-- what every accepted step keeps, every step and every run keep
+module _ (P : State → Type 0) (kept : (s : State) (ram rom : List ℕ) (t : State) (m : List ℕ) → tryOf s ram rom ≡ did t m → P s → P t) where
+  step-keeps : (s : State) (ram rom : List ℕ) → P s → P (stepOf s ram rom .state)
+  unfolding stepOf
+  step-keeps s ram rom ok = go (tryOf s ram rom) refl
     where
-      go : (b v : Bool) → Keeps ram (cond b (no TooLong) (cond v (onceOf s ram rom) (no Invalid)))
-      go true v = tt
-      go false true = keeps-once ram rom s ok
-      go false false = tt
+      go : (t : Try) → tryOf s ram rom ≡ t → P (leaves s ram t .state)
+      go (did u m) e = kept s ram rom u m e ok
+      go (no w) e = ok
 
-  step-valid : Valid (stepOf s ram rom .state)
-  unfolding stepOf Keeps
-  step-valid = go (tryOf s ram rom) keeps-try
+  go-keeps : (n d : ℕ) (s : State) (ram rom : List ℕ) → P s → P (goOf n d s ram rom .state)
+  unfolding goOf
+  go-keeps zero d s ram rom ok = ok
+  go-keeps (suc n) d s ram rom ok = go (tryOf s ram rom) refl (λ u m v. go-keeps n (d + 1) u m rom v)
     where
-      go : (t : Try) → Keeps ram t → Valid (leaves s ram t .state)
-      go (did u m) k = k .0
-      go (no w) k = ok
+      go : (t : Try) → tryOf s ram rom ≡ t → ((u : State) (m : List ℕ) → P u → P (goOf n (d + 1) u m rom .state)) → P (goOf (suc n) d s ram rom .state)
+      go (did u m) e later = subst (λ (r : Result). P (r .state)) (sym (go-did n d s ram rom u m e)) (later u m (kept s ram rom u m e ok))
+      go (no w) e later = subst (λ (r : Result). P (r .state)) (sym (go-no n d s ram rom w e)) ok
 
-go-valid : (n d : ℕ) (s : State) (ram rom : List ℕ) → Valid s → Valid (goOf n d s ram rom .state)
-unfolding goOf Keeps
-go-valid zero d s ram rom ok = ok
-go-valid (suc n) d s ram rom ok = go (tryOf s ram rom) refl (keeps-try s ram rom ok) (λ u m v. go-valid n (d + 1) u m rom v)
-  where
-    go : (t : Try) → tryOf s ram rom ≡ t → Keeps ram t →
-        ((u : State) (m : List ℕ) → Valid u → Valid (goOf n (d + 1) u m rom .state)) → Valid (goOf (suc n) d s ram rom .state)
-    go (did u m) e k later = subst (λ (r : Result). Valid (r .state)) (sym (go-did n d s ram rom u m e)) (later u m (k .0))
-    go (no w) e k later = subst (λ (r : Result). Valid (r .state)) (sym (go-no n d s ram rom w e)) ok
+  run-keeps : (n : ℕ) (s : State) (ram rom : List ℕ) → P s → P (runOf n s ram rom .state)
+  unfolding runOf
+  run-keeps n s ram rom ok = go (ltb 1000000 n) (guarded s ram rom (did s ram))
+    where
+      go : (b : Bool) (t : Try) → P (cond b (ends 0 s ram (Refused TooMany)) (afterChecks t s ram (goOf n 0 s ram rom)) .state)
+      go true t = ok
+      go false (did u m) = go-keeps n 0 s ram rom ok
+      go false (no w) = ok
 
-run-valid : (n : ℕ) (s : State) (ram rom : List ℕ) → Valid s → Valid (runOf n s ram rom .state)
-unfolding runOf
-run-valid n s ram rom ok = go (ltb 1000000 n) (guarded s ram rom (did s ram))
-  where
-    go : (b : Bool) (t : Try) → Valid (cond b (ends 0 s ram (Refused TooMany)) (afterChecks t s ram (goOf n 0 s ram rom)) .state)
-    go true t = ok
-    go false (did u m) = go-valid n 0 s ram rom ok
-    go false (no w) = ok
+try-keeps : (s : State) (ram rom : List ℕ) (t : State) (m : List ℕ) → tryOf s ram rom ≡ did t m → Valid t × (Sound s → Sound t)
+unfolding stepOf
+try-keeps s ram rom t m e =
+    let f : stepOf s ram rom ≡ leaves s ram (did t m) = ap (leaves s ram) e in
+    let k = keeps-valid s ram rom (ap (λ (o : Outcome). o .answer) f) in (
+      subst (λ (o : Outcome). Valid (o .state)) f (valid-says _ (k .0)),
+      λ ok. subst (λ (o : Outcome). Sound (o .state)) f (k .2 ok),
+    )
+
+step-valid : (s : State) (ram rom : List ℕ) → Valid s → Valid (stepOf s ram rom .state)
+step-valid = step-keeps Valid (λ s ram rom t m e ok. try-keeps s ram rom t m e .0)
+
+pub run-valid : (n : ℕ) (s : State) (ram rom : List ℕ) → Valid s → Valid (runOf n s ram rom .state)
+run-valid = run-keeps Valid (λ s ram rom t m e ok. try-keeps s ram rom t m e .0)
+
+pub run-sound : (n : ℕ) (s : State) (ram rom : List ℕ) → Sound s → Sound (runOf n s ram rom .state)
+run-sound = run-keeps Sound (λ s ram rom t m e ok. try-keeps s ram rom t m e .1 ok)
 
 -- ---- a record that is opened
 load-done : (b : List ℕ) → loadOf b .answer ≡ Done → Valid (loadOf b .state) × (length b ≡ 88)
@@ -125,15 +135,14 @@ opened-loads b m n h = rw h refl
 
 -- ---- reset
 module _ (b ram rom : List ℕ) (r : Stepped) (is : r ≡ resetOf ram rom) where
-  pub reset-stops : {n : ℕ} (w : Why) → r .answer ≡ Refused w → n ≡ whyNumber w →
-      (n ≡ numberOf (resetAnswer (length b) ram rom)) × (b ≡ resetBytes b ram rom)
+  pub reset-stops : {n : ℕ} (w : Why) → r .answer ≡ Refused w → n ≡ whyNumber w → CResetMeets b ram rom n b
   unfolding resetAnswer resetBytes
   reset-stops w a e =
       let f : resetOf ram rom .answer ≡ Refused w = ap (λ (x : Stepped). x .answer) (sym is) ∙ a in
       (rw (f, e) refl, rw f refl)
 
   pub reset-saves : {n : ℕ} {x : Answer} {b' : List ℕ} → r .answer ≡ Done → x ≡ saveAnswer (r .state) (length b) → b' ≡ saveBytes (r .state) b →
-      n ≡ numberOf x → (n ≡ numberOf (resetAnswer (length b) ram rom)) × (b' ≡ resetBytes b ram rom)
+      n ≡ numberOf x → CResetMeets b ram rom n b'
   unfolding resetAnswer resetBytes
   reset-saves a e g h =
       let f : resetOf ram rom .answer ≡ Done = ap (λ (y : Stepped). y .answer) (sym is) ∙ a in
@@ -156,7 +165,7 @@ module _ (b ram rom : List ℕ) (o : Restored) (is : o ≡ openedOf b (length ra
   opened-answer : {a : Answer} → o .answer ≡ a → openedOf b (length ram) (length rom) .answer ≡ a
   opened-answer e = ap (λ (x : Restored). x .answer) (sym is) ∙ e
 
-  pub step-stops : {n : ℕ} (w : Why) → o .answer ≡ Refused w → n ≡ whyNumber w → left n b ram ≡ stepLeft b ram rom
+  pub step-stops : {n : ℕ} (w : Why) → o .answer ≡ Refused w → n ≡ whyNumber w → CStepMeets b ram rom n b ram
   unfolding stepLeft
   step-stops w a e = rw (opened-answer a, e) refl
 
@@ -164,12 +173,12 @@ module _ (b ram rom : List ℕ) (o : Restored) (is : o ≡ openedOf b (length ra
     here : uncounted (result r m) ≡ stepOf (openedOf b (length ram) (length rom) .state) ram rom
     here = ap uncounted e ∙ run-of-one (o .state) ram rom ∙ ap (λ (x : Restored). stepOf (x .state) ram rom) is
 
-    pub step-no : {n : ℕ} (w : Why) → r .answer ≡ Refused w → n ≡ whyNumber w → left n b m ≡ stepLeft b ram rom
+    pub step-no : {n : ℕ} (w : Why) → r .answer ≡ Refused w → n ≡ whyNumber w → CStepMeets b ram rom n b m
     unfolding stepLeft
     step-no w a f = rw (opened-answer good, sym here, a, f) refl
 
     pub step-did : {n : ℕ} {x : Answer} {b' : List ℕ} → r .answer ≡ Done → x ≡ saveAnswer (r .state) (length b) → b' ≡ saveBytes (r .state) b →
-        n ≡ numberOf x → left n b' m ≡ stepLeft b ram rom
+        n ≡ numberOf x → CStepMeets b ram rom n b' m
     unfolding stepLeft
     step-did a f g h =
         let v = opened-done b (length ram) (length rom) (opened-answer good) in
@@ -179,19 +188,19 @@ module _ (b ram rom : List ℕ) (o : Restored) (is : o ≡ openedOf b (length ra
 
 -- ---- many steps
 module _ (n : ℕ) (b ram rom : List ℕ) where
-  pub run-many : {k : ℕ} → 1000000 < n → k ≡ whyNumber TooMany → (left k b ram ≡ runLeft n b ram rom) × (0 ≡ runDone n b ram rom)
+  pub run-many : {k : ℕ} → 1000000 < n → k ≡ whyNumber TooMany → CRunMeets n b ram rom k b ram 0
   unfolding runLeft runDone
   run-many h e = (rw (lt-ltb 1000000 n h, e) refl, rw (lt-ltb 1000000 n h) refl)
 
   module _ (few : n ≤ 1000000) (o : Restored) (is : o ≡ openedOf b (length ram) (length rom)) where
-    pub run-stops : {k : ℕ} (w : Why) → o .answer ≡ Refused w → k ≡ whyNumber w → (left k b ram ≡ runLeft n b ram rom) × (0 ≡ runDone n b ram rom)
+    pub run-stops : {k : ℕ} (w : Why) → o .answer ≡ Refused w → k ≡ whyNumber w → CRunMeets n b ram rom k b ram 0
     unfolding runLeft runDone
     run-stops w a e =
         let f = opened-answer b ram rom o is a in
         (rw (le-ltb 1000000 n few, f, e) refl, rw (le-ltb 1000000 n few, f) refl)
 
     pub run-ran : {k : ℕ} {b' : List ℕ} (r : Ran) (m : List ℕ) → o .answer ≡ Done → result r m ≡ runOf n (o .state) ram rom → b' ≡ saveBytes (r .state) b →
-        k ≡ numberOf (r .answer) → (left k b' m ≡ runLeft n b ram rom) × (r .done ≡ runDone n b ram rom)
+        k ≡ numberOf (r .answer) → CRunMeets n b ram rom k b' m (r .done)
     unfolding runLeft runDone
     run-ran r m a e g h =
         let f = opened-answer b ram rom o is a in

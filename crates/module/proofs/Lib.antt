@@ -1,2 +1,4 @@
 pub mod Laws
+pub mod Records
 pub mod Settled
+pub mod Demand

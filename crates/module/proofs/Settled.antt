@@ -6,19 +6,20 @@ use mathlib.Core.Bool.{Bool, true, false, cond}
 use native.Mathlib.Omega.{arith}
 use lib.ListN.{length}
 use lib.Dec.{ltb}
+use borrow.Author.Tests.{ltb-true, ltb-false}
 use Rattle.answer.specs.declared.Answer.{Answer}
 use Rattle.answer.specs.declared.Answer.the-variants.{Done, Refused}
-use Rattle.answer.specs.declared.Why.the-variants.{TooMany, TooLong, Invalid}
+use Rattle.answer.specs.declared.Why.the-variants.{TooMany}
 use Rattle.state.specs.declared.State.{State}
-use Rattle.saved.specs.Record.{recordOf, stateAt, isRecord, loadOf, refusedRecord}
-use Rattle.little.specs.Bytes.{Bytes}
-use Rattle.saved.proofs.RoundTrip.{read-saves-back}
+use Rattle.saved.specs.Record.{recordOf}
 use Rattle.step.specs.Try.{Try, did, no, leaves}
-use Rattle.step.specs.Step.{tooLong, guarded, tryOf, stepOf}
+use Rattle.step.specs.Step.{guarded, tryOf, stepOf}
 use Rattle.run.specs.Run.{Result, ends, afterChecks, goOf, runOf}
 use Rattle.run.proofs.Laws.{go-none, go-did, go-no}
-use Rattle.module.specs.Calls.{Left, openedOf, unless, doneWhere, ranLeft, stepped, stepLeft, runOpened, runLeft, runDone}
+use Rattle.module.specs.Calls.{Left, openedOf, unless, stepped, stepLeft, runLeft, CRunMeets}
 use Rattle.module.specs.Statements.{Settled, StepRefusedKeeps, RunNothingKeeps}
+use Rattle.module.proofs.Laws.{run-many}
+use Rattle.module.proofs.Records.{Start, shut, starts, start, meets}
 
 pub settled : Settled
 settled = (
@@ -73,27 +74,19 @@ run-nothing n s ram rom h = go (ltb 1000000 n) (guarded s ram rom (did s ram)) h
     go false (did u m) f = go-nothing n s ram rom f
     go false (no w) f = (refl, refl)
 
--- ---- a record that is opened is written again as itself
-opened-back : (n : ℕ) (b ram rom : List ℕ) → Bytes b → runOpened n b ram rom .answer ≡ Done → recordOf (runOpened n b ram rom .state) ≡ b
-unfolding openedOf loadOf
-opened-back n b ram rom bytes h = go (ltb 1000000 n) (tooLong (length ram) (length rom)) (isRecord b) refl h
-  where
-    go : (x y z : Bool) → isRecord b ≡ z →
-        cond x (refusedRecord TooMany) (cond y (refusedRecord TooLong) (cond z (record { answer = Done; state = stateAt b }) (refusedRecord Invalid))) .answer ≡ Done →
-        recordOf (cond x (refusedRecord TooMany) (cond y (refusedRecord TooLong) (cond z (record { answer = Done; state = stateAt b }) (refusedRecord Invalid))) .state) ≡ b
-    go false false true e f = read-saves-back b bytes e
-    go false false false e f = let k : _≡_ {A = ℕ} 0 1 = cc in absurd (omega arith)
-    go false true z e f = let k : _≡_ {A = ℕ} 0 1 = cc in absurd (omega arith)
-    go true y z e f = let k : _≡_ {A = ℕ} 0 1 = cc in absurd (omega arith)
-
 pub run-nothing-keeps : RunNothingKeeps
-unfolding runLeft runDone
-run-nothing-keeps n bytes ram rom ok h =
-    let o = runOpened n bytes ram rom in
-    go (o .answer) (runOf n (o .state) ram rom) (λ e. opened-back n bytes ram rom ok e) (λ f. run-nothing n (o .state) ram rom f) h refl
+run-nothing-keeps n b ram rom ok h = go (start b ram rom ok) (ltb 1000000 n) refl
   where
-    go : (a : Answer) (r : Result) → (runOpened n bytes ram rom .answer ≡ Done → recordOf (runOpened n bytes ram rom .state) ≡ bytes) →
-        (r .done ≡ 0 → Same (runOpened n bytes ram rom .state) ram r) → doneWhere a (r .done) ≡ 0 → runOpened n bytes ram rom .answer ≡ a →
-        (unless a bytes ram (ranLeft r) .bytes ≡ bytes) × (unless a bytes ram (ranLeft r) .ram ≡ ram)
-    go (Refused w) r back same f e = (refl, refl)
-    go Done r back same f e = (ap recordOf (same f .0) ∙ back e, same f .1)
+    Kept : Type 0
+    Kept = (runLeft n b ram rom .bytes ≡ b) × (runLeft n b ram rom .ram ≡ ram)
+
+    left-so : (k d : ℕ) → CRunMeets n b ram rom k b ram d → Kept
+    left-so k d m = (sym (ap (λ (l : Left). l .bytes) (m .0)), sym (ap (λ (l : Left). l .ram) (m .0)))
+
+    go : Start b ram rom → (x : Bool) → ltb 1000000 n ≡ x → Kept
+    go t true e = left-so _ _ (run-many n b ram rom (ltb-true 1000000 n e) refl)
+    go (shut w f) false e = left-so _ _ (f n (ltb-false 1000000 n e))
+    go (starts s o) false e =
+        let m = meets n b ram rom s o in
+        let same = run-nothing n s ram rom (m .1 ∙ h) in
+        (sym (ap (λ (l : Left). l .bytes) (m .0)) ∙ ap recordOf (same .0) ∙ o .back, sym (ap (λ (l : Left). l .ram) (m .0)) ∙ same .1)

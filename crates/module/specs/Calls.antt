@@ -1,5 +1,6 @@
 -- What each call answers and leaves, over the bytes of a saved record.
 use Prim.Native.Nat.{ℕ}
+use mathlib.Core.Path.{_≡_}
 use mathlib.Core.List.{List}
 use mathlib.Core.Bool.{cond}
 use lib.ListN.{length}
@@ -97,3 +98,18 @@ doneWhere (Refused w) d = 0
 unfoldable pub runDone : ℕ → List ℕ → List ℕ → List ℕ → ℕ
 runDone n bytes ram rom =
     doneWhere (runOpened n bytes ram rom .answer) (runOf n (runOpened n bytes ram rom .state) ram rom .done)
+
+-- ---- the promise of each call, of its number and of what it leaves
+-- reset: number, and the bytes b of the record afterwards
+abbrev pub CResetMeets : List ℕ → List ℕ → List ℕ → ℕ → List ℕ → Type 0
+CResetMeets bytes ram rom number b =
+    (number ≡ numberOf (resetAnswer (length bytes) ram rom)) × (b ≡ resetBytes bytes ram rom)
+
+-- step: number, record b and RAM m afterwards
+abbrev pub CStepMeets : List ℕ → List ℕ → List ℕ → ℕ → List ℕ → List ℕ → Type 0
+CStepMeets bytes ram rom number b m = left number b m ≡ stepLeft bytes ram rom
+
+-- run: the same, and the count of steps done
+abbrev pub CRunMeets : ℕ → List ℕ → List ℕ → List ℕ → ℕ → List ℕ → List ℕ → ℕ → Type 0
+CRunMeets steps bytes ram rom number b m done =
+    (left number b m ≡ runLeft steps bytes ram rom) × (done ≡ runDone steps bytes ram rom)

@@ -1,8 +1,6 @@
 // What C and Rust call. A state crosses as its saved record of 88 bytes, an answer as its number, and nothing is kept between calls.
 ghost use mathlib.Core.Path.{_≡_};
-ghost use lib.ListN.{length};
-ghost use Rattle.answer.specs.Number.{numberOf};
-ghost use Rattle.module.specs.Calls.{left, openedOf, resetAnswer, resetBytes, stepLeft, runLeft, runDone};
+ghost use Rattle.module.specs.Calls.{openedOf, CResetMeets, CStepMeets, CRunMeets};
 use answer::Answer;
 use answer::Why;
 use saved::Restored;
@@ -24,8 +22,7 @@ fn opened(bytes: &[u8], ram_len: usize, rom_len: usize) -> Restored
 // Writes the record of the reset state.
 #[no_mangle]
 pub extern "C" fn tlcs900h_reset(bytes: &mut [u8], ram: &[u8], rom: &[u8]) -> u8
-    ensures { λ r. ⌜ r ≡ numberOf (resetAnswer (length (now (bytes .entry))) (now (ram .entry)) (now (rom .entry))) ⌝ }
-    ensures { λ _. ⌜ now (bytes .exit) ≡ resetBytes (now (bytes .entry)) (now (ram .entry)) (now (rom .entry)) ⌝ }
+    ensures { λ r. ⌜ CResetMeets (now (bytes .entry)) (now (ram .entry)) (now (rom .entry)) r (now (bytes .exit)) ⌝ }
 {
     let s = step::reset(ram, rom);
     let a = s.answer;
@@ -38,7 +35,7 @@ pub extern "C" fn tlcs900h_reset(bytes: &mut [u8], ram: &[u8], rom: &[u8]) -> u8
 // One step of the state that the record holds, by a run of one. A refusal leaves the record and RAM as they were.
 #[no_mangle]
 pub extern "C" fn tlcs900h_step(bytes: &mut [u8], ram: &mut [u8], rom: &[u8]) -> u8
-    ensures { λ r. ⌜ left r (now (bytes .exit)) (now (ram .exit)) ≡ stepLeft (now (bytes .entry)) (now (ram .entry)) (now (rom .entry)) ⌝ }
+    ensures { λ r. ⌜ CStepMeets (now (bytes .entry)) (now (ram .entry)) (now (rom .entry)) r (now (bytes .exit)) (now (ram .exit)) ⌝ }
 {
     let o = opened(&*bytes, ram.len(), rom.len());
     let a = o.answer;
@@ -62,8 +59,7 @@ pub extern "C" fn tlcs900h_run(
     steps: u32,
     done: &mut u32,
 ) -> u8
-    ensures { λ r. ⌜ left r (now (bytes .exit)) (now (ram .exit)) ≡ runLeft steps (now (bytes .entry)) (now (ram .entry)) (now (rom .entry)) ⌝ }
-    ensures { λ _. ⌜ now (done .exit) ≡ runDone steps (now (bytes .entry)) (now (ram .entry)) (now (rom .entry)) ⌝ }
+    ensures { λ r. ⌜ CRunMeets steps (now (bytes .entry)) (now (ram .entry)) (now (rom .entry)) r (now (bytes .exit)) (now (ram .exit)) (now (done .exit)) ⌝ }
 {
     *done = 0;
     if 1000000 < steps {

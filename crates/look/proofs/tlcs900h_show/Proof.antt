@@ -1,8 +1,5 @@
-use mathlib.Core.Path.{ap, _∙_}
 use native.Mathlib.Omega.{arith}
-use lib.ListN.{length}
-use Rattle.answer.specs.Number.{numberOf}
-use Rattle.look.proofs.Laws.{shown-few}
+use Rattle.look.proofs.Laws.{shown-few, shows}
 use borrow.Author.Needs.{needs}
 use Rattle.look.proofs.tlcs900h_show.Statement.{statement}
 use Rattle.look.proofs.tlcs900h_show.Tie as tie
@@ -20,7 +17,9 @@ number-requires : tie.Need-number-requires
 number-requires c κs = search needs
 
 returns : tie.Need-returns
-returns c = (c .number .ensures ∙ ap numberOf (c .before .show-answer .ensures), ap length (c .before .before .show .ensures .0))
+returns c =
+    let a = c .before .before .before .before .before .args in
+    shows (a .ram .now) (a .rom .now) (a .at) (c .before .before .show .ensures .0) (c .before .show-answer .ensures) (c .number .ensures)
 
 pub tlcs900h-show-spec : {M : Type 1} → statement M
 tlcs900h-show-spec =
