@@ -1,22 +1,29 @@
 //! How fast the proved library steps, beside the second interpreter.
 //!
 //! ```text
-//! bench [--instructions A,B,C,D --counted-by HOW]
+//! bench [--instructions A,B,C,D,E --counted-by HOW]
 //! bench --brief
-//! bench --only MIX STEPS
+//! bench --mixes
+//! bench --kinds
+//! bench --only NAME STEPS
 //! ```
 //!
 //! The first prints the table; the counts of machine instructions come from
 //! outside, since a program cannot count its own. `--brief` only sees that
-//! every mix works, on both machines alike. `--only` does one mix once, for
-//! those who count.
+//! every mix and every kind works, on both machines alike. The others are for
+//! those who count: `--mixes` names the mixes, `--kinds` the kinds and the
+//! sizes of each; `--only` does a mix, or a kind at a size, once.
 
 #![forbid(unsafe_code)]
 
+mod kinds;
 mod mixes;
+mod scene;
 
+use kinds::kinds;
 use library::{Empty, Library};
-use mixes::{Mix, Scene, MIXES};
+use mixes::MIXES;
+use scene::Scene;
 use std::process::ExitCode;
 use std::time::{Duration, Instant};
 
@@ -38,7 +45,9 @@ fn main() -> ExitCode {
     let done = match words[..] {
         [] => table(&[], ""),
         ["--brief"] => brief(),
-        ["--only", mix, steps] => only(mix, steps),
+        ["--mixes"] => name_mixes(),
+        ["--kinds"] => name_kinds(),
+        ["--only", name, steps] => only(name, steps),
         ["--instructions", counts, "--counted-by", how] => {
             table(&counts.split(',').collect::<Vec<_>>(), how)
         }
@@ -59,7 +68,7 @@ trait Worker {
 }
 
 struct Proved {
-    record: [u8; second::RECORD_LENGTH],
+    record: [u8; second::record::LENGTH],
     ram: Vec<u8>,
     rom: Vec<u8>,
 }
@@ -87,49 +96,86 @@ impl Worker for Scene {
 }
 
 /// Runs, and insists that all the steps were done.
-fn work(worker: &mut dyn Worker, steps: u32, mix: &Mix) -> Result<(), String> {
+fn work(worker: &mut dyn Worker, steps: u32, name: &str) -> Result<(), String> {
     match worker.run(steps) {
         (done, 0) if done == steps => Ok(()),
-        (done, number) => Err(format!("{}: {done} steps, then {number}", mix.name)),
+        (done, number) => Err(format!("{name}: {done} steps, then {number}")),
     }
 }
 
-/// Both machines do so many steps of a mix and end alike.
-fn both_alike(mix: &Mix, steps: u32) -> Result<(), String> {
-    let mut proved = Proved::new(mix.scene());
-    let mut other = mix.scene();
-    work(&mut proved, steps, mix)?;
-    work(&mut other, steps, mix)?;
+/// Both machines do so many steps from a scene and end alike.
+fn both_alike(scene: &Scene, steps: u32, name: &str) -> Result<(), String> {
+    let mut proved = Proved::new(scene.clone());
+    let mut other = scene.clone();
+    work(&mut proved, steps, name)?;
+    work(&mut other, steps, name)?;
     let record = other.machine.to_record();
     if record == Ok(proved.record) && other.ram == proved.ram {
         Ok(())
     } else {
-        Err(format!("{}: the two machines end differently", mix.name))
+        Err(format!("{name}: the two machines end differently"))
     }
 }
 
 fn brief() -> Result<(), String> {
     for mix in &MIXES {
-        both_alike(mix, BRIEF_STEPS)?;
+        both_alike(&mix.scene(), BRIEF_STEPS, mix.name)?;
         println!("bench: {} works", mix.name);
+    }
+    let mut count = 0;
+    for kind in kinds() {
+        for code in &kind.codes {
+            let name = format!("{} {}", kind.name, code.size);
+            both_alike(&code.scene(), kinds::STEPS, &name)?;
+            if !code.alone() {
+                return Err(format!("{name}: another instruction is met"));
+            }
+            count += 1;
+        }
+    }
+    println!("bench: {count} instructions work, each by itself");
+    Ok(())
+}
+
+fn name_mixes() -> Result<(), String> {
+    for mix in &MIXES {
+        println!("{}", mix.name);
     }
     Ok(())
 }
 
+fn name_kinds() -> Result<(), String> {
+    for kind in kinds() {
+        let sizes: Vec<&str> = kind.codes.iter().map(|code| code.size).collect();
+        println!("{}:{}", kind.name, sizes.join(" "));
+    }
+    Ok(())
+}
+
+/// The scene of a mix, or of a kind and a size.
+fn scene_of(name: &str) -> Option<Scene> {
+    if let Some(mix) = MIXES.iter().find(|mix| mix.name == name) {
+        return Some(mix.scene());
+    }
+    let (kind, size) = name.rsplit_once(' ')?;
+    let kind = kinds().into_iter().find(|known| known.name == kind)?;
+    let code = kind.codes.iter().find(|known| known.size == size)?;
+    Some(code.scene())
+}
+
 fn only(name: &str, steps: &str) -> Result<(), String> {
-    let mix = MIXES.iter().find(|mix| mix.name == name);
-    let mix = mix.ok_or(format!("bench: no mix is called {name}"))?;
+    let scene = scene_of(name).ok_or(format!("bench: nothing is called {name}"))?;
     let steps = steps.parse().map_err(|_| "bench: how many steps?")?;
-    work(&mut Proved::new(mix.scene()), steps, mix)
+    work(&mut Proved::new(scene), steps, name)
 }
 
 /// Steps a second, from as many calls as fill the time.
-fn pace(worker: &mut dyn Worker, mix: &Mix) -> Result<f64, String> {
-    work(worker, STEPS, mix)?;
+fn pace(worker: &mut dyn Worker, name: &str) -> Result<f64, String> {
+    work(worker, STEPS, name)?;
     let start = Instant::now();
     let mut steps = 0.0;
     while start.elapsed() < WHILE {
-        work(worker, STEPS, mix)?;
+        work(worker, STEPS, name)?;
         steps += f64::from(STEPS);
     }
     Ok(steps / start.elapsed().as_secs_f64())
@@ -144,9 +190,9 @@ fn table(instructions: &[&str], how: &str) -> Result<(), String> {
         "mix", "steps/s", "second's", "ratio", "boards", "instructions"
     );
     for (place, mix) in MIXES.iter().enumerate() {
-        both_alike(mix, STEPS)?;
-        let ours = pace(&mut Proved::new(mix.scene()), mix)?;
-        let others = pace(&mut mix.scene(), mix)?;
+        both_alike(&mix.scene(), STEPS, mix.name)?;
+        let ours = pace(&mut Proved::new(mix.scene()), mix.name)?;
+        let others = pace(&mut mix.scene(), mix.name)?;
         println!(
             "{:<10} {:>14.0} {:>14.0} {:>7.2} {:>7.2} {:>13}",
             mix.name,

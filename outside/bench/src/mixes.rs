@@ -1,6 +1,6 @@
-//! Four kinds of work, each a loop that never ends.
+//! Five kinds of work, each a loop that never ends.
 
-use second::{Machine, Width};
+use crate::scene::Scene;
 
 pub struct Mix {
     pub name: &'static str,
@@ -8,18 +8,12 @@ pub struct Mix {
     code: &'static [u8],
 }
 
-/// What the machines are given: a state and the memories, the code in ROM as
-/// firmware is.
-pub struct Scene {
-    pub machine: Machine,
-    pub ram: Vec<u8>,
-    pub rom: Vec<u8>,
-}
-
 const ROM_LENGTH: usize = 256;
-const RAM_LENGTH: usize = 65_536;
 
-pub const MIXES: [Mix; 4] = [
+/// XHL, XIY and XSP before the first step.
+const LONGS: [(u8, u32); 3] = [(3, 0x1234_5678), (5, 0x1000), (7, 0x2000)];
+
+pub const MIXES: [Mix; 5] = [
     Mix {
         name: "registers",
         what: "register work of all sizes, a load and a store",
@@ -42,6 +36,82 @@ pub const MIXES: [Mix; 4] = [
             0xC9, 0xF0, // CP W,A
             0x66, 0x00, // JR Z, to the next
             0x68, 0xD6, // JR, to the start
+        ],
+    },
+    Mix {
+        name: "memory",
+        what: "loads, stores and operations with memory: each size, address form and direction",
+        code: &[
+            0x44, 0x00, 0x18, 0x00, 0x00, // LD XIX,1800H
+            0x21, 0x5A, // LD A,5AH
+            0x31, 0x34, 0x12, // LD BC,1234H
+            0xDA, 0x03, 0xCD, 0xAB, // LD DE,ABCDH
+            // (R)
+            0x84, 0x20, // LD W,(XIX)
+            0x94, 0x23, // LD HL,(XIX)
+            0xA4, 0x26, // LD XIZ,(XIX)
+            0x84, 0x81, // ADD A,(XIX)
+            0x94, 0x92, // ADC DE,(XIX)
+            0xA4, 0xA1, // SUB XBC,(XIX)
+            0x84, 0xF9, // CP (XIX),A
+            0x94, 0xEA, // OR (XIX),DE
+            0xA4, 0xD9, // XOR (XIX),XBC
+            0xB4, 0x41, // LD (XIX),A
+            0xB4, 0x52, // LD (XIX),DE
+            0xB4, 0x61, // LD (XIX),XBC
+            // (R+d8)
+            0x8D, 0x05, 0x20, // LD W,(XIY+5)
+            0x9D, 0xFE, 0x23, // LD HL,(XIY-2)
+            0xAD, 0x08, 0x26, // LD XIZ,(XIY+8)
+            0x8D, 0x10, 0xB1, // SBC A,(XIY+16)
+            0x9D, 0x12, 0xC2, // AND DE,(XIY+18)
+            0xAD, 0xF0, 0xD1, // XOR XBC,(XIY-16)
+            0x8D, 0x14, 0xC9, // AND (XIY+20),A
+            0x9D, 0x16, 0xBA, // SBC (XIY+22),DE
+            0xAD, 0x18, 0xA9, // SUB (XIY+24),XBC
+            0xBD, 0x20, 0x41, // LD (XIY+32),A
+            0xBD, 0xEE, 0x52, // LD (XIY-18),DE
+            0xBD, 0x24, 0x61, // LD (XIY+36),XBC
+            // n8
+            0xC0, 0x40, 0x20, // LD W,(40H)
+            0xD0, 0x42, 0x23, // LD HL,(42H)
+            0xE0, 0x44, 0x26, // LD XIZ,(44H)
+            0xC0, 0x48, 0xE1, // OR A,(48H)
+            0xD0, 0x4A, 0xF2, // CP DE,(4AH)
+            0xE0, 0x4C, 0x81, // ADD XBC,(4CH)
+            0xC0, 0x50, 0x99, // ADC (50H),A
+            0xD0, 0x52, 0x8A, // ADD (52H),DE
+            0xE0, 0x54, 0xF9, // CP (54H),XBC
+            0xF0, 0x58, 0x41, // LD (58H),A
+            0xF0, 0x5A, 0x52, // LD (5AH),DE
+            0xF0, 0x5C, 0x61, // LD (5CH),XBC
+            // n16
+            0xC1, 0x00, 0x30, 0x20, // LD W,(3000H)
+            0xD1, 0x02, 0x30, 0x23, // LD HL,(3002H)
+            0xE1, 0x04, 0x30, 0x26, // LD XIZ,(3004H)
+            0xC1, 0x08, 0x30, 0x91, // ADC A,(3008H)
+            0xD1, 0x0A, 0x30, 0xA2, // SUB DE,(300AH)
+            0xE1, 0x0C, 0x30, 0xF1, // CP XBC,(300CH)
+            0xC1, 0x10, 0x30, 0xA9, // SUB (3010H),A
+            0xD1, 0x12, 0x30, 0xFA, // CP (3012H),DE
+            0xE1, 0x14, 0x30, 0x89, // ADD (3014H),XBC
+            0xF1, 0x18, 0x30, 0x41, // LD (3018H),A
+            0xF1, 0x1A, 0x30, 0x52, // LD (301AH),DE
+            0xF1, 0x1C, 0x30, 0x61, // LD (301CH),XBC
+            // n24
+            0xC2, 0x00, 0x40, 0x00, 0x20, // LD W,(004000H)
+            0xD2, 0x02, 0x40, 0x00, 0x23, // LD HL,(004002H)
+            0xE2, 0x04, 0x40, 0x00, 0x26, // LD XIZ,(004004H)
+            0xC2, 0x08, 0x40, 0x00, 0xF1, // CP A,(004008H)
+            0xD2, 0x0A, 0x40, 0x00, 0x82, // ADD DE,(00400AH)
+            0xE2, 0x0C, 0x40, 0x00, 0xC1, // AND XBC,(00400CH)
+            0xC2, 0x10, 0x40, 0x00, 0x89, // ADD (004010H),A
+            0xD2, 0x12, 0x40, 0x00, 0xCA, // AND (004012H),DE
+            0xE2, 0x14, 0x40, 0x00, 0xE9, // OR (004014H),XBC
+            0xF2, 0x18, 0x40, 0x00, 0x41, // LD (004018H),A
+            0xF2, 0x1A, 0x40, 0x00, 0x52, // LD (00401AH),DE
+            0xF2, 0x1C, 0x40, 0x00, 0x61, // LD (00401CH),XBC
+            0x1B, 0x00, 0xFF, 0xFF, // JP, to the start
         ],
     },
     Mix {
@@ -77,7 +147,7 @@ pub const MIXES: [Mix; 4] = [
         name: "cpir",
         what: "CPIR over blocks of 61,440 bytes",
         code: &[
-            0x21, 0xFF, // LD A,FFH, which RAM has nowhere
+            0x21, 0xFE, // LD A,FEH, which RAM has nowhere
             0x44, 0x00, 0x00, 0x00, 0x00, // LD XIX,0
             0x31, 0x00, 0xF0, // LD BC,F000H
             0x84, 0x15, // CPIR
@@ -88,18 +158,8 @@ pub const MIXES: [Mix; 4] = [
 
 impl Mix {
     pub fn scene(&self) -> Scene {
-        let mut machine = Machine::zero();
-        machine.counter = (1 << 24) - ROM_LENGTH as u32;
-        machine.level = 7;
-        for (code, value) in [(3, 0x1234_5678), (5, 0x1000), (7, 0x2000)] {
-            machine.set(Width::Long, code, value);
-        }
         let mut rom = vec![0; ROM_LENGTH];
         rom[..self.code.len()].copy_from_slice(self.code);
-        Scene {
-            machine,
-            ram: (0..RAM_LENGTH).map(|place| (place % 251) as u8).collect(),
-            rom,
-        }
+        Scene::new(rom, &LONGS)
     }
 }

@@ -2,6 +2,9 @@
 
 use crate::chance::Chance;
 use crate::image::Image;
+use forms::{Form, Slot};
+use second::record::{self, BANK, COUNTER, F, F_PRIME, LENGTH};
+use second::Width;
 
 /// The values at which arithmetic of some width turns.
 pub const TURNS: [u32; 11] = [
@@ -24,13 +27,9 @@ pub const LENGTHS: [usize; 7] = [0, 1, 255, 256, 65_535, 65_536, 65_537];
 /// The flag bits that a flag register can hold.
 pub const FLAGS: u8 = 0xD7;
 
-pub const RECORD_LENGTH: usize = 88;
-pub const COUNTER: usize = 80;
-pub const STATUS: usize = 84;
-pub const SPARE_FLAGS: usize = 86;
-/// Where the four shared registers begin; XSP is the last of them.
-pub const SHARED: usize = 64;
-pub const XSP: usize = 76;
+/// The codes of XSP and BC.
+pub const XSP: u8 = 7;
+pub const BC: u8 = 1;
 
 /// How long the two memories are.
 #[derive(Clone, Copy, Debug)]
@@ -106,6 +105,22 @@ pub fn address(chance: &mut Chance, layout: Layout) -> u32 {
     }
 }
 
+/// An instruction of a form, its constants at turns and its addresses near
+/// the ends of the memories more often than not.
+pub fn code(chance: &mut Chance, form: &Form, layout: Layout) -> Vec<u8> {
+    let mut constant = value(chance).to_le_bytes().into_iter();
+    let mut address = address(chance, layout).to_le_bytes().into_iter();
+    let mut displacement = displacement(chance).to_le_bytes().into_iter();
+    let slots = form.slots.iter().map(|slot| match slot {
+        Slot::One(bytes) => Some(chance.pick(bytes)),
+        Slot::Constant => constant.next(),
+        Slot::Address => address.next(),
+        Slot::Displacement => displacement.next(),
+    });
+    let code: Option<Vec<u8>> = slots.collect();
+    code.expect("four bytes of a constant, four of an address or two of a displacement")
+}
+
 /// What a long register holds: an address or a value.
 pub fn long(chance: &mut Chance, layout: Layout) -> u32 {
     if chance.below(8) < 5 {
@@ -117,21 +132,21 @@ pub fn long(chance: &mut Chance, layout: Layout) -> u32 {
 
 /// The record of a valid state. BC of each bank is often about to end.
 pub fn record(chance: &mut Chance, layout: Layout) -> Vec<u8> {
-    let mut record = vec![0; RECORD_LENGTH];
+    let mut record = vec![0; LENGTH];
     for place in (0..COUNTER).step_by(4) {
         put_long(&mut record, place, long(chance, layout));
     }
     if chance.once_in(3) {
         let count = chance.pick(&[0u16, 1, 2, 3, 0xFFFF]).to_le_bytes();
         for bank in 0..4 {
-            record[16 * bank + 4..16 * bank + 6].copy_from_slice(&count);
+            record[record::register(Width::Word, BC, bank)].copy_from_slice(&count);
         }
     }
     let counter = address(chance, layout) & 0xFF_FFFF;
     put_long(&mut record, COUNTER, counter);
-    record[STATUS] = chance.byte() & FLAGS;
-    record[STATUS + 1] = 0x88 | chance.below(4) as u8 | (chance.below(8) as u8) << 4;
-    record[SPARE_FLAGS] = chance.byte() & FLAGS;
+    record[F] = chance.byte() & FLAGS;
+    record[BANK] = 0x88 | chance.below(4) as u8 | (chance.below(8) as u8) << 4;
+    record[F_PRIME] = chance.byte() & FLAGS;
     record
 }
 
@@ -143,15 +158,15 @@ pub fn get_long(record: &[u8], place: usize) -> u32 {
     u32::from_le_bytes(record[place..place + 4].try_into().expect("four bytes"))
 }
 
-/// Where in a record the long register of this code lies, in the current
+/// Where in a record the long register of this code begins, in the current
 /// bank.
-pub fn place_of_long(record: &[u8], code: usize) -> usize {
-    let bank = usize::from(record[STATUS + 1] & 3);
-    if code < 4 {
-        16 * bank + 4 * code
-    } else {
-        SHARED + 4 * (code - 4)
-    }
+pub fn place_of_long(record: &[u8], code: u8) -> usize {
+    record::register(Width::Long, code, record[BANK] & 3).start
+}
+
+/// Sets the long register of this code, in the current bank.
+pub fn set_long(record: &mut [u8], code: u8, value: u32) {
+    put_long(record, place_of_long(record, code), value);
 }
 
 /// Noise that a case can name.

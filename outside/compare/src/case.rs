@@ -1,6 +1,7 @@
 //! One call with everything it is given, and its text form.
 
 use crate::image::{hex, unhex, Image};
+use second::record::{COUNTER, SR};
 
 /// Which of the four calls.
 #[derive(Clone, Copy, Debug, PartialEq, Eq)]
@@ -55,7 +56,7 @@ impl Case {
     pub fn code(&self) -> &[u8] {
         let at = match self.call {
             Call::Show(at) => at as usize,
-            _ => match self.record.get(80..84) {
+            _ => match self.record.get(COUNTER..SR) {
                 Some(counter) => u32::from_le_bytes(counter.try_into().expect("four")) as usize,
                 None => return &[],
             },

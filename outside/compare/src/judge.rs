@@ -4,6 +4,8 @@ use crate::case::{Call, Case};
 use crate::image::hex;
 use crate::reference;
 use library::{Empty, Library};
+use second::record::{self, BANK, BANK_SIZE, COUNTER, F, F_PRIME, LONGS, SHARED, SR};
+use second::Width;
 
 /// Bytes on each side of what is lent to the library, which it must not
 /// touch.
@@ -286,17 +288,26 @@ fn differing<'a>(ours: &'a [u8], others: &'a [u8]) -> impl Iterator<Item = (usiz
 
 /// What a byte of a record belongs to.
 fn field(place: usize) -> String {
-    const BANKED: [&str; 4] = ["XWA", "XBC", "XDE", "XHL"];
-    const SHARED: [&str; 4] = ["XIX", "XIY", "XIZ", "XSP"];
-    let (register, byte) = (place / 4 % 4, place % 4);
     match place {
-        0..=63 => format!("byte {byte} of {} of bank {}", BANKED[register], place / 16),
-        64..=79 => format!("byte {byte} of {}", SHARED[register]),
-        80..=83 => format!("byte {byte} of the counter"),
-        84 => "F".to_string(),
-        85 => "bank and level".to_string(),
-        86 => "F'".to_string(),
+        F => "F".to_string(),
+        BANK => "bank and level".to_string(),
+        F_PRIME => "F'".to_string(),
+        _ if place < COUNTER => register_at(place),
+        _ if place < SR => format!("byte {} of the counter", place - COUNTER),
         _ => format!("byte {place} of the record"),
+    }
+}
+
+fn register_at(place: usize) -> String {
+    let bank = place / BANK_SIZE;
+    let holds = |code: &u8| record::register(Width::Long, *code, bank as u8).contains(&place);
+    let code = (0..8).find(holds).expect("a register's byte");
+    let first = record::register(Width::Long, code, bank as u8).start;
+    let told = format!("byte {} of {}", place - first, LONGS[usize::from(code)]);
+    if place < SHARED {
+        format!("{told} of bank {bank}")
+    } else {
+        told
     }
 }
 

@@ -19,7 +19,6 @@ mod chance;
 mod groups;
 mod image;
 mod judge;
-mod listed;
 mod reference;
 
 use case::Case;

@@ -4,7 +4,8 @@
 //! a record that is no state's; a refusal leaves the record and RAM alone.
 
 use crate::case::Call;
-use second::{number, Machine, MOST_BYTES, MOST_STEPS, RECORD_LENGTH};
+use second::record::LENGTH;
+use second::{number, Machine, MOST_BYTES, MOST_STEPS};
 
 /// Does a call on a record and memories: a count and the number. The count
 /// is the steps of a run, the length of what is shown, and 0 for the others.
@@ -51,7 +52,7 @@ fn reset(record: &mut [u8], ram: &[u8], rom: &[u8]) -> u8 {
     if number != number::DONE {
         return number;
     }
-    if record.len() != RECORD_LENGTH {
+    if record.len() != LENGTH {
         return number::NOT_VALID;
     }
     save(&machine, record);

@@ -15,10 +15,12 @@
 //! out by hand from the flag lines of the same page, where the example itself
 //! does not state it; the counter likewise is the address after the code.
 //!
-//! Nothing here uses the interpreter: the places of registers in a record
-//! are written out again.
+//! Nothing here uses the interpreter; where things stand in a record
+//! ([`crate::record`]) is all that they share.
 
 mod table;
+
+use crate::record::{self, BANK, COUNTER, F, F_PRIME, LENGTH, SR};
 
 /// The books' execution examples.
 pub fn book() -> Vec<Example> {
@@ -79,8 +81,8 @@ pub struct Example {
 /// A saved state and the two memories.
 #[derive(Clone, Debug, PartialEq, Eq)]
 pub struct Scene {
-    /// The record of 88 bytes.
-    pub record: [u8; 88],
+    /// The record.
+    pub record: [u8; LENGTH],
     /// RAM, 65,536 bytes.
     pub ram: Vec<u8>,
     /// ROM, empty in every example.
@@ -91,12 +93,12 @@ impl Example {
     /// What to begin with.
     pub fn start(&self) -> Scene {
         let mut scene = Scene {
-            record: [0; 88],
+            record: [0; LENGTH],
             ram: vec![0; 65_536],
             rom: Vec::new(),
         };
         // Bits 11 and 15 of SR are always one.
-        scene.record[85] = 0x88;
+        scene.record[BANK] = 0x88;
         let first = usize::from(self.at);
         scene.ram[first..first + self.code.len()].copy_from_slice(&self.code);
         scene.put(Part::Counter(u32::from(self.at)));
@@ -122,40 +124,16 @@ impl Scene {
     fn put(&mut self, part: Part) {
         match part {
             Part::Register(name, value) => {
-                let (first, size) = register_place(name).expect(name);
+                let place = record::named(name).expect(name);
                 let bytes = value.to_le_bytes();
-                self.record[first..first + size].copy_from_slice(&bytes[..size]);
+                let size = place.len();
+                self.record[place].copy_from_slice(&bytes[..size]);
             }
-            Part::Counter(value) => self.record[80..84].copy_from_slice(&value.to_le_bytes()),
-            Part::F(value) => self.record[84] = value,
-            Part::Bank(value) => self.record[85] = self.record[85] & 0xFC | value,
-            Part::SpareF(value) => self.record[86] = value,
+            Part::Counter(value) => self.record[COUNTER..SR].copy_from_slice(&value.to_le_bytes()),
+            Part::F(value) => self.record[F] = value,
+            Part::Bank(value) => self.record[BANK] = self.record[BANK] & 0xFC | value,
+            Part::SpareF(value) => self.record[F_PRIME] = value,
             Part::Memory(address, value) => self.ram[usize::from(address)] = value,
         }
     }
-}
-
-/// Where a register of bank 0, or a shared one, lies in a record, and its
-/// size. `None` if no register is called so.
-fn register_place(name: &str) -> Option<(usize, usize)> {
-    let long = ["XWA", "XBC", "XDE", "XHL"];
-    let word = ["WA", "BC", "DE", "HL"];
-    let high = ["W", "B", "D", "H"];
-    let low = ["A", "C", "E", "L"];
-    let shared_long = ["XIX", "XIY", "XIZ", "XSP"];
-    let shared_word = ["IX", "IY", "IZ", "SP"];
-    let tables: [(&[&str; 4], usize, usize); 6] = [
-        (&long, 0, 4),
-        (&word, 0, 2),
-        (&low, 0, 1),
-        (&high, 1, 1),
-        (&shared_long, 64, 4),
-        (&shared_word, 64, 2),
-    ];
-    for (names, offset, size) in tables {
-        if let Some(place) = names.iter().position(|&known| known == name) {
-            return Some((offset + 4 * place, size));
-        }
-    }
-    None
 }

@@ -28,6 +28,7 @@ mod flags;
 mod machine;
 mod memory;
 mod program;
+pub mod record;
 mod width;
 
 /// The numbers by which a call says how it ended.
@@ -51,7 +52,7 @@ pub mod number {
 }
 
 pub use execute::{run, step, MOST_STEPS};
-pub use machine::{Machine, RECORD_LENGTH};
+pub use machine::Machine;
 pub use memory::{show, MOST_BYTES};
 pub use program::{line, reset};
 pub use width::Width;

@@ -2,11 +2,8 @@
 
 use crate::flags::Flags;
 use crate::number;
+use crate::record::{self, COUNTER, F_PRIME, LENGTH, SR, ZERO};
 use crate::width::{gather, scatter, Width};
-use std::ops::Range;
-
-/// The length of a saved state.
-pub const RECORD_LENGTH: usize = 88;
 
 /// How many addresses there are: every address is taken modulo this.
 pub(crate) const ADDRESSES: i64 = 1 << 24;
@@ -16,14 +13,8 @@ pub(crate) const XSP: u8 = 7;
 /// The code of BC among the word registers.
 pub(crate) const BC: u8 = 1;
 
-const FILE: usize = 80;
-const BANK: usize = 16;
-const SHARED: usize = 64;
-
-const COUNTER: Range<usize> = 80..84;
-const STATUS: Range<usize> = 84..86;
-const SPARE_FLAGS: usize = 86;
-const ZERO: usize = 87;
+/// The bytes of all registers: a record begins with them.
+const FILE: usize = COUNTER;
 
 /// The bits of a flag register that are always 0.
 const NO_FLAG: u8 = 0b0010_1000;
@@ -82,20 +73,20 @@ impl Machine {
     /// counter in four bytes, SR in two, F' in one and a zero byte. Any other
     /// length, or any bit that no valid state has, is refused with 2.
     pub fn from_record(record: &[u8]) -> Result<Machine, u8> {
-        if record.len() != RECORD_LENGTH || record[ZERO] != 0 {
+        if record.len() != LENGTH || record[ZERO] != 0 {
             return Err(number::NOT_VALID);
         }
-        let status = gather(&record[STATUS]);
+        let status = gather(&record[SR..F_PRIME]);
         if status & STATUS_ONES != STATUS_ONES || status & STATUS_ZERO != 0 {
             return Err(number::NOT_VALID);
         }
         let mut machine = Machine::zero();
         machine.file.copy_from_slice(&record[..FILE]);
-        machine.counter = gather(&record[COUNTER]);
+        machine.counter = gather(&record[COUNTER..SR]);
         machine.f = (status % 256) as u8;
         machine.bank = (status / 256 % 4) as u8;
         machine.level = (status / 4096 % 8) as u8;
-        machine.f_prime = record[SPARE_FLAGS];
+        machine.f_prime = record[F_PRIME];
         if machine.valid() {
             Ok(machine)
         } else {
@@ -104,15 +95,15 @@ impl Machine {
     }
 
     /// The record of this state; 2 if the state is not valid.
-    pub fn to_record(&self) -> Result<[u8; RECORD_LENGTH], u8> {
+    pub fn to_record(&self) -> Result<[u8; LENGTH], u8> {
         if !self.valid() {
             return Err(number::NOT_VALID);
         }
-        let mut record = [0; RECORD_LENGTH];
+        let mut record = [0; LENGTH];
         record[..FILE].copy_from_slice(&self.file);
-        scatter(self.counter, &mut record[COUNTER]);
-        scatter(self.status(), &mut record[STATUS]);
-        record[SPARE_FLAGS] = self.f_prime;
+        scatter(self.counter, &mut record[COUNTER..SR]);
+        scatter(self.status(), &mut record[SR..F_PRIME]);
+        record[F_PRIME] = self.f_prime;
         Ok(record)
     }
 
@@ -128,14 +119,16 @@ impl Machine {
     /// What the register of this width and code (0 to 7) holds, in the
     /// current bank where it is one of the bank's.
     pub fn get(&self, width: Width, code: u8) -> u32 {
-        gather(&self.file[self.window(width, code)])
+        gather(&self.file[record::register(width, code, self.bank)])
     }
 
     /// Writes the register of this width and code, and nothing beside it. A
     /// value too great for the register loses its high bytes.
     pub fn set(&mut self, width: Width, code: u8, value: u32) {
-        let window = self.window(width, code);
-        scatter(value, &mut self.file[window]);
+        scatter(
+            value,
+            &mut self.file[record::register(width, code, self.bank)],
+        );
     }
 
     /// Moves a register by a signed amount; it goes round at its own width.
@@ -150,20 +143,6 @@ impl Machine {
 
     pub(crate) fn set_flags(&mut self, flags: Flags) {
         self.f = flags.to_byte();
-    }
-
-    /// Where in the file a register lies. Byte registers come in pairs: the
-    /// even codes W, B, D, H are the second byte of a long, the odd ones A,
-    /// C, E, L the first.
-    fn window(&self, width: Width, code: u8) -> Range<usize> {
-        let code = usize::from(code % 8);
-        let bank = BANK * usize::from(self.bank % 4);
-        let first = match width {
-            Width::Byte => bank + code / 2 * 4 + (code + 1) % 2,
-            Width::Word | Width::Long if code < 4 => bank + code * 4,
-            Width::Word | Width::Long => SHARED + (code - 4) * 4,
-        };
-        first..first + width.bytes()
     }
 }
 

@@ -2,26 +2,25 @@
 
 mod common;
 
-use common::Chance;
-use second::{Machine, Width, RECORD_LENGTH};
+use common::{Chance, XSP, XWA};
+use second::record::{self, BANK, COUNTER, F, F_PRIME, LENGTH, SR, ZERO};
+use second::{Machine, Width};
 
 /// Whether a bit of a record may be either, and if not which it must be.
 fn fixed_bit(byte: usize, bit: usize) -> Option<bool> {
     match (byte, bit) {
-        (83, _) => Some(false),     // the counter has 24 bits
-        (84, 3 | 5) => Some(false), // F
-        (85, 2) => Some(false),     // SR bit 10
-        (85, 3) => Some(true),      // SR bit 11
-        (85, 7) => Some(true),      // SR bit 15
-        (86, 3 | 5) => Some(false), // F'
-        (87, _) => Some(false),
+        (F | F_PRIME, 3 | 5) => Some(false),
+        (BANK, 2) => Some(false),    // SR bit 10
+        (BANK, 3 | 7) => Some(true), // SR bits 11 and 15
+        (ZERO, _) => Some(false),
+        _ if byte == COUNTER + 3 => Some(false), // the counter has 24 bits
         _ => None,
     }
 }
 
 fn is_record(bytes: &[u8]) -> bool {
-    bytes.len() == 88
-        && (0..88).all(|byte| {
+    bytes.len() == LENGTH
+        && (0..LENGTH).all(|byte| {
             (0..8).all(|bit| {
                 let set = bytes[byte] >> bit & 1 == 1;
                 fixed_bit(byte, bit).is_none_or(|wanted| wanted == set)
@@ -30,8 +29,8 @@ fn is_record(bytes: &[u8]) -> bool {
 }
 
 /// The record with the free bits as given.
-fn record_of(free: impl Fn(usize, usize) -> bool) -> [u8; 88] {
-    let mut record = [0; 88];
+fn record_of(free: impl Fn(usize, usize) -> bool) -> [u8; LENGTH] {
+    let mut record = [0; LENGTH];
     for (byte, value) in record.iter_mut().enumerate() {
         for bit in 0..8 {
             if fixed_bit(byte, bit).unwrap_or_else(|| free(byte, bit)) {
@@ -52,7 +51,7 @@ fn every_single_bit() {
             Machine::from_record(&record).unwrap().to_record(),
             Ok(record)
         );
-        for byte in 0..88 {
+        for byte in 0..LENGTH {
             for bit in 0..8 {
                 let mut flipped = record;
                 flipped[byte] ^= 1 << bit;
@@ -76,7 +75,7 @@ fn any_bytes_read_back_or_are_refused() {
     let mut taken = 0;
     for round in 0..20_000 {
         let mut record = record_of(|_, _| false);
-        for byte in record.iter_mut().take(87) {
+        for byte in record.iter_mut().take(ZERO) {
             *byte |= chance.byte();
         }
         // Most such records are wrong somewhere: bring half of them right.
@@ -101,7 +100,6 @@ fn any_bytes_read_back_or_are_refused() {
 
 #[test]
 fn only_88_bytes_are_a_record() {
-    assert_eq!(RECORD_LENGTH, 88);
     let good = record_of(|_, _| false);
     for length in [0, 1, 79, 80, 87, 89, 176, 1000] {
         let mut bytes = good.to_vec();
@@ -110,8 +108,56 @@ fn only_88_bytes_are_a_record() {
     }
 }
 
+/// The offsets as numbers, by document 01: banks 0 to 3 (XWA, XBC, XDE, XHL
+/// each), XIX, XIY, XIZ, XSP, the counter in four bytes, SR in two, F' in one,
+/// a zero byte. A word is the low half of its long; W, B, D, H are the high
+/// bytes of that word.
 #[test]
 fn where_everything_lies() {
+    let longs = [
+        [0, 4, 8, 12, 64, 68, 72, 76],
+        [16, 20, 24, 28, 64, 68, 72, 76],
+        [32, 36, 40, 44, 64, 68, 72, 76],
+        [48, 52, 56, 60, 64, 68, 72, 76],
+    ];
+    let bytes = [
+        [1, 0, 5, 4, 9, 8, 13, 12],
+        [17, 16, 21, 20, 25, 24, 29, 28],
+        [33, 32, 37, 36, 41, 40, 45, 44],
+        [49, 48, 53, 52, 57, 56, 61, 60],
+    ];
+    for bank in 0..4u8 {
+        for code in 0..8u8 {
+            let place = |width| record::register(width, code, bank);
+            let long = longs[usize::from(bank)][usize::from(code)];
+            assert_eq!(place(Width::Long), long..long + 4);
+            assert_eq!(place(Width::Word), long..long + 2);
+            let byte = bytes[usize::from(bank)][usize::from(code)];
+            assert_eq!(place(Width::Byte), byte..byte + 1);
+        }
+    }
+    assert_eq!((COUNTER, SR, F, BANK, F_PRIME), (80, 84, 84, 85, 86));
+    assert_eq!((ZERO, LENGTH), (87, 88));
+}
+
+/// The registers by code 0 to 7, as document 01 names them.
+#[test]
+fn what_everything_is_called() {
+    for (width, names) in [
+        (Width::Byte, "W A B C D E H L"),
+        (Width::Word, "WA BC DE HL IX IY IZ SP"),
+        (Width::Long, "XWA XBC XDE XHL XIX XIY XIZ XSP"),
+    ] {
+        for (code, name) in (0..8).zip(names.split(' ')) {
+            let place = record::register(width, code, 0);
+            assert_eq!(record::named(name), Some(place), "{name}");
+        }
+    }
+    assert_eq!(record::named("PC"), None);
+}
+
+#[test]
+fn a_state_in_its_record() {
     let mut machine = Machine::zero();
     let record = machine.to_record().unwrap();
     assert_eq!(record, record_of(|_, _| false));
@@ -121,16 +167,16 @@ fn where_everything_lies() {
     machine.level = 5;
     machine.f = 0xD3;
     machine.f_prime = 0x44;
-    machine.set(Width::Long, 0, 0x0403_0201);
-    machine.set(Width::Long, 7, 0x0807_0605);
+    machine.set(Width::Long, XWA, 0x0403_0201);
+    machine.set(Width::Long, XSP, 0x0807_0605);
     let record = machine.to_record().unwrap();
-    assert_eq!(record[32..36], [1, 2, 3, 4], "XWA of bank 2");
-    assert_eq!(record[76..80], [5, 6, 7, 8], "XSP");
+    assert_eq!(record[record::register(Width::Long, XWA, 2)], [1, 2, 3, 4]);
+    assert_eq!(record[record::register(Width::Long, XSP, 2)], [5, 6, 7, 8]);
     assert_eq!(
-        record[80..],
+        record[COUNTER..],
         [0x56, 0x34, 0x12, 0x00, 0xD3, 0xDA, 0x44, 0x00]
     );
-    let others = record[..80].iter().filter(|&&byte| byte != 0).count();
+    let others = record[..COUNTER].iter().filter(|&&byte| byte != 0).count();
     assert_eq!(others, 8);
     assert_eq!(machine.status(), 0xDAD3);
 }

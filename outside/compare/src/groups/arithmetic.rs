@@ -1,9 +1,10 @@
 //! Sums, logic, counts and shifts on the values at which they turn.
 
 use super::Bench;
-use crate::aim::{self, FLAGS, STATUS, TURNS};
+use crate::aim::{self, FLAGS, TURNS};
 use crate::case::{Call, Case};
 use crate::image::Image;
+use second::record::{self, F};
 use second::{Machine, Width};
 
 const WIDTHS: [Width; 3] = [Width::Byte, Width::Word, Width::Long];
@@ -11,6 +12,8 @@ const WIDTHS: [Width; 3] = [Width::Byte, Width::Word, Width::Long];
 /// Where RAM holds an operand, and the register that points at it.
 const OPERAND_PLACE: usize = 0x20;
 const POINTER: u8 = 4;
+/// The code of WA, which is A and W together.
+const WA: u8 = 0;
 
 /// The first byte of a register form with register 0, by width.
 fn register_form(width: Width) -> u8 {
@@ -48,12 +51,13 @@ fn step_of(machine: &Machine, code: &[u8], operand: u32) -> Case {
 pub fn all_byte_pairs(bench: &mut Bench) {
     for operation in 0..8 {
         let code = [0xC9, 0x80 + 16 * operation];
+        let both = record::register(Width::Word, WA, 0);
         let mut case = step_of(&Machine::zero(), &[], 0);
         case.ram = Image::of(&code);
         for carry in [0, 1] {
             for pair in 0..=0xFFFF_u16 {
-                case.record[..2].copy_from_slice(&pair.to_le_bytes());
-                case.record[STATUS] = carry | bench.chance.byte() & FLAGS & 0xFE;
+                case.record[both.clone()].copy_from_slice(&pair.to_le_bytes());
+                case.record[F] = carry | bench.chance.byte() & FLAGS & 0xFE;
                 bench.judge.hold(&case);
             }
         }

@@ -2,25 +2,33 @@
 
 use super::codes::aimed_case;
 use super::Bench;
-use crate::aim::{self, COUNTER, STATUS};
+use crate::aim::{self, Layout, BC};
 use crate::case::{Call, Case};
 use crate::chance::Chance;
 use crate::image::Image;
+use forms::Form;
+use second::record::{COUNTER, F};
 use second::{Machine, Width};
 
 /// The two pairs of pointers that copies have: to and from.
 const COPIES: [(u8, u8, u8); 2] = [(0x83, 2, 3), (0x85, 4, 5)];
-const BC: u8 = 1;
 const Z: u8 = 0x40;
 
 /// Where ROM holds the code of the cases below.
 const ROM_LENGTH: usize = 300;
 const ROM_START: u32 = (1 << 24) - ROM_LENGTH as u32;
 
+/// The copies and the compares.
+fn block_forms() -> [Form; 2] {
+    ["LDI LDIR LDD LDDR", "CPI CPIR CPD CPDR"].map(forms::named)
+}
+
 /// Any block code from aimed states: BC and the pointers go round.
 pub fn rounds(bench: &mut Bench) {
+    let forms = block_forms();
     for _ in 0..150_000 * bench.rounds {
-        let case = aimed_case(&mut bench.chance, |chance, _| block_code(chance).to_vec());
+        let form = &forms[bench.chance.below(2) as usize];
+        let case = aimed_case(&mut bench.chance, form);
         bench.judge.hold(&case);
         if bench.judge.weary() {
             return;
@@ -28,15 +36,13 @@ pub fn rounds(bench: &mut Bench) {
     }
 }
 
-fn block_code(chance: &mut Chance) -> [u8; 2] {
-    let word = 16 * chance.below(2) as u8;
-    if chance.once_in(2) {
-        let first = chance.pick(&[0x83, 0x85]);
-        [first + word, 0x10 + chance.below(4) as u8]
-    } else {
-        let first = 0x82 + chance.below(6) as u8;
-        [first + word, 0x14 + chance.below(4) as u8]
-    }
+/// A repeating block code.
+fn repeating_code(chance: &mut Chance, forms: &[Form; 2]) -> [u8; 2] {
+    let form = &forms[chance.below(2) as usize];
+    let nowhere = Layout { ram: 0, rom: 0 };
+    let code = aim::code(chance, form, nowhere);
+    let [first, second]: [u8; 2] = code.try_into().expect("a block code has two bytes");
+    [first, second | 1]
 }
 
 /// A case whose code stands at the start of a short ROM. Behind it stands
@@ -112,9 +118,9 @@ fn alike(one: &Case, other: &Case) -> bool {
 /// A repeating form run to its end, against its single form stepped by hand
 /// with the counter put back after every round.
 pub fn repeats_by_hand(bench: &mut Bench) {
+    let forms = block_forms();
     for _ in 0..6_000 * bench.rounds {
-        let mut code = block_code(&mut bench.chance);
-        code[1] |= 1;
+        let code = repeating_code(&mut bench.chance, &forms);
         let case = repeat_case(&mut bench.chance, code);
         repeat_by_hand(bench, code, case);
         if bench.judge.weary() {
@@ -163,7 +169,7 @@ fn repeat_by_hand(bench: &mut Bench, code: [u8; 2], case: Case) {
 /// has found its own or a round is refused: how many rounds were done, and
 /// the number a run then ends with.
 fn rounds_by_hand(bench: &mut Bench, code: [u8; 2], case: &mut Case) -> (u32, u8) {
-    let count_place = aim::place_of_long(&case.record, usize::from(BC));
+    let count_place = aim::place_of_long(&case.record, BC);
     let compares = code[1] & 4 != 0;
     let mut rounds = 0;
     loop {
@@ -173,7 +179,7 @@ fn rounds_by_hand(bench: &mut Bench, code: [u8; 2], case: &mut Case) -> (u32, u8
         }
         rounds += 1;
         let left = aim::get_long(&case.record, count_place) & 0xFFFF;
-        let found = compares && case.record[STATUS] & Z != 0;
+        let found = compares && case.record[F] & Z != 0;
         if left == 0 || found {
             return (rounds, second::number::NOT_LISTED);
         }
@@ -185,9 +191,9 @@ fn rounds_by_hand(bench: &mut Bench, code: [u8; 2], case: &mut Case) -> (u32, u8
 /// next call, to its end: each call against the second interpreter, and all
 /// together against one call.
 pub fn repeats_cut_short(bench: &mut Bench) {
+    let forms = block_forms();
     for _ in 0..4_000 * bench.rounds {
-        let mut code = block_code(&mut bench.chance);
-        code[1] |= 1;
+        let code = repeating_code(&mut bench.chance, &forms);
         let case = repeat_case(&mut bench.chance, code);
         repeat_in_pieces(bench, case);
         if bench.judge.weary() {

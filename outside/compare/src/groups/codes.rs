@@ -1,10 +1,11 @@
 //! Every code byte after every other, and every listed form.
 
 use super::Bench;
-use crate::aim::{self, Layout, COUNTER};
+use crate::aim::{self, Layout};
 use crate::case::{Call, Case};
 use crate::chance::Chance;
-use crate::listed::forms;
+use forms::{Form, Slot};
+use second::record::COUNTER;
 
 /// What follows the first two bytes.
 const TAILS: [[u8; 4]; 4] = [
@@ -85,24 +86,13 @@ fn put_code(case: &mut Case, memory: Memory, code: &[u8]) {
 /// Forms whose last byte comes after an address, a displacement or a
 /// register and a shift: with every last byte.
 pub fn last_code_byte(bench: &mut Bench) {
-    let beginnings = (0x88..=0xBF)
-        .filter(|first| first & 8 != 0)
-        .map(|first| (first, 1))
-        .chain([0xC0, 0xD0, 0xE0, 0xF0].map(|first| (first, 1)))
-        .chain([0xC1, 0xD1, 0xE1, 0xF1].map(|first| (first, 2)))
-        .chain([0xC2, 0xD2, 0xE2, 0xF2].map(|first| (first, 3)))
-        .chain([0xC9, 0xDA, 0xEC].map(|first| (first, 1)));
-    for (first, between) in beginnings {
+    for (first, form) in long_beginnings() {
         for _ in 0..16 * bench.rounds {
             let memory = bench.chance.pick(&[Memory::Ram, Memory::Rom]);
             let mut case = blank(&mut bench.chance, memory, true);
-            let mut code = vec![first];
-            let middle = match first {
-                0xC0..=0xF2 if first & 8 == 0 => aim::address(&mut bench.chance, MIDDLING),
-                0xC8..=0xEF => bench.chance.pick(&[0xEC, 0xED, 0xEE, 0xEF]),
-                _ => bench.chance.long(),
-            };
-            code.extend_from_slice(&middle.to_le_bytes()[..between]);
+            let mut code = aim::code(&mut bench.chance, &form, MIDDLING);
+            code[0] = first;
+            code.pop();
             for last in 0..=255 {
                 code.push(last);
                 put_code(&mut case, memory, &code);
@@ -116,16 +106,24 @@ pub fn last_code_byte(bench: &mut Bench) {
     }
 }
 
+/// Every byte that begins such a form, with one form that it begins.
+fn long_beginnings() -> Vec<(u8, Form)> {
+    let mut forms = forms::listed();
+    forms.retain(|form| form.slots.len() > 2 && matches!(form.slots.last(), Some(Slot::One(_))));
+    let begun_by = |first| forms.iter().find(|form| form.slots[0].takes(first));
+    (0..=255)
+        .filter_map(|first| Some((first, begun_by(first)?.clone())))
+        .collect()
+}
+
 /// Every listed form, drawn over and over, from aimed states over short
 /// memories. Each form must have been done many times, or nothing was shown.
 pub fn listed_forms(bench: &mut Bench) {
     const TIMES: u32 = 20_000;
-    for (place, form) in forms().iter().enumerate() {
+    for form in forms::listed() {
         let mut done = 0;
         for _ in 0..TIMES * bench.rounds {
-            let case = aimed_case(&mut bench.chance, |chance, layout| {
-                form.draw(chance, layout)
-            });
+            let case = aimed_case(&mut bench.chance, &form);
             let answer = bench.judge.hold(&case);
             done += u32::from(answer.number == 0);
             if bench.judge.weary() {
@@ -133,14 +131,14 @@ pub fn listed_forms(bench: &mut Bench) {
             }
         }
         bench.judge.expect(done > TIMES / 20, || {
-            format!("form {place} was done only {done} times")
+            format!("{} was done only {done} times", form.name)
         });
     }
 }
 
 /// Listed forms over memories as long as they may be, or one byte shorter.
 pub fn full_memories(bench: &mut Bench) {
-    let forms = forms();
+    let forms = forms::listed();
     for _ in 0..100 * bench.rounds {
         let mut length = || 65_536 - bench.chance.below(2) as usize;
         let layout = Layout {
@@ -155,7 +153,7 @@ pub fn full_memories(bench: &mut Bench) {
         };
         for form in &forms {
             case.record = aim::record(&mut bench.chance, layout);
-            let code = form.draw(&mut bench.chance, layout);
+            let code = aim::code(&mut bench.chance, form, layout);
             place_code(&mut bench.chance, layout, &mut case, &code);
             bench.judge.hold(&case);
         }
@@ -167,9 +165,9 @@ pub fn full_memories(bench: &mut Bench) {
 
 /// A step over short memories whose counter is mostly at the drawn code:
 /// mostly somewhere inside a memory, now and then right at its end.
-pub fn aimed_case(chance: &mut Chance, draw: impl FnOnce(&mut Chance, Layout) -> Vec<u8>) -> Case {
+pub fn aimed_case(chance: &mut Chance, form: &Form) -> Case {
     let layout = Layout::short(chance);
-    let code = draw(chance, layout);
+    let code = aim::code(chance, form, layout);
     let mut case = Case {
         call: Call::Step,
         record: aim::record(chance, layout),

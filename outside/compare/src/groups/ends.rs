@@ -1,10 +1,10 @@
 //! Operands, stack and code at the ends of the memories and across them.
 
 use super::Bench;
-use crate::aim::{self, Layout, COUNTER, XSP};
+use crate::aim::{self, Layout, XSP};
 use crate::case::{Call, Case};
 use crate::image::Image;
-use crate::listed::forms;
+use second::record::COUNTER;
 
 const LAYOUTS: [Layout; 6] = [
     Layout { ram: 0, rom: 16 },
@@ -77,8 +77,7 @@ fn operand(bench: &mut Bench, layout: Layout, address: u32, by_register: u8, fix
     let whole = address & 0xFF_FFFF | high;
 
     let mut case = step_in_rom(bench, layout, &[by_register + pointer, last]);
-    let place = aim::place_of_long(&case.record, usize::from(pointer));
-    aim::put_long(&mut case.record, place, whole);
+    aim::set_long(&mut case.record, pointer, whole);
     bench.judge.hold(&case);
 
     let displacement = bench.chance.byte();
@@ -88,8 +87,7 @@ fn operand(bench: &mut Bench, layout: Layout, address: u32, by_register: u8, fix
         layout,
         &[by_register + 8 + pointer, displacement, last],
     );
-    let place = aim::place_of_long(&case.record, usize::from(pointer));
-    aim::put_long(&mut case.record, place, base);
+    aim::set_long(&mut case.record, pointer, base);
     bench.judge.hold(&case);
 
     let bytes = address.to_le_bytes();
@@ -122,7 +120,7 @@ pub fn stack(bench: &mut Bench) {
             for code in CODES {
                 for high in [0, 0xFF00_0000, bench.chance.long() << 24] {
                     let mut case = step_in_rom(bench, layout, code);
-                    aim::put_long(&mut case.record, XSP, address & 0xFF_FFFF | high);
+                    aim::set_long(&mut case.record, XSP, address & 0xFF_FFFF | high);
                     bench.judge.hold(&case);
                 }
             }
@@ -136,10 +134,10 @@ pub fn stack(bench: &mut Bench) {
 /// Every form at the end of each memory, with all its bytes there, then one
 /// fewer each time: stepped and shown.
 pub fn code(bench: &mut Bench) {
-    for form in forms() {
+    for form in forms::listed() {
         for _ in 0..40 * bench.rounds {
             let layout = Layout { ram: 40, rom: 40 };
-            let code = form.draw(&mut bench.chance, layout);
+            let code = aim::code(&mut bench.chance, &form, layout);
             for there in 0..=code.len() {
                 cut_code(bench, layout, &code[..there]);
             }

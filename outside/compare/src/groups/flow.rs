@@ -1,9 +1,10 @@
 //! Jumps, calls and flags.
 
 use super::Bench;
-use crate::aim::{self, Layout, COUNTER, FLAGS, SPARE_FLAGS, STATUS, XSP};
+use crate::aim::{self, Layout, FLAGS, XSP};
 use crate::case::{Call, Case};
 use crate::image::Image;
+use second::record::{BANK, COUNTER, F, F_PRIME};
 
 const LAYOUT: Layout = Layout { ram: 64, rom: 64 };
 
@@ -33,11 +34,11 @@ pub fn conditions(bench: &mut Bench) {
         for f in all_flags() {
             for distance in [0, 1, 0x7F, 0x80, 0xFE, 0xFF] {
                 let mut case = near_the_top(bench, &[0x60 + condition, distance], 2);
-                case.record[STATUS] = f;
+                case.record[F] = f;
                 bench.judge.hold(&case);
                 let high = bench.chance.pick(&[0x00, 0x7F, 0x80, 0xFF]);
                 let mut case = near_the_top(bench, &[0x70 + condition, distance, high], 3);
-                case.record[STATUS] = f;
+                case.record[F] = f;
                 bench.judge.hold(&case);
             }
         }
@@ -56,9 +57,9 @@ pub fn flag_codes(bench: &mut Bench) {
                 for bank in 0..4 {
                     let mut case = near_the_top(bench, &[code], 1);
                     let level = bench.chance.below(8) as u8;
-                    case.record[STATUS] = f;
-                    case.record[STATUS + 1] = 0x88 | bank | level << 4;
-                    case.record[SPARE_FLAGS] = spare;
+                    case.record[F] = f;
+                    case.record[BANK] = 0x88 | bank | level << 4;
+                    case.record[F_PRIME] = spare;
                     bench.judge.hold(&case);
                 }
             }
@@ -66,11 +67,11 @@ pub fn flag_codes(bench: &mut Bench) {
     }
     for byte in 0..=255 {
         let mut case = near_the_top(bench, &[0x19], 1);
-        aim::put_long(&mut case.record, XSP, 7);
+        aim::set_long(&mut case.record, XSP, 7);
         case.ram.put(7, &[byte]);
         bench.judge.hold(&case);
         let mut case = near_the_top(bench, &[0x17, byte], 2);
-        case.record[STATUS + 1] = 0x88 | bench.chance.below(4) as u8;
+        case.record[BANK] = 0x88 | bench.chance.below(4) as u8;
         bench.judge.hold(&case);
     }
 }
@@ -92,7 +93,7 @@ pub fn far_jumps(bench: &mut Bench) {
             code.extend_from_slice(&target[..length]);
             let back = code.len() + bench.chance.below(3) as usize;
             let mut case = near_the_top(bench, &code, back);
-            aim::put_long(&mut case.record, XSP, stack);
+            aim::set_long(&mut case.record, XSP, stack);
             let top = bench.chance.long();
             case.ram.put(stack as usize, &top.to_le_bytes());
             bench.judge.hold(&case);

@@ -1,8 +1,9 @@
 //! Memories of every length that matters, reset and show.
 
 use super::Bench;
-use crate::aim::{self, Layout, COUNTER, LENGTHS};
+use crate::aim::{self, Layout, LENGTHS};
 use crate::case::{Call, Case};
+use second::record::{COUNTER, F};
 
 fn over_noise(bench: &mut Bench, ram: usize, rom: usize) -> Case {
     // A ROM may be too long to have a place; then its states do not matter.
@@ -25,7 +26,7 @@ pub fn lengths(bench: &mut Bench) {
         for rom in LENGTHS {
             let mut case = over_noise(bench, ram, rom);
             each_call(bench, &mut case);
-            case.record[84] |= 0x08;
+            case.record[F] |= 0x08;
             each_call(bench, &mut case);
             case.record.pop();
             each_call(bench, &mut case);

@@ -5,6 +5,7 @@ use crate::aim::{self, Layout};
 use crate::case::{Call, Case};
 use crate::image::Image;
 use library::Empty;
+use second::record::LENGTH;
 
 const CALLS: [Call; 8] = [
     Call::Reset,
@@ -50,7 +51,7 @@ fn nothing_lent(bench: &mut Bench) {
 /// Records of noise of any length over memories of noise of any length.
 fn noise_lent(bench: &mut Bench) {
     for _ in 0..5_000 * bench.rounds {
-        let lengths = [0, 1, 87, 88, 89, 200, 88, 88];
+        let lengths = [0, 1, LENGTH - 1, LENGTH, LENGTH + 1, 200, LENGTH, LENGTH];
         let mut record = vec![0; bench.chance.pick(&lengths)];
         bench.chance.fill(&mut record);
         let mut length = || match bench.chance.below(40) {

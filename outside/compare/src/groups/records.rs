@@ -1,9 +1,10 @@
 //! Records that are no state's.
 
 use super::Bench;
-use crate::aim::{self, Layout, RECORD_LENGTH};
+use crate::aim::{self, Layout};
 use crate::case::{Call, Case};
 use crate::image::Image;
+use second::record::{COUNTER, LENGTH};
 
 const LAYOUT: Layout = Layout { ram: 32, rom: 32 };
 const CALLS: [Call; 4] = [Call::Step, Call::Run(0), Call::Run(2), Call::Run(1_000_001)];
@@ -29,16 +30,16 @@ fn hold_all(bench: &mut Bench, case: &mut Case) {
 pub fn bits(bench: &mut Bench) {
     for _ in 0..6 * bench.rounds {
         let mut case = with_record(aim::record(&mut bench.chance, LAYOUT));
-        for bit in 0..8 * RECORD_LENGTH {
+        for bit in 0..8 * LENGTH {
             case.record[bit / 8] ^= 1 << (bit % 8);
             hold_all(bench, &mut case);
-            let other = bench.chance.below(8 * RECORD_LENGTH as u32) as usize;
+            let other = bench.chance.below(8 * LENGTH as u32) as usize;
             case.record[other / 8] ^= 1 << (other % 8);
             hold_all(bench, &mut case);
             case.record[other / 8] ^= 1 << (other % 8);
             case.record[bit / 8] ^= 1 << (bit % 8);
         }
-        for place in aim::COUNTER..RECORD_LENGTH {
+        for place in COUNTER..LENGTH {
             let kept = case.record[place];
             for value in 0..=255 {
                 case.record[place] = value;

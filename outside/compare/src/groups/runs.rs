@@ -1,11 +1,12 @@
 //! Runs of many steps.
 
 use super::Bench;
-use crate::aim::{self, Layout, COUNTER};
+use crate::aim::{self, Layout};
 use crate::case::{Call, Case};
 use crate::chance::Chance;
 use crate::image::Image;
-use crate::listed::{forms, Form};
+use forms::Form;
+use second::record::COUNTER;
 
 const LAYOUT: Layout = Layout {
     ram: 2_048,
@@ -38,7 +39,7 @@ pub fn noise(bench: &mut Bench) {
 /// bringing a pointer back into RAM. A refused instruction is skipped.
 pub fn strung(bench: &mut Bench) {
     const LEGS: u32 = 12;
-    let forms = forms();
+    let forms = forms::listed();
     for _ in 0..1_500 * bench.rounds {
         let mut case = Case {
             call: Call::Run(2_500),
@@ -82,7 +83,7 @@ fn string(chance: &mut Chance, forms: &[Form]) -> Image {
 fn drawn(chance: &mut Chance, forms: &[Form]) -> Vec<u8> {
     loop {
         let form = &forms[chance.below(forms.len() as u32) as usize];
-        let mut code = form.draw(chance, LAYOUT);
+        let mut code = aim::code(chance, form, LAYOUT);
         match code[0] {
             0x0E | 0x1A..=0x1D => continue,
             0x1E | 0x70..=0x7F => code[2] = 0,
@@ -175,7 +176,7 @@ fn counting_loop(bench: &mut Bench) -> Case {
 
 /// A run leaves what that many single steps leave.
 pub fn as_steps(bench: &mut Bench) {
-    let forms = forms();
+    let forms = forms::listed();
     for _ in 0..150 * bench.rounds {
         let mut case = Case {
             call: Call::Step,

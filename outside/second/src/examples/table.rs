@@ -22,7 +22,8 @@
 //! A line whose first three columns are empty goes on with the example above
 //! it. Empty lines, and those that begin with `#`, are for the reader only.
 
-use super::{register_place, Example, Part};
+use super::{Example, Part};
+use crate::record;
 
 /// The examples of a table, in its order. A line that is none stops
 /// everything: a slip in a table must not pass for a smaller table.
@@ -113,7 +114,7 @@ fn named(name: &'static str, value: &str) -> Option<Part> {
         "BANK" => Part::Bank(number(value, 1).filter(|&bank| bank < 4)?),
         "PC" => Part::Counter(number(value, 6)?),
         _ => {
-            let (_, size) = register_place(name)?;
+            let size = record::named(name)?.len();
             Part::Register(name, number(value, 2 * size)?)
         }
     })

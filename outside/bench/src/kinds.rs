@@ -1,0 +1,132 @@
+//! Instructions one by one, to see what each kind costs.
+//!
+//! ROM is full of one instruction, and so long that a run of [`STEPS`] ends
+//! before ROM does: there is no jump back, and nothing else is counted.
+
+use crate::scene::{Scene, MOST};
+
+/// The most steps of a run. ROM has more places than this for six bytes, and
+/// RAM room for as many pushes, pops and copied words.
+pub const STEPS: u32 = 8_000;
+
+/// One line a kind: its code, where it has no size; else that for bytes, that
+/// for words and that for longs, where there is one.
+const KINDS: &str = "
+    NOP           | 00
+    RCF           | 10
+    EX F,F'       | 16
+    INCF          | 0C
+    LDF n         | 17 01
+    JR, taken     | 6E 00
+    JR, not taken | 66 00
+    JRL, taken    | 7E 00 00
+    JP n24        | 1B 00 00 FF
+    CALL n24      | 1D 00 00 FF
+    CALR          | 1E 00 00
+    RET           | 0E
+    PUSH F        | 18
+    POP F         | 19
+    PUSH R        | -              | 2B             | 3B
+    POP R         | -              | 4B             | 5B
+    LD R,n        | 23 5A          | 33 5A A5       | 43 5A A5 3C C3
+    LD r,n        | CB 03 5A       | DB 03 5A A5    | EB 03 5A A5 3C C3
+    LD R,r        | CA 8B          | DA 8B          | EA 8B
+    LD r,R        | CA 9B          | DA 9B          | EA 9B
+    EXTZ r        | -              | DA 12          | EA 12
+    EXTS r        | -              | DA 13          | EA 13
+    INC 1,r       | CA 61          | DA 61          | EA 61
+    DEC 1,r       | CA 69          | DA 69          | EA 69
+    ADD R,r       | CA 83          | DA 83          | EA 83
+    ADC R,r       | CA 93          | DA 93          | EA 93
+    SUB R,r       | CA A3          | DA A3          | EA A3
+    AND R,r       | CA C3          | DA C3          | EA C3
+    CP R,r        | CA F3          | DA F3          | EA F3
+    ADD r,n       | CA C8 5A       | DA C8 5A A5    | EA C8 5A A5 3C C3
+    SLA 1,r       | CA EC 01       | DA EC 01       | EA EC 01
+    SLA 4,r       | CA EC 04       | DA EC 04       | EA EC 04
+    SLA 16,r      | CA EC 00       | DA EC 00       | EA EC 00
+    LD R,(R)      | 84 23          | 94 23          | A4 23
+    LD R,(R+d8)   | 8C 04 23       | 9C 04 23       | AC 04 23
+    LD R,(n8)     | C0 40 23       | D0 40 23       | E0 40 23
+    LD R,(n16)    | C1 00 20 23    | D1 00 20 23    | E1 00 20 23
+    LD R,(n24)    | C2 00 20 00 23 | D2 00 20 00 23 | E2 00 20 00 23
+    LD (R),R      | B4 43          | B4 53          | B4 63
+    LD (R+d8),R   | BC 04 43       | BC 04 53       | BC 04 63
+    LD (n16),R    | F1 00 20 43    | F1 00 20 53    | F1 00 20 63
+    ADD R,(R)     | 84 83          | 94 83          | A4 83
+    ADD (R),R     | 84 8B          | 94 8B          | A4 8B
+    CP R,(R)      | 84 F3          | 94 F3          | A4 F3
+    CP (R),R      | 84 FB          | 94 FB          | A4 FB
+    LDI           | 83 10          | 93 10          | -
+    LDIR          | 83 11          | 93 11          | -
+    CPI           | 84 14          | 94 14          | -
+    CPIR          | 84 15          | 94 15          | -
+";
+
+/// The long registers, by their codes. A is FEH, which RAM has nowhere; BC
+/// has more rounds than a run has steps; the pointers and the stack stand in
+/// RAM.
+const LONGS: [(u8, u32); 6] = [
+    (0, 0x1122_33FE),
+    (1, 0x4455_B3C5),
+    (2, 0x0000_A001),
+    (3, 0x0000_2003),
+    (4, 0x0000_4000),
+    (7, 0x0000_8000),
+];
+
+pub struct Kind {
+    pub name: &'static str,
+    pub codes: Vec<Code>,
+}
+
+/// The code of a kind at one size. What has no size is called plain.
+pub struct Code {
+    pub size: &'static str,
+    bytes: Vec<u8>,
+}
+
+pub fn kinds() -> Vec<Kind> {
+    let lines = KINDS.lines().filter(|line| !line.trim().is_empty());
+    lines.map(kind).collect()
+}
+
+fn kind(line: &'static str) -> Kind {
+    let mut columns = line.split('|').map(str::trim);
+    let name = columns.next().expect("a name");
+    let columns: Vec<&str> = columns.collect();
+    let sizes: &[&str] = match columns.len() {
+        1 => &["plain"],
+        3 => &["byte", "word", "long"],
+        _ => panic!("{name} has neither one code nor three"),
+    };
+    let codes = sizes.iter().zip(columns).filter(|(_, code)| *code != "-");
+    Kind {
+        name,
+        codes: codes.map(|(size, code)| self::code(size, code)).collect(),
+    }
+}
+
+fn code(size: &'static str, digits: &str) -> Code {
+    let byte = |digits| u8::from_str_radix(digits, 16).expect("a byte in hex");
+    Code {
+        size,
+        bytes: digits.split(' ').map(byte).collect(),
+    }
+}
+
+impl Code {
+    pub fn scene(&self) -> Scene {
+        let rom = self.bytes.iter().copied().cycle().take(MOST).collect();
+        Scene::new(rom, &LONGS)
+    }
+
+    /// Whether every step of a run does this instruction and no other.
+    pub fn alone(&self) -> bool {
+        let mut scene = self.scene();
+        (0..STEPS).all(|_| {
+            let (shown, _) = second::show(&scene.ram, &scene.rom, scene.machine.counter);
+            shown == self.bytes && second::step(&mut scene.machine, &mut scene.ram, &scene.rom) == 0
+        })
+    }
+}

@@ -1,0 +1,142 @@
+//! The codes that document 01 lists, in its order, as data to test with.
+//!
+//! Written from document 01 alone. The second interpreter's tests go through
+//! it and the comparison draws from it; the interpreter itself does not know
+//! it, so that the two stay apart.
+
+#![forbid(unsafe_code)]
+
+/// One line for each form, in hex: bytes or ranges of bytes; `n` for a byte of
+/// a constant, `a` of an address, `d` of a displacement. Where forms differ
+/// only in what they do they may share a line; the comparison draws equally
+/// often from each line.
+const LISTED: &str = "
+    NOP                 | 00
+    INCF                | 0C
+    DECF                | 0D
+    LDF n               | 17 00-03
+    RCF SCF CCF ZCF     | 10-13
+    EX F,F'             | 16
+    PUSH F              | 18
+    POP F               | 19
+
+    LD R,n8             | 20-27 n
+    LD R,n16            | 30-37 n n
+    LD R,n32            | 40-47 n n n n
+
+    PUSH R, word        | 28-2E
+    PUSH R, long        | 38-3E
+    POP R, word         | 48-4E
+    POP R, long         | 58-5E
+
+    JP n16              | 1A a a
+    JP n24              | 1B a a a
+    CALL n16            | 1C a a
+    CALL n24            | 1D a a a
+    CALR d16            | 1E d d
+    RET                 | 0E
+    JR cc,d8            | 60-6F d
+    JRL cc,d16          | 70-7F d d
+
+    LD r,n8             | C8-CF 03 n
+    LD r,n16            | D8-DF 03 n n
+    LD r,n32            | E8-EF 03 n n n n
+    LD R,r              | C8-CF,D8-DF,E8-EF 88-8F
+    LD r,R              | C8-CF,D8-DF,E8-EF 98-9F
+    ADD ADC R,r         | C8-CF,D8-DF,E8-EF 80-87,90-97
+    SUB SBC R,r         | C8-CF,D8-DF,E8-EF A0-A7,B0-B7
+    AND XOR OR R,r      | C8-CF,D8-DF,E8-EF C0-C7,D0-D7,E0-E7
+    CP R,r              | C8-CF,D8-DF,E8-EF F0-F7
+    ADD to CP r,n8      | C8-CF C8-CF n
+    ADD to CP r,n16     | D8-DF C8-CF n n
+    ADD to CP r,n32     | E8-EF C8-CF n n n n
+    INC n,r             | C8-CF,D8-DF,E8-EF 60-67
+    DEC n,r             | C8-CF,D8-DF,E8-EF 68-6F
+    SLA SRA SLL SRL n,r | C8-CF,D8-DF,E8-EF EC-EF 00-0F
+    EXTZ r              | D8-DF,E8-EF 12
+    EXTS r              | D8-DF,E8-EF 13
+
+    LD R,(R)            | 80-87,90-97,A0-A7 20-27
+    ADD to CP R,(R)     | 80-87,90-97,A0-A7 80-87,90-97,A0-A7,B0-B7,C0-C7,D0-D7,E0-E7,F0-F7
+    ADD to CP (R),R     | 80-87,90-97,A0-A7 88-8F,98-9F,A8-AF,B8-BF,C8-CF,D8-DF,E8-EF,F8-FF
+    LD R,(R+d8)         | 88-8F,98-9F,A8-AF d 20-27
+    ADD to CP R,(R+d8)  | 88-8F,98-9F,A8-AF d 80-87,90-97,A0-A7,B0-B7,C0-C7,D0-D7,E0-E7,F0-F7
+    ADD to CP (R+d8),R  | 88-8F,98-9F,A8-AF d 88-8F,98-9F,A8-AF,B8-BF,C8-CF,D8-DF,E8-EF,F8-FF
+    LD to CP with (n8)  | C0,D0,E0 a 20-27,80-FF
+    LD to CP with (n16) | C1,D1,E1 a a 20-27,80-FF
+    LD to CP with (n24) | C2,D2,E2 a a a 20-27,80-FF
+
+    LD (R),R            | B0-B7 40-47,50-57,60-67
+    LD (R+d8),R         | B8-BF d 40-47,50-57,60-67
+    LD (n8),R           | F0 a 40-47,50-57,60-67
+    LD (n16),R          | F1 a a 40-47,50-57,60-67
+    LD (n24),R          | F2 a a a 40-47,50-57,60-67
+
+    LDI LDIR LDD LDDR   | 83,85,93,95 10-13
+    CPI CPIR CPD CPDR   | 82-87,92-97 14-17
+";
+
+/// One place of a form.
+#[derive(Clone, Debug, PartialEq, Eq)]
+pub enum Slot {
+    /// One of these bytes.
+    One(Vec<u8>),
+    /// A byte of a constant.
+    Constant,
+    /// A byte of an address.
+    Address,
+    /// A byte of a displacement.
+    Displacement,
+}
+
+impl Slot {
+    /// Whether a byte may stand there.
+    pub fn takes(&self, byte: u8) -> bool {
+        match self {
+            Slot::One(bytes) => bytes.contains(&byte),
+            _ => true,
+        }
+    }
+}
+
+/// The codes of one line: the bytes of an instruction, one after another.
+#[derive(Clone, Debug, PartialEq, Eq)]
+pub struct Form {
+    pub name: &'static str,
+    pub slots: Vec<Slot>,
+}
+
+/// Every listed form.
+pub fn listed() -> Vec<Form> {
+    let lines = LISTED.lines().filter(|line| !line.trim().is_empty());
+    lines.map(form).collect()
+}
+
+/// The form of a line with this name.
+pub fn named(name: &str) -> Form {
+    let form = listed().into_iter().find(|form| form.name == name);
+    form.unwrap_or_else(|| panic!("no form is called {name}"))
+}
+
+fn form(line: &'static str) -> Form {
+    let (name, codes) = line.split_once('|').expect("a name and its codes");
+    Form {
+        name: name.trim(),
+        slots: codes.split_whitespace().map(slot).collect(),
+    }
+}
+
+fn slot(word: &str) -> Slot {
+    match word {
+        "n" => Slot::Constant,
+        "a" => Slot::Address,
+        "d" => Slot::Displacement,
+        _ => Slot::One(word.split(',').flat_map(range).collect()),
+    }
+}
+
+fn range(word: &str) -> std::ops::RangeInclusive<u8> {
+    let value = |digits: &str| u8::from_str_radix(digits, 16).expect("a byte in hex");
+    let (low, high) = word.split_once('-').unwrap_or((word, word));
+    value(low)..=value(high)
+}

@@ -1,0 +1,64 @@
+//! Where everything stands in a saved state's record, as document 01 has it:
+//! banks 0 to 3 (XWA, XBC, XDE, XHL each), XIX, XIY, XIZ, XSP, the counter in
+//! four bytes, SR in two, F' in one, a zero byte.
+//!
+//! Whoever looks into a record goes by this. One test states the offsets as
+//! numbers (`where_everything_lies` in `tests/records.rs`).
+
+use crate::width::Width;
+use std::ops::Range;
+
+const LONG: usize = 4;
+/// The bytes of a bank.
+pub const BANK_SIZE: usize = 4 * LONG;
+/// The first of the registers that all banks share, which end at the counter.
+pub const SHARED: usize = 4 * BANK_SIZE;
+/// The program counter, which ends at SR.
+pub const COUNTER: usize = SHARED + 4 * LONG;
+/// SR, which ends at F'.
+pub const SR: usize = COUNTER + 4;
+/// The low byte of SR: the flags.
+pub const F: usize = SR;
+/// The high byte of SR: the bank and the level.
+pub const BANK: usize = SR + 1;
+/// The spare flags F'.
+pub const F_PRIME: usize = SR + 2;
+/// The byte that is always zero.
+pub const ZERO: usize = F_PRIME + 1;
+/// The length of a record.
+pub const LENGTH: usize = ZERO + 1;
+
+/// The byte registers by their codes.
+pub const BYTES: [&str; 8] = ["W", "A", "B", "C", "D", "E", "H", "L"];
+/// The word registers by their codes.
+pub const WORDS: [&str; 8] = ["WA", "BC", "DE", "HL", "IX", "IY", "IZ", "SP"];
+/// The long registers by their codes.
+pub const LONGS: [&str; 8] = ["XWA", "XBC", "XDE", "XHL", "XIX", "XIY", "XIZ", "XSP"];
+
+/// The bytes of the register of this width and code, of this bank where it is
+/// one of a bank's. Byte registers come in pairs: the even codes W, B, D, H
+/// are the second byte of a long, the odd ones A, C, E, L the first.
+pub fn register(width: Width, code: u8, bank: u8) -> Range<usize> {
+    let code = usize::from(code % 8);
+    let bank = BANK_SIZE * usize::from(bank % 4);
+    let first = match width {
+        Width::Byte => bank + code / 2 * LONG + (code + 1) % 2,
+        Width::Word | Width::Long if code < 4 => bank + code * LONG,
+        Width::Word | Width::Long => SHARED + (code - 4) * LONG,
+    };
+    first..first + width.bytes()
+}
+
+/// The bytes of the register of this name, of bank 0 where it is one of a
+/// bank's. `None` if no register is called so.
+pub fn named(name: &str) -> Option<Range<usize>> {
+    let widths = [
+        (Width::Byte, BYTES),
+        (Width::Word, WORDS),
+        (Width::Long, LONGS),
+    ];
+    widths.iter().find_map(|(width, names)| {
+        let code = names.iter().position(|&known| known == name)?;
+        Some(register(*width, code as u8, 0))
+    })
+}
