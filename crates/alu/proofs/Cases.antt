@@ -9,8 +9,8 @@ use Rattle.alu.specs.Operation.{operated}
 use Rattle.alu.specs.Shift.{placesOf, shiftOf, shiftBy}
 use Rattle.alu.specs.Count.{incOf, decOf}
 use Rattle.alu.specs.Extend.{extzOf, extsOf}
-use Rattle.alu.specs.Cases.{right, every, holding, cases}
+use Rattle.alu.specs.Cases.{comesOut, every, holding, aluCases}
 
-pub cases-hold : T (every right cases)
-unfolding cases every right holding basic holdsOf operated placesOf byteOf flagsOf onesOf parityOf computedOf sumOf differenceOf andOf orOf xorOf shiftOf shiftBy incOf decOf extzOf extsOf
+pub cases-hold : T (every comesOut aluCases)
+unfolding aluCases every comesOut holding basic holdsOf operated placesOf byteOf flagsOf onesOf parityOf computedOf sumOf differenceOf andOf orOf xorOf shiftOf shiftBy incOf decOf extzOf extsOf
 cases-hold = tt

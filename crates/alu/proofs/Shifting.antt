@@ -16,14 +16,14 @@ use Rattle.alu.specs.declared.Shift.the-variants.{Sla, Sra, Sll, Srl}
 use Rattle.alu.specs.declared.Shifted.{Shifted}
 use Rattle.alu.specs.Width.{low, negative, weighed}
 use Rattle.alu.specs.Sums.{computedOf}
-use Rattle.alu.specs.Shift.{shifted, placeOf, shiftBy, shiftOf}
+use Rattle.alu.specs.Shift.{shifted, onePlace, shiftBy, shiftOf}
 use Rattle.alu.specs.Meaning.{off, EndsWithAPlace, LeftMultiplies, RightDivides, SignedRightDivides, ExtsKeepsNumber}
 use Rattle.alu.proofs.Widths.{twice, bits-pos, half-le, half-top}
 use Rattle.alu.proofs.Ranges.{extz-half}
 use Rattle.alu.proofs.Shifts.{shift-add}
 
 -- the last place of a shift
-last : (w : Shift) (k n : ℕ) (s : Shifted) → shiftBy w k (suc n) s ≡ placeOf w k (shiftBy w k n s .value)
+last : (w : Shift) (k n : ℕ) (s : Shifted) → shiftBy w k (suc n) s ≡ onePlace w k (shiftBy w k n s .value)
 unfolding shiftBy
 last w k n s = ap (λ (m : ℕ). shiftBy w k m s) (sym (add-one n)) ∙ shift-add w k n 1 s
 
@@ -41,7 +41,7 @@ after-none : (w : Shift) (k x : ℕ) → after w k x 0 ≡ x
 unfolding after shiftBy
 after-none w k x = refl
 
-after-more : (w : Shift) (k x n : ℕ) → after w k x (suc n) ≡ placeOf w k (after w k x n) .value
+after-more : (w : Shift) (k x n : ℕ) → after w k x (suc n) ≡ onePlace w k (after w k x n) .value
 unfolding after
 after-more w k x n = ap (λ (t : Shifted). t .value) (last w k n (shifted x false))
 
@@ -52,7 +52,7 @@ doubled m y =
     let f : y * 2 ≡ y + y = omega arith in
     rw (e, f) (sym (add-mod y y m))
 
-left-after : (w : Shift) → ((k x : ℕ) → placeOf w k x .value ≡ low k (x * 2)) → (k a n : ℕ) → after w k (low k a) n ≡ low k (a * 2 ^ n)
+left-after : (w : Shift) → ((k x : ℕ) → onePlace w k x .value ≡ low k (x * 2)) → (k a n : ℕ) → after w k (low k a) n ≡ low k (a * 2 ^ n)
 left-after w f k a zero = after-none w k (low k a) ∙ ap (low k) (sym (mul-one a))
 left-after w f k a (suc n) =
     after-more w k (low k a) n
@@ -74,7 +74,7 @@ unfolding shiftOf computedOf after
 right-divides k a n = right-after k (low k a) n
 
 -- ---- to the right, with the sign
-sign-kept : (k x : ℕ) → negative k (placeOf Sra k x .value) ≡ negative k x
+sign-kept : (k x : ℕ) → negative k (onePlace Sra k x .value) ≡ negative k x
 sign-kept k x = go (negative k x) refl
   where
     go : (b : Bool) → negative k x ≡ b → leb (2 ^ (k - 1)) (x / 2 + cond b (2 ^ (k - 1)) 0) ≡ b

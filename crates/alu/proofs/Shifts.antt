@@ -17,27 +17,27 @@ use Rattle.alu.specs.Sums.{computedOf}
 use native.Mathlib.Numerals.{sub-one}
 use Rattle.alu.specs.declared.Shift.{Shift}
 use Rattle.alu.specs.declared.Shifted.{Shifted}
-use Rattle.alu.specs.Shift.{placesOf, shifted, joined, placeOf, shiftBy, shiftOf}
+use Rattle.alu.specs.Shift.{placesOf, shifted, joined, onePlace, shiftBy, shiftOf}
 
 -- a places and then b places are a + b places
 pub shift-add : (w : Shift) (k a b : ℕ) (s : Shifted) → shiftBy w k (a + b) s ≡ shiftBy w k b (shiftBy w k a s)
 unfolding shiftBy
 shift-add w k zero b s = ap (λ (n : ℕ). shiftBy w k n s) (zero-add b)
 shift-add w k (suc a) b s =
-    ap (λ (n : ℕ). shiftBy w k n s) (suc-add a b) ∙ shift-add w k a b (placeOf w k (s .value))
+    ap (λ (n : ℕ). shiftBy w k n s) (suc-add a b) ∙ shift-add w k a b (onePlace w k (s .value))
 
 -- ---- the recursion of the code
 pub shift-none : (w : Shift) (k n v : ℕ) (o : Bool) (i : ℕ) → n ≡ 0 → i ≡ one o → v + i * 2 ^ 32 ≡ joined (shiftBy w k n (shifted v o))
 unfolding shiftBy
 shift-none w k n v o i e f = rw (e, f)
 
-less-one : (w : Shift) (k n : ℕ) (s : Shifted) → (n ≡ 0 → ⊥) → shiftBy w k (n - 1) (placeOf w k (s .value)) ≡ shiftBy w k n s
+less-one : (w : Shift) (k n : ℕ) (s : Shifted) → (n ≡ 0 → ⊥) → shiftBy w k (n - 1) (onePlace w k (s .value)) ≡ shiftBy w k n s
 unfolding shiftBy
 less-one w k zero s f = absurd (f refl)
-less-one w k (suc n) s f = ap (λ (m : ℕ). shiftBy w k m (placeOf w k (s .value))) (sub-one (suc n))
+less-one w k (suc n) s f = ap (λ (m : ℕ). shiftBy w k m (onePlace w k (s .value))) (sub-one (suc n))
 
 pub shift-more :
-    (w : Shift) (k n v : ℕ) (o : Bool) (p : Shifted) (r : ℕ) → (n ≡ 0 → ⊥) → p ≡ placeOf w k v →
+    (w : Shift) (k n v : ℕ) (o : Bool) (p : Shifted) (r : ℕ) → (n ≡ 0 → ⊥) → p ≡ onePlace w k v →
     r ≡ joined (shiftBy w k (n - 1) (shifted (p .value) (p .out))) → r ≡ joined (shiftBy w k n (shifted v o))
 shift-more w k n v o p r f e g =
     g ∙ ap (λ (s : Shifted). joined (shiftBy w k (n - 1) s)) e ∙ ap joined (less-one w k n (shifted v o) f)
@@ -49,7 +49,7 @@ cond-le true n = le-refl n
 cond-le false n = zero-le
 
 -- a place keeps a number within k bits
-pub place-lt : (w : Shift) (k x : ℕ) → 0 < k → x < 2 ^ k → placeOf w k x .value < 2 ^ k
+pub place-lt : (w : Shift) (k x : ℕ) → 0 < k → x < 2 ^ k → onePlace w k x .value < 2 ^ k
 place-lt Sla k x p h = mod-lt (x * 2) (pow-pos k)
 place-lt Sra k x p h = omega (arith, twice k p, cond-le (negative k x) (2 ^ (k - 1)))
 place-lt Sll k x p h = mod-lt (x * 2) (pow-pos k)
@@ -58,13 +58,13 @@ place-lt Srl k x p h = omega arith
 pub shift-lt : (w : Shift) (k n : ℕ) (s : Shifted) → 0 < k → s .value < 2 ^ k → shiftBy w k n s .value < 2 ^ k
 unfolding shiftBy
 shift-lt w k zero s p h = h
-shift-lt w k (suc n) s p h = shift-lt w k n (placeOf w k (s .value)) p (place-lt w k (s .value) p h)
+shift-lt w k (suc n) s p h = shift-lt w k n (onePlace w k (s .value)) p (place-lt w k (s .value) p h)
 
 -- the bit that went out before a place makes no difference
 pub out-forgotten : (w : Shift) (k n : ℕ) (s t : Shifted) → 0 < n → s .value ≡ t .value → shiftBy w k n s ≡ shiftBy w k n t
 unfolding shiftBy
 out-forgotten w k zero s t h e = absurd (not-suc-le-zero h)
-out-forgotten w k (suc n) s t h e = ap (λ (x : ℕ). shiftBy w k n (placeOf w k x)) e
+out-forgotten w k (suc n) s t h e = ap (λ (x : ℕ). shiftBy w k n (onePlace w k x)) e
 
 -- a places and then b places leave the same value and flags as a + b places
 pub shift-merge : (w : Shift) (k x a b : ℕ) → 0 < k → 0 < b → shiftOf w k (shiftOf w k x a .value) b ≡ shiftOf w k x (a + b)

@@ -22,13 +22,13 @@ pub record Case : Type 0 where
   pub f : ℕ
 
 -- the value and F are those of the table
-unfoldable pub right : Case → Bool
-right p = eqb (p .got .value) (p .value) && eqb (byteOf (p .got .flags)) (p .f)
+unfoldable pub comesOut : Case → Bool
+comesOut p = eqb (p .got .value) (p .value) && eqb (byteOf (p .got .flags)) (p .f)
 
 -- all rows of a table are right
 unfoldable pub every : {A : Type 0} → (A → Bool) → List A → Bool
-every right [] = true
-every right (x ∷ xs) = right x && every right xs
+every test [] = true
+every test (x ∷ xs) = test x && every test xs
 
 -- a row of the table
 abbrev is : Computed → ℕ → ℕ → Case
@@ -47,8 +47,8 @@ holding zero f = 0
 holding (suc n) f = one (holdsOf f n) * 2 ^ n + holding n f
 
 -- the table
-unfoldable pub cases : List Case
-cases =
+unfoldable pub aluCases : List Case
+aluCases =
     -- P1 to P9
     is (operated And 16 0x7350 0x3456 false) 0x3050 0x14
     ∷ is (operated Or 16 0x7350 0x3456 false) 0x7756 0x04

@@ -14,7 +14,7 @@ use Rattle.alu.specs.declared.Arith.the-variants.{Cp}
 use Rattle.alu.specs.Sums.{sumOf, differenceOf}
 use Rattle.alu.specs.Condition.{holdsOf}
 use Rattle.alu.specs.Operation.{operated}
-use Rattle.alu.specs.Shift.{placeOf, shiftOf}
+use Rattle.alu.specs.Shift.{onePlace, shiftOf}
 use Rattle.alu.specs.Extend.{extzOf, extsOf}
 
 -- the value and the carry together are the exact sum
@@ -70,8 +70,8 @@ ComparisonOrders = (k a b : ℕ) (c : Bool) → 0 < k → Ordered k (low k a) (l
 
 -- a shift by n + 1 ends with one place: its value, and C is the bit that this place puts out
 pub record LastPlace (w : Shift) (k a n : ℕ) : Type 0 where
-  pub value : shiftOf w k a (suc n) .value ≡ placeOf w k (shiftOf w k a n .value) .value
-  pub carry : shiftOf w k a (suc n) .flags .c ≡ placeOf w k (shiftOf w k a n .value) .out
+  pub value : shiftOf w k a (suc n) .value ≡ onePlace w k (shiftOf w k a n .value) .value
+  pub carry : shiftOf w k a (suc n) .flags .c ≡ onePlace w k (shiftOf w k a n .value) .out
 
 abbrev pub EndsWithAPlace : Type 0
 EndsWithAPlace = (w : Shift) (k a n : ℕ) → LastPlace w k a n

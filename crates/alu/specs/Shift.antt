@@ -29,16 +29,16 @@ abbrev pub rightOf : ℕ → ℕ → Shifted
 rightOf x above = shifted (x / 2 + above) (eqb (x % 2) 1)
 
 -- SLA and SLL are the same; to the right, SRA keeps the sign and SRL brings in 0
-abbrev pub placeOf : Shift → ℕ → ℕ → Shifted
-placeOf Sla k x = leftOf k x
-placeOf Sra k x = rightOf x (weighed k x)
-placeOf Sll k x = leftOf k x
-placeOf Srl k x = rightOf x 0
+abbrev pub onePlace : Shift → ℕ → ℕ → Shifted
+onePlace Sla k x = leftOf k x
+onePlace Sra k x = rightOf x (weighed k x)
+onePlace Sll k x = leftOf k x
+onePlace Srl k x = rightOf x 0
 
 -- a shift by num is one place and then a shift by num less one
 unfoldable pub shiftBy : Shift → ℕ → ℕ → Shifted → Shifted
 shiftBy w k zero s = s
-shiftBy w k (suc num) s = shiftBy w k num (placeOf w k (s .value))
+shiftBy w k (suc num) s = shiftBy w k num (onePlace w k (s .value))
 
 -- the value and flags of a shift: V parity, C the last bit out
 unfoldable pub shiftOf : Shift → ℕ → ℕ → ℕ → Computed

@@ -10,7 +10,7 @@ ghost use Rattle.alu.specs.Sums.{sumOf, differenceOf, computedOf, turned
 ghost use Rattle.alu.specs.Parity.{parityOf};
 ghost use Rattle.alu.specs.Logic.{plain, andOf, orOf, xorOf};
 ghost use Rattle.alu.specs.Operation.{operated};
-ghost use Rattle.alu.specs.Shift.{placesOf, shifted, joined, leftOf, rightOf, placeOf, shiftBy, shiftOf};
+ghost use Rattle.alu.specs.Shift.{placesOf, shifted, joined, leftOf, rightOf, onePlace, shiftBy, shiftOf};
 ghost use Rattle.alu.specs.Count.{countedOf, incOf, decOf};
 ghost use Rattle.alu.specs.Extend.{extzOf, extsOf};
 ghost use Rattle.alu.specs.Condition.{lessThan, basic, holdsOf};
@@ -252,7 +252,7 @@ fn right(x: u32, above: u32) -> Shifted
 
 // One place.
 fn place(kind: Shift, size: Size, x: u32) -> Shifted
-    ensures { λ r. ⌜ r ≡ placeOf kind (bitsOf size) x ⌝ }
+    ensures { λ r. ⌜ r ≡ onePlace kind (bitsOf size) x ⌝ }
 {
     match kind {
         Shift::Sla => left(size, x),

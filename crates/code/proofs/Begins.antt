@@ -24,7 +24,7 @@ use Rattle.code.specs.declared.Base.the-variants.{Indirect, Displaced, A
 use Rattle.alu.specs.declared.Shift.{Shift}
 use Rattle.code.specs.Said.{Said, whole, unlisted, next, number, judge, numberAt, withFound}
 use Rattle.code.specs.Rows.{Row, has, lookup, byRows}
-use Rattle.code.specs.Registers.{registerRows, placesRows, notByte, shiftOf}
+use Rattle.code.specs.Registers.{registerRows, placesRows, notByte, shiftKind}
 use Rattle.code.specs.Memory.{form, memoryRows, storeRows, copies, compares, blocks, blockRows, indirectRows}
 use Rattle.code.specs.Listed.{formWith, absoluteRows, bankNumberRows, bankRows, flagRows, constantRows, stackRows, jumpRows, relativeRows, registerFormRows, memoryFormRows, memoryAtRows, storeFormRows, firstRows, decodeOf}
 use Rattle.code.specs.Laws.{ShortBegins}
@@ -163,7 +163,7 @@ register : (z : Size) (o : Operand) → Open (byRows (registerRows z o))
 unfolding registerRows lookup
 register z o =
     by-rows (registerRows z o) 0x88 (omega arith) tt
-    (λ b h. (λ v. tt, λ v. tt), (λ b h. tt, (λ b h. tt, (λ b h. tt, (λ b h. (λ v. tt, λ v. tt), (λ b h. tt, (λ b h. tt, (λ b h. places z o (shiftOf (b % 4)), (λ b h. extension Extz z o, (λ b h. extension Exts z o, tt))))))))))
+    (λ b h. (λ v. tt, λ v. tt), (λ b h. tt, (λ b h. tt, (λ b h. tt, (λ b h. (λ v. tt, λ v. tt), (λ b h. tt, (λ b h. tt, (λ b h. places z o (shiftKind (b % 4)), (λ b h. extension Extz z o, (λ b h. extension Exts z o, tt))))))))))
 
 memory-rows : (z : Size) (o : Operand) → OpenRows (memoryRows z o)
 unfolding memoryRows

@@ -18,7 +18,7 @@ use Rattle.code.specs.declared.Found.{Found}
 use Rattle.code.specs.declared.Found.the-variants.{Value, Missing}
 use Rattle.code.specs.declared.Decoded.{Decoded}
 use Rattle.code.specs.declared.Decoded.the-variants.{Short, Unlisted}
-use Rattle.code.specs.Said.{Said, whole, next, number, judge, numberAt, withFound, valueIn, wholeOf}
+use Rattle.code.specs.Said.{Said, whole, next, number, judge, numberAt, withFound, foundOr0, wholeOf}
 use Rattle.code.specs.Rows.{run, _⇒_, lookup, byRows}
 
 module _ (f : ℕ → Said) (s : List ℕ) (i : ℕ) where
@@ -80,14 +80,14 @@ bytes-bounds Byte n e = omega arith
 bytes-bounds Word n e = omega arith
 bytes-bounds Long n e = omega arith
 
-with-value : (f : Found) (k : ℕ → Decoded) → withFound f (λ v. k (valueIn f)) ≡ withFound f k
+with-value : (f : Found) (k : ℕ → Decoded) → withFound f (λ v. k (foundOr0 f)) ≡ withFound f k
 with-value (Value v) k = refl
 with-value Missing k = refl
 
 -- an instruction with a number in it, which was looked for and found or not
 pub with-number :
     (op : ℕ → Op) (z : Size) (o : ℕ → Operand) (s : List ℕ) (i n v l : ℕ) (f : Found) (d : Decoded) →
-    f ≡ numberAt s i n → v ≡ valueIn f → l ≡ i + n → d ≡ withFound f (λ w. wholeOf (op v) z (o v) l) →
+    f ≡ numberAt s i n → v ≡ foundOr0 f → l ≡ i + n → d ≡ withFound f (λ w. wholeOf (op v) z (o v) l) →
     d ≡ judge (number n (λ w. whole (op w) z (o w))) s i
 unfolding judge
 with-number op z o s i n v l f d e g h k =

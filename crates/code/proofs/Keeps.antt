@@ -17,7 +17,7 @@ use Rattle.code.specs.declared.Decoded.{Decoded}
 use Rattle.code.specs.declared.Decoded.the-variants.{Whole, Short, Unlisted}
 use Rattle.code.specs.Said.{Said, whole, unlisted, next, number, judge}
 use Rattle.code.specs.Rows.{Row, lookup}
-use Rattle.code.specs.Registers.{arithOf, shiftOf}
+use Rattle.code.specs.Registers.{arithOf, shiftKind}
 use Rattle.code.specs.Written.{codeOf, arithNumber, shiftNumber}
 use Rattle.code.proofs.AllRows.{AllRows, in-rows as in-all, both-rows as join}
 use Rattle.code.proofs.Prefix.{after-next, after-number}
@@ -88,7 +88,7 @@ arith-back (suc (suc (suc (suc (suc (suc zero)))))) h = refl
 arith-back (suc (suc (suc (suc (suc (suc (suc zero))))))) h = refl
 arith-back (suc (suc (suc (suc (suc (suc (suc (suc n)))))))) h = let z : ⊥ = omega arith in absurd z
 
-pub shift-back : (n : ℕ) → n < 4 → shiftNumber (shiftOf n) ≡ n
+pub shift-back : (n : ℕ) → n < 4 → shiftNumber (shiftKind n) ≡ n
 shift-back zero h = refl
 shift-back (suc zero) h = refl
 shift-back (suc (suc zero)) h = refl

@@ -20,7 +20,7 @@ use Rattle.code.specs.declared.Operand.{Operand}
 use Rattle.code.specs.declared.Operand.the-variants.{Register}
 use Rattle.code.specs.Said.{whole}
 use Rattle.code.specs.Rows.{Row, byRows}
-use Rattle.code.specs.Registers.{registerRows, placesRows, notByte, shiftOf}
+use Rattle.code.specs.Registers.{registerRows, placesRows, notByte, shiftKind}
 use Rattle.code.specs.Memory.{form, memoryRows, storeRows, copies, compares, blocks, blockRows, indirectRows}
 use Rattle.code.specs.Listed.{formWith, absoluteRows, bankNumberRows, bankRows, flagRows, constantRows, stackRows, jumpRows, relativeRows, registerFormRows, memoryFormRows, memoryAtRows, storeFormRows, firstRows, decodeOf}
 use Rattle.code.specs.Written.{codeOf, placeCode, sizeStep, shiftNumber}
@@ -51,7 +51,7 @@ module _ (z : Size) (r a : ℕ) (e : a ≡ 0xC8 + sizeStep z + r) where
               (
                 λ b h. ap₂ (λ (x w : ℕ). x ∷ w ∷ []) e (let q = run-in 0x68 0x6F b h in omega arith),
                 (
-                  λ b h. in-rows (placesRows z (Register r) (shiftOf (b % 4))) (a ∷ b ∷ []) (places (shiftOf (b % 4)) b (let q = run-in 0xEC 0xEF b h in rw (shift-back (b % 4) (mod-lt b (omega arith))) (omega arith))),
+                  λ b h. in-rows (placesRows z (Register r) (shiftKind (b % 4))) (a ∷ b ∷ []) (places (shiftKind (b % 4)) b (let q = run-in 0xEC 0xEF b h in rw (shift-back (b % 4) (mod-lt b (omega arith))) (omega arith))),
                   (
                     λ b h. extension Extz z (ap₂ (λ (x w : ℕ). x ∷ w ∷ []) e (eqb-true b 0x12 h)),
                     (

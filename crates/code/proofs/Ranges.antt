@@ -22,7 +22,7 @@ use Rattle.code.specs.declared.Operand.{Operand}
 use Rattle.code.specs.declared.Operand.the-variants.{Register, Constant, Memory}
 use Rattle.code.specs.Said.{whole}
 use Rattle.code.specs.Rows.{Row, lookup, byRows}
-use Rattle.code.specs.Registers.{registerRows, placesRows, notByte, shiftOf}
+use Rattle.code.specs.Registers.{registerRows, placesRows, notByte, shiftKind}
 use Rattle.code.specs.Memory.{form, memoryRows, storeRows, copies, compares, blocks, blockRows, indirectRows}
 use Rattle.code.specs.Listed.{formWith, absoluteRows, bankNumberRows, bankRows, flagRows, constantRows, stackRows, jumpRows, relativeRows, registerFormRows, memoryFormRows, memoryAtRows, storeFormRows, firstRows, decodeOf}
 use Rattle.code.specs.Range.{Holds, InRange, memoryRange, placeRange, noByte, NotLong, PointersIn, placeBytes, lengthOf}
@@ -88,7 +88,7 @@ module _ (Y : Type 0) where
                   (
                     λ b h k. (two, refl, λ y. (mod-lt b (omega arith), q)),
                     (
-                      λ b h k. by-rows Fit Fine (placesRows z (Register r) (shiftOf (b % 4))) 2 (places-rows z r (shiftOf (b % 4)) q),
+                      λ b h k. by-rows Fit Fine (placesRows z (Register r) (shiftKind (b % 4))) 2 (places-rows z r (shiftKind (b % 4)) q),
                       (
                         λ b h k. extension Extz z r (λ z y w. (w, q)) (λ z. refl),
                         (

@@ -12,7 +12,7 @@ use Rattle.code.specs.declared.Operand.{Operand}
 use Rattle.code.specs.declared.Decoded.{Decoded}
 use Rattle.code.specs.Said.{whole, unlisted, number, judge, wholeOf}
 use Rattle.code.specs.Rows.{lookup, byRows}
-use Rattle.code.specs.Registers.{registerRows, placesRows, arithOf, shiftOf, notByte}
+use Rattle.code.specs.Registers.{registerRows, placesRows, arithOf, shiftKind, notByte}
 use Rattle.little.specs.Width.{bytesOf}
 use Rattle.code.proofs.Groups.{in-group, in-groups, in-others, Missed}
 
@@ -49,7 +49,7 @@ module _ (z : Size) (o : Operand) where
   unfolding registerRows lookup
   no-extension = in-group _ 2 (λ h. refl, λ h. refl, λ h. absurd (h .0 .1 refl), λ h. absurd (h .1 refl), λ h. refl, λ h. refl, λ h. refl, λ h. refl)
 
-  pub shift : (b : ℕ) → b / 8 ≡ 29 → 0xEC ≤ b → lookup (registerRows z o) b ≡ byRows (placesRows z o (shiftOf (b % 4)))
+  pub shift : (b : ℕ) → b / 8 ≡ 29 → 0xEC ≤ b → lookup (registerRows z o) b ≡ byRows (placesRows z o (shiftKind (b % 4)))
   unfolding registerRows lookup
   shift = in-group _ 29 (λ h. let x : ⊥ = omega arith in absurd x, λ h. let x : ⊥ = omega arith in absurd x, λ h. let x : ⊥ = omega arith in absurd x, λ h. let x : ⊥ = omega arith in absurd x, λ h. refl, λ h. refl, λ h. refl, λ h. refl)
 

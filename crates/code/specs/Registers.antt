@@ -25,11 +25,11 @@ arithOf (suc (suc (suc (suc (suc (suc zero)))))) = Or
 arithOf (suc (suc (suc (suc (suc (suc (suc n))))))) = Cp
 
 -- SLA SRA SLL SRL by number, 0 to 3
-abbrev pub shiftOf : ℕ → Shift
-shiftOf zero = Sla
-shiftOf (suc zero) = Sra
-shiftOf (suc (suc zero)) = Sll
-shiftOf (suc (suc (suc n))) = Srl
+abbrev pub shiftKind : ℕ → Shift
+shiftKind zero = Sla
+shiftKind (suc zero) = Sra
+shiftKind (suc (suc zero)) = Sll
+shiftKind (suc (suc (suc n))) = Srl
 
 -- a byte 00 to 0F
 unfoldable pub placesRows : Size → Operand → Shift → List Row
@@ -52,7 +52,7 @@ registerRows z o =
     ∷ (run 0xC8 0xCF ⇒ λ b. number (bytesOf z) (λ n. whole (ComputeConstant (arithOf (b % 8)) n) z o))
     ∷ (run 0x60 0x67 ⇒ λ b. whole (Inc (b % 8)) z o)
     ∷ (run 0x68 0x6F ⇒ λ b. whole (Dec (b % 8)) z o)
-    ∷ (run 0xEC 0xEF ⇒ λ b. byRows (placesRows z o (shiftOf (b % 4))))
+    ∷ (run 0xEC 0xEF ⇒ λ b. byRows (placesRows z o (shiftKind (b % 4))))
     ∷ (one 0x12 ⇒ λ b. notByte z (whole Extz z o))
     ∷ (one 0x13 ⇒ λ b. notByte z (whole Exts z o))
     ∷ []

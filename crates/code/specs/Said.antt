@@ -30,9 +30,9 @@ withFound (Value v) k = k v
 withFound Missing k = Short
 
 -- the number found, and 0 where it is missing
-abbrev pub valueIn : Found → ℕ
-valueIn (Value v) = v
-valueIn Missing = 0
+abbrev pub foundOr0 : Found → ℕ
+foundOr0 (Value v) = v
+foundOr0 Missing = 0
 
 -- a whole instruction from its parts
 abbrev pub wholeOf : Op → Size → Operand → ℕ → Decoded

@@ -3,7 +3,7 @@ ghost use mathlib.Core.Path.{_≡_};
 ghost use Prim.Native.Nat.{_+_, _*_, _<_, _≤_};
 ghost use lib.ListN.{length, getD, take, drop};
 ghost use Rattle.little.specs.Bytes.{valueOf};
-ghost use Rattle.code.specs.Said.{numberAt, withFound, valueIn, wholeOf};
+ghost use Rattle.code.specs.Said.{numberAt, withFound, foundOr0, wholeOf};
 ghost use Rattle.code.specs.Listed.{decodeOf};
 use alu::Arith;
 use alu::Shift;
@@ -159,7 +159,7 @@ fn number(code: &[u8], at: usize, n: usize) -> Found
 
 // The number found, or 0.
 fn value(found: Found) -> u32
-    ensures { λ r. ⌜ r ≡ valueIn found ⌝ }
+    ensures { λ r. ⌜ r ≡ foundOr0 found ⌝ }
 {
     match found {
         Found::Value(v) => v,

@@ -18,7 +18,8 @@ use little::Size;
 
 // A copy or a compare by the byte c, 10 to 17: up in 10, 11, 14, 15, and again where c is odd.
 fn block(copies: bool, size: Size, to: u8, from: u8, c: u8) -> Decoded
-    ensures { λ r. ⌜ r ≡ wholeOf (Op.Block (record { copies = copies; size = size; up = eqb (c / 2 % 2) 0; again = eqb (c % 2) 1; to = to; from = from })) size (form (Base.Indirect from) 0) 2 ⌝ }
+    ensures { λ r. ⌜ r ≡ wholeOf (Op.Block (record { copies = copies; size = size; up = eqb (c / 2 % 2) 0; again = eqb (c % 2) 1; to = to; from = from }))
+        size (form (Base.Indirect from) 0) 2 ⌝ }
 {
     let form = Form {
         copies: copies,

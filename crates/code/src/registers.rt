@@ -5,7 +5,7 @@ ghost use Prim.Native.Nat.{ℕ, _/_, _<_, _≤_};
 ghost use lib.ListN.{length};
 ghost use Rattle.code.specs.Said.{Said, judge, wholeOf};
 ghost use Rattle.code.specs.Rows.{lookup, byRows};
-ghost use Rattle.code.specs.Registers.{registerRows, placesRows, arithOf, shiftOf, notByte};
+ghost use Rattle.code.specs.Registers.{registerRows, placesRows, arithOf, shiftKind, notByte};
 use crate::Decoded;
 use crate::Op;
 use crate::Operand;
@@ -30,7 +30,7 @@ pub fn arith_of(n: u8) -> Arith
 }
 
 pub fn shift_of(n: u8) -> Shift
-    ensures { λ r. ⌜ r ≡ shiftOf n ⌝ }
+    ensures { λ r. ⌜ r ≡ shiftKind n ⌝ }
 {
     match n {
         0 => Shift::Sla,

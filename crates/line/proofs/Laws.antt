@@ -21,46 +21,47 @@ use Rattle.state.specs.Register.{getRegister}
 use Rattle.saved.specs.Sr.{srOf}
 use Rattle.step.specs.declared.Stepped.{Stepped}
 use Rattle.step.specs.Reset.{resetOf}
-use Rattle.run.specs.declared.Ran.{Ran}
-use Rattle.run.specs.Run.{Result, result, runOf}
-use Rattle.line.specs.Text.{digitOf, hexOf, decimalIn, decimalOf, after, lineOf}
-use Rattle.line.specs.Lines.{written, Within, emptyLine, plus, grown, counts, whereOf, registerOf, registersOf, refusedLine, ranLine, zeros, resultLine, unlessRefused, lineFor, LineMeets}
+use Rattle.step.specs.declared.turn.Ran.{Ran}
+use Rattle.step.specs.Many.{Result, result}
+use Rattle.run.specs.Run.{runOf}
+use Rattle.line.specs.Text.{digitOf, hexOf, decimalIn, decimalOf, following, lineOf}
+use Rattle.line.specs.Lines.{written, Lendable, emptyLine, withByte, grown, counts, whereOf, registerOf, registersOf, refusedLine, ranLine, zeros, resultLine, unlessRefused, lineFor, LineMeets}
 
 -- ---- two additions are one
 grown-joins : (l : Line) (a b : List ℕ) → grown (grown l a) b ≡ grown l (a ++ b)
 unfolding grown
 grown-joins l [] b = refl
-grown-joins l (x ∷ a) b = grown-joins (plus l x) a b
+grown-joins l (x ∷ a) b = grown-joins (withByte l x) a b
 
 pub two : (l : Line) (a b : List ℕ) {t : List ℕ} {v u : Line} → a ++ b ≡ t → v ≡ grown l a → u ≡ grown v b → u ≡ grown l t
 two l a b g e f = f ∙ ap (λ (x : Line). grown x b) e ∙ grown-joins l a b ∙ ap (grown l) g
 
 -- a space and a field
-pub field : (l : Line) (f : List ℕ) {v u : Line} → v ≡ grown l (32 ∷ []) → u ≡ grown v f → u ≡ grown l (after (f ∷ []))
+pub field : (l : Line) (f : List ℕ) {v u : Line} → v ≡ grown l (32 ∷ []) → u ≡ grown v f → u ≡ grown l (following (f ∷ []))
 field l f e h = two l (32 ∷ []) f (sym (append-nil (32 ∷ f))) e h
 
-after-joins : (fs gs : List (List ℕ)) → after fs ++ after gs ≡ after (fs ++ gs)
+after-joins : (fs gs : List (List ℕ)) → following fs ++ following gs ≡ following (fs ++ gs)
 after-joins [] gs = refl
-after-joins (f ∷ fs) gs = append-assoc (32 ∷ f) (after fs) (after gs) ∙ ap (λ (l : List ℕ). (32 ∷ f) ++ l) (after-joins fs gs)
+after-joins (f ∷ fs) gs = append-assoc (32 ∷ f) (following fs) (following gs) ∙ ap (λ (l : List ℕ). (32 ∷ f) ++ l) (after-joins fs gs)
 
 -- some fields, and some more; `first` is what stands before them
 pub more :
-    (l : Line) (first : List ℕ) (fs gs : List (List ℕ)) {v u : Line} → v ≡ grown l (first ++ after fs) → u ≡ grown v (after gs) →
-    u ≡ grown l (first ++ after (fs ++ gs))
+    (l : Line) (first : List ℕ) (fs gs : List (List ℕ)) {v u : Line} → v ≡ grown l (first ++ following fs) → u ≡ grown v (following gs) →
+    u ≡ grown l (first ++ following (fs ++ gs))
 more l first fs gs e h =
-    two l (first ++ after fs) (after gs) (append-assoc first (after fs) (after gs) ∙ ap (λ (x : List ℕ). first ++ x) (after-joins fs gs)) e h
+    two l (first ++ following fs) (following gs) (append-assoc first (following fs) (following gs) ∙ ap (λ (x : List ℕ). first ++ x) (after-joins fs gs)) e h
 
 pub four :
-    (l : Line) (f g h i : List ℕ) {v1 v2 v3 v4 : Line} → v1 ≡ grown l (after (f ∷ [])) → v2 ≡ grown v1 (after (g ∷ [])) →
-    v3 ≡ grown v2 (after (h ∷ [])) → v4 ≡ grown v3 (after (i ∷ [])) → v4 ≡ grown l (after (f ∷ g ∷ h ∷ i ∷ []))
+    (l : Line) (f g h i : List ℕ) {v1 v2 v3 v4 : Line} → v1 ≡ grown l (following (f ∷ [])) → v2 ≡ grown v1 (following (g ∷ [])) →
+    v3 ≡ grown v2 (following (h ∷ [])) → v4 ≡ grown v3 (following (i ∷ [])) → v4 ≡ grown l (following (f ∷ g ∷ h ∷ i ∷ []))
 four l f g h i a b c d =
     more l [] (f ∷ g ∷ h ∷ []) (i ∷ []) (more l [] (f ∷ g ∷ []) (h ∷ []) (more l [] (f ∷ []) (g ∷ []) a b) c) d
 
 -- a whole line
 pub line-made :
-    (l : Line) (first : List ℕ) (others : List (List ℕ)) {v u : Line} → v ≡ grown l (first ++ after others) → u ≡ grown v (10 ∷ []) →
+    (l : Line) (first : List ℕ) (others : List (List ℕ)) {v u : Line} → v ≡ grown l (first ++ following others) → u ≡ grown v (10 ∷ []) →
     u ≡ grown l (lineOf first others)
-line-made l first others e h = two l (first ++ after others) (10 ∷ []) (append-assoc first (after others) (10 ∷ [])) e h
+line-made l first others e h = two l (first ++ following others) (10 ∷ []) (append-assoc first (following others) (10 ∷ [])) e h
 
 -- ---- one byte more
 pub added : (l : Line) (b : ℕ) → l .length < 128 → record { text = set (l .text) (l .length) b; length = l .length + 1 } ≡ grown l (b ∷ [])
@@ -82,7 +83,7 @@ unfolding grown
 grown-written l [] e h = record { now-written = sym (append-nil (written l)); now-long = omega arith; room = e }
 grown-written l (b ∷ a) e h =
     let t : Line = record { text = set (l .text) (l .length) b; length = l .length + 1 } in
-    let f : plus l b ≡ t = rw (lt-ltb (l .length) 128 (omega arith)) refl in
+    let f : withByte l b ≡ t = rw (lt-ltb (l .length) 128 (omega arith)) refl in
     let k = grown-written t a (length-set (l .text) (l .length) b ∙ e) (omega arith) in
     let w : written t ≡ written l ++ (b ∷ []) =
     ap (λ (n : ℕ). take n (set (l .text) (l .length) b)) (add-one (l .length)) ∙ take-suc-set (l .text) (l .length) b (omega arith) in
@@ -93,7 +94,7 @@ grown-written l (b ∷ a) e h =
       room = k .room;
     })
 
-pub whole : (a : List ℕ) → length a ≤ 127 → (written (grown emptyLine a) ≡ a) × Within (grown emptyLine a)
+pub whole : (a : List ℕ) → length a ≤ 127 → (written (grown emptyLine a) ≡ a) × Lendable (grown emptyLine a)
 whole a h =
     let k = grown-written emptyLine a (length-replicate {A = ℕ} 128 0) (omega arith) in
     let long : grown emptyLine a .length ≡ length a = k .now-long ∙ omega arith in
@@ -169,9 +170,9 @@ abbrev Short : List (List ℕ) → Type 0
 Short [] = Unit {0}
 Short (f ∷ fs) = (length f ≤ 8) × Short fs
 
-after-short : (fs : List (List ℕ)) → Short fs → length (after fs) ≤ 9 * length fs
+after-short : (fs : List (List ℕ)) → Short fs → length (following fs) ≤ 9 * length fs
 after-short [] s = omega arith
-after-short (f ∷ fs) s = omega (arith, length-append (32 ∷ f) (after fs), after-short fs (s .1), s .0)
+after-short (f ∷ fs) s = omega (arith, length-append (32 ∷ f) (following fs), after-short fs (s .1), s .0)
 
 counted-short :
     (d n : ℕ) (fs : List (List ℕ)) → length fs ≤ 10 → Short fs → length (lineOf (decimalOf d) (decimalOf n ∷ fs)) ≤ 127
@@ -179,9 +180,9 @@ counted-short d n fs h s =
     omega (
       arith,
       h,
-      length-append (decimalOf d) (after (decimalOf n ∷ fs) ++ (10 ∷ [])),
-      length-append (after (decimalOf n ∷ fs)) (10 ∷ []),
-      length-append (32 ∷ decimalOf n) (after fs),
+      length-append (decimalOf d) (following (decimalOf n ∷ fs) ++ (10 ∷ [])),
+      length-append (following (decimalOf n ∷ fs)) (10 ∷ []),
+      length-append (32 ∷ decimalOf n) (following fs),
       decimal-length 10 d,
       decimal-length 10 n,
       after-short fs s,
@@ -206,7 +207,7 @@ pub counts-made :
     (d n : ℕ) {v0 : Line} (v1 : Line) {v2 v3 : Line} → v0 ≡ emptyLine → v1 ≡ grown v0 (decimalOf d) → v2 ≡ grown v1 (32 ∷ []) →
     v3 ≡ grown v2 (decimalOf n) → v3 ≡ grown emptyLine (counts d n)
 counts-made d n v1 e0 e1 e2 e3 =
-    two emptyLine (decimalOf d) (after (decimalOf n ∷ [])) refl (e1 ∙ ap (λ (x : Line). grown x (decimalOf d)) e0) (field v1 (decimalOf n) e2 e3)
+    two emptyLine (decimalOf d) (following (decimalOf n ∷ [])) refl (e1 ∙ ap (λ (x : Line). grown x (decimalOf d)) e0) (field v1 (decimalOf n) e2 e3)
 
 pub refused-made : (w : Why) {n : ℕ} {v u : Line} → n ≡ whyNumber w → v ≡ grown emptyLine (counts 0 n) → u ≡ grown v (10 ∷ []) → u ≡ grown emptyLine (refusedLine w)
 unfolding refusedLine
@@ -215,7 +216,7 @@ refused-made w g e h =
 
 pub ran-made :
     (s : State) (d : ℕ) (a : Answer) {n : ℕ} {v1 v2 v3 v4 : Line} → n ≡ numberOf a → v1 ≡ grown emptyLine (counts d n) →
-    v2 ≡ grown v1 (after (whereOf s)) → v3 ≡ grown v2 (after (registersOf s)) → v4 ≡ grown v3 (10 ∷ []) → v4 ≡ grown emptyLine (ranLine s d a)
+    v2 ≡ grown v1 (following (whereOf s)) → v3 ≡ grown v2 (following (registersOf s)) → v4 ≡ grown v3 (10 ∷ []) → v4 ≡ grown emptyLine (ranLine s d a)
 unfolding ranLine
 ran-made s d a g e1 e2 e3 e4 =
     let f = decimalOf d in
@@ -258,5 +259,5 @@ for-short image = go (ltb 32768 (length image)) (resetOf zeros image .answer) (r
 
 pub line-whole : (image : List ℕ) {r : Line} → r ≡ grown emptyLine (lineFor image) → LineMeets image r
 line-whole image e =
-    let w = subst (λ (r : Line). (written r ≡ lineFor image) × Within r) (sym e) (whole (lineFor image) (for-short image)) in
+    let w = subst (λ (r : Line). (written r ≡ lineFor image) × Lendable r) (sym e) (whole (lineFor image) (for-short image)) in
     (e, w .0, w .1)

@@ -13,8 +13,8 @@ use Rattle.code.specs.Registers.{placesRows, registerRows}
 use Rattle.code.specs.Rows.{lookup}
 use Rattle.code.specs.Said.{numberAt, judge}
 use Rattle.step.specs.Exec.{pastOf, effectOf, executedOf}
-use Rattle.step.specs.Flag.{flagged}
-use Rattle.step.specs.Operand.{valueIn, storing}
+use Rattle.operand.specs.Flag.{flagged}
+use Rattle.operand.specs.Operand.{valueIn, storing}
 use Rattle.step.specs.Reset.{resetOf}
 use Rattle.step.specs.Step.{guarded, onceOf, tryOf}
 use Rattle.run.specs.Run.{goOf, runOf}

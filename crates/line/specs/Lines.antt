@@ -15,9 +15,10 @@ use Rattle.state.specs.declared.State.{State}
 use Rattle.state.specs.Register.{getRegister}
 use Rattle.saved.specs.Sr.{srOf}
 use Rattle.step.specs.Reset.{resetOf}
-use Rattle.run.specs.Run.{Result, runOf}
+use Rattle.step.specs.Many.{Result}
+use Rattle.run.specs.Run.{runOf}
 use Rattle.line.specs.declared.Line.{Line}
-use Rattle.line.specs.Text.{decimalOf, hexOf, after, lineOf}
+use Rattle.line.specs.Text.{decimalOf, hexOf, following, lineOf}
 
 -- ---- a line that is being made: its bytes so far, and a byte more where there is room
 -- the bytes of a line so far
@@ -25,26 +26,26 @@ abbrev pub written : Line → List ℕ
 written l = take (l .length) (l .text)
 
 -- it ends within its bytes, so that they can be lent as a part
-abbrev pub Within : Line → Type 0
-Within l = (l .length ≤ length (l .text)) × (l .length ≡ length (written l))
+abbrev pub Lendable : Line → Type 0
+Lendable l = (l .length ≤ length (l .text)) × (l .length ≡ length (written l))
 
 -- no byte yet, and room for 128
 abbrev pub emptyLine : Line
 emptyLine = record { text = replicate 128 0; length = 0 }
 
 -- a byte more, where there is room
-abbrev pub plus : Line → ℕ → Line
-plus l b = cond (ltb (l .length) 128) (record { text = set (l .text) (l .length) b; length = l .length + 1 }) l
+abbrev pub withByte : Line → ℕ → Line
+withByte l b = cond (ltb (l .length) 128) (record { text = set (l .text) (l .length) b; length = l .length + 1 }) l
 
 -- several bytes more, one after the other
 unfoldable pub grown : Line → List ℕ → Line
 grown l [] = l
-grown l (b ∷ bs) = grown (plus l b) bs
+grown l (b ∷ bs) = grown (withByte l b) bs
 
 -- ---- the fields
 -- steps and number
 abbrev pub counts : ℕ → ℕ → List ℕ
-counts done number = decimalOf done ++ after (decimalOf number ∷ [])
+counts done number = decimalOf done ++ following (decimalOf number ∷ [])
 
 -- the counter has six hex digits, SR four and each register eight
 abbrev pub whereOf : State → List (List ℕ)
@@ -91,4 +92,4 @@ lineFor image =
 
 -- what the call promises of its result r: this line, with zeros behind its end; and that its bytes can be lent
 abbrev pub LineMeets : List ℕ → Line → Type 0
-LineMeets image r = (r ≡ grown emptyLine (lineFor image)) × (written r ≡ lineFor image) × Within r
+LineMeets image r = (r ≡ grown emptyLine (lineFor image)) × (written r ≡ lineFor image) × Lendable r

@@ -23,10 +23,10 @@ abbrev pub decimalOf : ℕ → List ℕ
 decimalOf n = decimalIn 10 n
 
 -- fields that follow another one: a space before each
-abbrev pub after : List (List ℕ) → List ℕ
-after [] = []
-after (f ∷ fs) = (32 ∷ f) ++ after fs
+abbrev pub following : List (List ℕ) → List ℕ
+following [] = []
+following (f ∷ fs) = (32 ∷ f) ++ following fs
 
 -- fields with one space between, and a line feed at the end
 abbrev pub lineOf : List ℕ → List (List ℕ) → List ℕ
-lineOf first others = first ++ (after others ++ (10 ∷ []))
+lineOf first others = first ++ (following others ++ (10 ∷ []))

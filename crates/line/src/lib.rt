@@ -2,13 +2,13 @@
 ghost use mathlib.Core.Path.{_≡_};
 ghost use mathlib.Core.List.{[], _∷_};
 ghost use Prim.Native.Nat.{_%_};
-ghost use Rattle.line.specs.Text.{digitOf, decimalIn, decimalOf, hexOf, after};
+ghost use Rattle.line.specs.Text.{digitOf, decimalIn, decimalOf, hexOf, following};
 ghost use Rattle.line.specs.Lines.{emptyLine, grown, counts, whereOf, registerOf, registersOf, refusedLine, ranLine, LineMeets};
 use answer::Answer;
 use answer::Why;
 use little::Size;
-use run::Ran;
 use state::State;
+use step::turn::Ran;
 
 // A text that grows at its end. 128 bytes are more than the longest line has; past them nothing is added.
 pub struct Line {
@@ -86,19 +86,19 @@ fn counted(done: u32, number: u8) -> Line
 
 // Counter and SR.
 fn placed(l: Line, s: State) -> Line
-    ensures { λ r. ⌜ r ≡ grown l (after (whereOf s)) ⌝ }
+    ensures { λ r. ⌜ r ≡ grown l (following (whereOf s)) ⌝ }
 {
     hex(add(hex(add(l, b' '), s.counter, 6), b' '), saved::sr(s), 4)
 }
 
 fn register(l: Line, s: State, code: u8) -> Line
-    ensures { λ r. ⌜ r ≡ grown l (after (registerOf s code ∷ [])) ⌝ }
+    ensures { λ r. ⌜ r ≡ grown l (following (registerOf s code ∷ [])) ⌝ }
 {
     hex(add(l, b' '), s.register(Size::Long, code), 8)
 }
 
 fn registers(l: Line, s: State) -> Line
-    ensures { λ r. ⌜ r ≡ grown l (after (registersOf s)) ⌝ }
+    ensures { λ r. ⌜ r ≡ grown l (following (registersOf s)) ⌝ }
 {
     let low = register(register(register(register(l, s, 0), s, 1), s, 2), s, 3);
     register(register(register(register(low, s, 4), s, 5), s, 6), s, 7)

@@ -15,21 +15,22 @@ use Rattle.state.specs.State.{resetState, validOf, longOf, withLong, withCounte
 use Rattle.state.specs.Register.{getBits, setBits, slotIn, setSlot, slotOf, registerAt, setRegister}
 use Rattle.state.specs.Sound.{Sound}
 use Rattle.state.specs.declared.State.{State}
-use Rattle.saved.specs.Record.{longsBytes, recordOf, loadOf}
+use Rattle.saved.specs.Record.{longsBytes, recordOf, restoredOf}
 use Rattle.saved.proofs.RoundTrip.{saved-reads-back}
 use Rattle.code.specs.declared.Form.{Form}
-use Rattle.run.specs.Run.{Result, ends, runOf}
+use Rattle.step.specs.Many.{Result, ends}
+use Rattle.run.specs.Run.{runOf}
 use Rattle.run.specs.Repeat.{Spares}
 use Rattle.run.specs.Demand.{EndsAfter, GoesOnAfter, StopsAfter}
 use Rattle.run.specs.Endings.{Ending, atCount, atEqual, atRefusal, ComesTo}
-use Rattle.run.specs.Table.{Hold, filled, begin, _▹_, A, BC, XIX}
-use Rattle.run.specs.Runs.{compares, refused, cpirRam, cpirStart}
-use Rattle.run.specs.Evidence.{Start, StartMet, tells, ldir, cpir, fullRam, fullRom, fullCopy, evidence}
+use Rattle.cases.specs.Table.{Hold, filled, begin, _▹_, A, BC, XIX}
+use Rattle.cases.specs.Runs.{compareRuns, refused, cpirRam, cpirStart}
+use Rattle.cases.specs.Evidence.{Start, StartMet, tells, ldir, cpir, fullRam, fullRom, fullCopy, evidence}
 use Rattle.run.proofs.Endings.{ends-as-told}
-use Rattle.run.proofs.Evidence.{evidence-met, first, rest}
-use Rattle.run.proofs.Full.{copy-met}
-use Rattle.run.proofs.Runs.{runs-hold}
-use Rattle.run.proofs.Tests.{fits, fits-says}
+use Rattle.cases.proofs.Evidence.{evidence-met, first, rest}
+use Rattle.cases.proofs.Full.{copy-met}
+use Rattle.cases.proofs.Runs.{runs-hold}
+use Rattle.cases.proofs.Tests.{fits, fits-says}
 use Rattle.module.specs.Calls.{CRunMeets}
 use Rattle.module.specs.Statements.{HasState}
 use Rattle.module.specs.Demand.{CallMet, CallEnds, CallGoesOn, CallStops, CallComesTo, CallEndsAsTold, seekRecord, SeekCalled, FullCalled}
@@ -63,7 +64,7 @@ call-ends-as-told f b s ram rom e h =
 -- ---- records that meet it
 holds : (s : State) (b : List ℕ) → recordOf s ≡ b → T (fits (2 ^ 8) b) → Sound s → validOf s ≡ true → HasState b s
 holds s b e t ok v =
-    (fits-says (2 ^ 8) (omega arith) b t, subst (λ (l : List ℕ). loadOf l ≡ record { answer = Done; state = s }) e (saved-reads-back s ok v))
+    (fits-says (2 ^ 8) (omega arith) b t, subst (λ (l : List ℕ). restoredOf l ≡ record { answer = Done; state = s }) e (saved-reads-back s ok v))
 
 -- a start of run/Evidence, on the record of its state
 met-called : (x : Start) (b : List ℕ) → recordOf (x .state) ≡ b → T (fits (2 ^ 8) b) → StartMet x →
@@ -101,7 +102,7 @@ searches =
     (first l, first (rest l), first (rest (rest (rest (rest (rest l))))))
 
 pub seek-called : SeekCalled
-unfolding Hold compares refused fits filled begin bytesFrom longsBytes recordOf resetState longOf withLong withCounter withBothFlags withFlags getBits setBits slotIn setSlot slotOf registerAt setRegister
+unfolding Hold compareRuns refused fits filled begin bytesFrom longsBytes recordOf resetState longOf withLong withCounter withBothFlags withFlags getBits setBits slotIn setSlot slotOf registerAt setRegister
 seek-called = (
   met-called found (seekRecord 0x33 3 4 0 0x00) refl tt (searches .0),
   met-left found (seekRecord 0x33 3 4 0 0x00) refl tt (searches .0) 3 3 _ _ _ Done (runs-hold .1 .1 .0) refl,

@@ -21,14 +21,16 @@ use Rattle.state.specs.Sound.{Sound}
 use Rattle.state.specs.declared.State.{State}
 use Rattle.state.proofs.Valid.{Valid, valid-says, valid-from, valid-reset, and-true}
 use Rattle.saved.specs.declared.Restored.{Restored}
-use Rattle.saved.specs.Record.{recordOf, saveAnswer, saveBytes, stateAt, fixedAt, isRecord, loadOf, refusedRecord}
+use Rattle.saved.specs.Record.{recordOf, saveAnswer, saveBytes, stateAt, fixedAt, isRecord, restoredOf, refusedRecord}
 use Rattle.step.specs.declared.Stepped.{Stepped}
-use Rattle.step.specs.Try.{Try, did, no, Outcome, leaves, refusedWith}
+use Rattle.operand.specs.Try.{Try, did, no, Outcome, leaves}
+use Rattle.step.specs.Result.{refusedWith}
 use Rattle.step.specs.Step.{tooLong, guarded, tryOf, stepOf}
 use Rattle.step.specs.Reset.{resetFrom, resetOf}
 use Rattle.step.proofs.Statements.{keeps-valid}
-use Rattle.run.specs.declared.Ran.{Ran}
-use Rattle.run.specs.Run.{Result, result, ends, afterChecks, goOf, runOf}
+use Rattle.step.specs.declared.turn.Ran.{Ran}
+use Rattle.step.specs.Many.{Result, result, ends}
+use Rattle.run.specs.Run.{afterChecks, goOf, runOf}
 use Rattle.run.proofs.Laws.{go-did, go-no}
 use Rattle.run.proofs.Joins.{one-step-run}
 use Rattle.module.specs.Calls.{roomAnswer, whereDone, resetAnswer, resetBytes, openedOf, stepLeft, runLeft, runDone, CResetMeets, CStepMeets, CRunMeets}
@@ -94,8 +96,8 @@ pub run-sound : (n : ℕ) (s : State) (ram rom : List ℕ) → Sound s → Sound
 run-sound = run-keeps Sound (λ s ram rom t m e ok. try-keeps s ram rom t m e .1 ok)
 
 -- ---- a record that is opened
-load-done : (b : List ℕ) → loadOf b .answer ≡ Done → Valid (loadOf b .state) × (length b ≡ 88)
-unfolding loadOf
+load-done : (b : List ℕ) → restoredOf b .answer ≡ Done → Valid (restoredOf b .state) × (length b ≡ 88)
+unfolding restoredOf
 load-done b h = go (isRecord b) refl h
   where
     go : (x : Bool) → isRecord b ≡ x → cond x (record { answer = Done; state = stateAt b }) (refusedRecord Invalid) .answer ≡ Done →
@@ -109,8 +111,8 @@ opened-done : (b : List ℕ) (m n : ℕ) → openedOf b m n .answer ≡ Done →
 unfolding openedOf
 opened-done b m n h = go (tooLong m n) h
   where
-    go : (x : Bool) → cond x (record { answer = Refused TooLong; state = zeroState }) (loadOf b) .answer ≡ Done →
-        Valid (cond x (record { answer = Refused TooLong; state = zeroState }) (loadOf b) .state) × (length b ≡ 88)
+    go : (x : Bool) → cond x (record { answer = Refused TooLong; state = zeroState }) (restoredOf b) .answer ≡ Done →
+        Valid (cond x (record { answer = Refused TooLong; state = zeroState }) (restoredOf b) .state) × (length b ≡ 88)
     go true f = let z : _≡_ {A = ℕ} 0 1 = cc in absurd (omega arith)
     go false f = load-done b f
 
@@ -129,7 +131,7 @@ pub opened-long : (b : List ℕ) (m n : ℕ) → tooLong m n ≡ true → opened
 unfolding openedOf
 opened-long b m n h = rw h refl
 
-pub opened-loads : (b : List ℕ) (m n : ℕ) → tooLong m n ≡ false → openedOf b m n ≡ loadOf b
+pub opened-loads : (b : List ℕ) (m n : ℕ) → tooLong m n ≡ false → openedOf b m n ≡ restoredOf b
 unfolding openedOf
 opened-loads b m n h = rw h refl
 

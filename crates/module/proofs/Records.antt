@@ -20,12 +20,13 @@ use Rattle.state.specs.Sound.{Sound}
 use Rattle.state.specs.declared.State.{State}
 use Rattle.state.proofs.Valid.{Valid, valid-says, valid-from, and-true}
 use Rattle.saved.specs.declared.Restored.{Restored}
-use Rattle.saved.specs.Record.{recordOf, longsAt, stateAt, fixedAt, isRecord, loadOf, refusedRecord}
+use Rattle.saved.specs.Record.{recordOf, longsAt, stateAt, fixedAt, isRecord, restoredOf, refusedRecord}
 use Rattle.saved.proofs.Numbers.{bytes-drop}
 use Rattle.saved.proofs.RoundTrip.{saved-reads-back, read-saves-back}
-use Rattle.step.specs.Try.{Try, did, no, leaves}
+use Rattle.operand.specs.Try.{Try, did, no, leaves}
 use Rattle.step.specs.Step.{tooLong, tryOf, stepOf}
-use Rattle.run.specs.Run.{Result, ends, goOf, runOf}
+use Rattle.step.specs.Many.{Result, ends}
+use Rattle.run.specs.Run.{goOf, runOf}
 use Rattle.run.specs.Statements.{asRun}
 use Rattle.run.proofs.Laws.{run-long, run-goes, go-none, go-did, go-no}
 use Rattle.run.proofs.Laws as run
@@ -60,16 +61,16 @@ sound-at l h =
 
 -- a record that is opened: it is written again as itself, and the state in it is good
 pub record Opens (b : List ℕ) (s : State) : Type 0 where
-  pub load : loadOf b ≡ record { answer = Done; state = s }
+  pub load : restoredOf b ≡ record { answer = Done; state = s }
   pub back : recordOf s ≡ b
   pub sound : Sound s
   pub valid : Valid s
 
-opens : (b : List ℕ) → Bytes b → Opens b (stateAt b) ⊎ (loadOf b ≡ refusedRecord Invalid)
-unfolding loadOf
+opens : (b : List ℕ) → Bytes b → Opens b (stateAt b) ⊎ (restoredOf b ≡ refusedRecord Invalid)
+unfolding restoredOf
 opens b h = go (isRecord b) refl
   where
-    go : (x : Bool) → isRecord b ≡ x → Opens b (stateAt b) ⊎ (loadOf b ≡ refusedRecord Invalid)
+    go : (x : Bool) → isRecord b ≡ x → Opens b (stateAt b) ⊎ (restoredOf b ≡ refusedRecord Invalid)
     go true e =
         let a = and-true (eqb (length b) 88) _ e in
         inl (record {
@@ -84,7 +85,7 @@ pub held : (b : List ℕ) (s : State) → HasState b s → Opens b s
 held b s h =
     ⊎-elim
     (λ (o : Opens b (stateAt b)). subst (Opens b) (ap (λ (r : Restored). r .state) (sym (o .load) ∙ h .1)) o)
-    (λ (f : loadOf b ≡ refusedRecord Invalid). let g = ap (λ (r : Restored). r .answer) (sym f ∙ h .1) in let z : _≡_ {A = ℕ} 0 1 = cc in absurd (omega arith))
+    (λ (f : restoredOf b ≡ refusedRecord Invalid). let g = ap (λ (r : Restored). r .answer) (sym f ∙ h .1) in let z : _≡_ {A = ℕ} 0 1 = cc in absurd (omega arith))
     (opens b (h .0))
 
 pub saved-opens : (s : State) → Sound s → Valid s → Opens (recordOf s) s
@@ -141,7 +142,7 @@ step-is-run b ram rom h = go (tooLong (length ram) (length rom)) refl (opens b h
         sym (call.step-stops b ram rom (refusedRecord w) (sym e) w refl refl)
         ∙ call.run-stops 1 b ram rom (omega arith) (refusedRecord w) (sym e) w refl refl .0
 
-    go : (x : Bool) → tooLong (length ram) (length rom) ≡ x → Opens b (stateAt b) ⊎ (loadOf b ≡ refusedRecord Invalid) →
+    go : (x : Bool) → tooLong (length ram) (length rom) ≡ x → Opens b (stateAt b) ⊎ (restoredOf b ≡ refusedRecord Invalid) →
         stepLeft b ram rom ≡ runLeft 1 b ram rom
     go true e o = closed TooLong (opened-long b _ _ e)
     go false e (inr f) = closed Invalid (opened-loads b _ _ e ∙ f)
@@ -215,7 +216,7 @@ start b ram rom h = ⊎-elim (λ (o : Opens b (stateAt b)). starts (stateAt b) o
     closed : (w : Why) → openedOf b (length ram) (length rom) ≡ refusedRecord w → Start b ram rom
     closed w e = shut w (λ n few. call.run-stops n b ram rom few (refusedRecord w) (sym e) w refl refl)
 
-    go : (x : Bool) → tooLong (length ram) (length rom) ≡ x → loadOf b ≡ refusedRecord Invalid → Start b ram rom
+    go : (x : Bool) → tooLong (length ram) (length rom) ≡ x → restoredOf b ≡ refusedRecord Invalid → Start b ram rom
     go true e f = closed TooLong (opened-long b _ _ e)
     go false e f = closed Invalid (opened-loads b _ _ e ∙ f)
 

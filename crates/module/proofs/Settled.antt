@@ -12,9 +12,10 @@ use Rattle.answer.specs.declared.Answer.the-variants.{Done, Refused}
 use Rattle.answer.specs.declared.Why.the-variants.{TooMany}
 use Rattle.state.specs.declared.State.{State}
 use Rattle.saved.specs.Record.{recordOf}
-use Rattle.step.specs.Try.{Try, did, no, leaves}
+use Rattle.operand.specs.Try.{Try, did, no, leaves}
 use Rattle.step.specs.Step.{guarded, tryOf, stepOf}
-use Rattle.run.specs.Run.{Result, ends, afterChecks, goOf, runOf}
+use Rattle.step.specs.Many.{Result, ends}
+use Rattle.run.specs.Run.{afterChecks, goOf, runOf}
 use Rattle.run.proofs.Laws.{go-none, go-did, go-no}
 use Rattle.module.specs.Calls.{Left, openedOf, unless, stepped, stepLeft, runLeft, CRunMeets}
 use Rattle.module.specs.Statements.{Settled, StepRefusedKeeps, RunNothingKeeps}

@@ -11,11 +11,12 @@ use Rattle.answer.specs.declared.Why.{Why}
 use Rattle.answer.specs.declared.Why.the-variants.{TooMany, TooLong, Invalid}
 use Rattle.answer.specs.Number.{whyNumber, numberOf, firstRefusal}
 use Rattle.saved.specs.declared.Restored.{Restored}
-use Rattle.saved.specs.Record.{recordOf, refusedRecord, loadOf}
-use Rattle.step.specs.Try.{Outcome}
+use Rattle.saved.specs.Record.{recordOf, refusedRecord, restoredOf}
+use Rattle.operand.specs.Try.{Outcome}
 use Rattle.step.specs.Step.{tooLong, stepOf}
 use Rattle.step.specs.Reset.{resetOf}
-use Rattle.run.specs.Run.{mostSteps, Result, runOf}
+use Rattle.step.specs.Many.{Result}
+use Rattle.run.specs.Run.{mostSteps, runOf}
 
 -- what a call leaves: its number, the bytes of the record, and those of RAM
 pub record Left : Type 0 where
@@ -37,11 +38,11 @@ unless (Refused w) bytes ram l = refusing w bytes ram
 unless Done bytes ram l = l
 
 -- ---- reset
--- of the memories 1, then 5; then 2 where there are not 88 bytes to write the record to
+-- 2 where there are not 88 bytes to write the record to
 abbrev pub roomAnswer : ℕ → Answer
 roomAnswer room = cond (eqb room 88) Done (Refused Invalid)
 
--- the answer of a reset with so much room for the record
+-- the answer of a reset with so much room for the record: of the memories 1, then 5; then 2
 unfoldable pub resetAnswer : ℕ → List ℕ → List ℕ → Answer
 resetAnswer room ram rom = firstRefusal (resetOf ram rom .answer) (roomAnswer room)
 
@@ -57,7 +58,7 @@ resetBytes bytes ram rom = whereDone (resetAnswer (length bytes) ram rom) (recor
 -- ---- the state that a call's record holds: 1 of the memories, then 2 of the record
 -- what the record holds, or why it is not opened
 unfoldable pub openedOf : List ℕ → ℕ → ℕ → Restored
-openedOf bytes ramLength romLength = cond (tooLong ramLength romLength) (refusedRecord TooLong) (loadOf bytes)
+openedOf bytes ramLength romLength = cond (tooLong ramLength romLength) (refusedRecord TooLong) (restoredOf bytes)
 
 -- ---- one step
 -- the record of the state after it

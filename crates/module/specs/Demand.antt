@@ -10,14 +10,14 @@ use Rattle.answer.specs.Number.{whyNumber}
 use Rattle.state.specs.declared.State.{State}
 use Rattle.code.specs.declared.Form.{Form}
 use Rattle.saved.specs.Record.{recordOf}
-use Rattle.step.specs.Try.{did}
+use Rattle.operand.specs.Try.{did}
 use Rattle.step.specs.Exec.{pastOf}
 use Rattle.run.specs.Run.{mostSteps}
 use Rattle.run.specs.Repeat.{At, Spares, countOf, roundsOf}
 use Rattle.run.specs.Endings.{Ending, atCount, atEqual, atRefusal, Told, roundsDone}
-use Rattle.run.specs.Table.{_▹_, A, BC, XIX}
-use Rattle.run.specs.Runs.{cpirRam, cpirStart}
-use Rattle.run.specs.Evidence.{ldir, cpir, fullRam, fullRom, fullCopy}
+use Rattle.cases.specs.Table.{_▹_, A, BC, XIX}
+use Rattle.cases.specs.Runs.{cpirRam, cpirStart}
+use Rattle.cases.specs.Evidence.{ldir, cpir, fullRam, fullRom, fullCopy}
 use Rattle.module.specs.Calls.{CRunMeets}
 use Rattle.module.specs.Statements.{HasState}
 
@@ -76,7 +76,7 @@ SeekCalled =
     × CallMet cpir (seekRecord 0x44 9 5 0 0x00) (cpirStart ▹ A 0x44 ▹ XIX 5 ▹ BC 9) cpirRam [] (atRefusal 2 Missing)
     × CRunMeets 9 (seekRecord 0x44 9 5 0 0x00) cpirRam [] 5 (seekRecord 0x44 7 7 0 0x06) cpirRam 2
 
--- BC 0: one call of 65,536 steps copies all of ROM
+-- BC 0: one call does all 65,536 rounds, from the whole of ROM to the whole of RAM
 abbrev pub FullCalled : Type 0
 FullCalled =
     CallMet ldir (recordOf fullCopy) fullCopy fullRam fullRom atCount

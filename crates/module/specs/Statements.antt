@@ -6,7 +6,7 @@ use mathlib.Core.List.{List}
 use Rattle.answer.specs.declared.Answer.the-variants.{Done}
 use Rattle.little.specs.Bytes.{Bytes}
 use Rattle.state.specs.declared.State.{State}
-use Rattle.saved.specs.Record.{loadOf}
+use Rattle.saved.specs.Record.{restoredOf}
 use Rattle.run.specs.Run.{mostSteps, runOf}
 use Rattle.module.specs.Calls.{Left, stepLeft, ranLeft, runLeft, runDone, CResetMeets, CStepMeets, CRunMeets}
 
@@ -35,7 +35,7 @@ RunNothingKeeps =
 -- ---- what C sees of a run, over the bytes of a record
 -- a record of bytes that is opened, and the state in it
 abbrev pub HasState : List ℕ → State → Type 0
-HasState bytes s = Bytes bytes × (loadOf bytes ≡ record { answer = Done; state = s })
+HasState bytes s = Bytes bytes × (restoredOf bytes ≡ record { answer = Done; state = s })
 
 -- a run on a record is the run from the state in it: what is proved of `runOf` is proved of the call
 abbrev pub RunOnRecord : Type 0

@@ -3,40 +3,40 @@ use Prim.Native.Nat.{ℕ, zero, suc, _+_, _-_, _*_, _%_, _^_, _<_, _≤_}
 use mathlib.Core.Path.{_≡_, refl, ap, sym, _∙_, subst}
 use mathlib.Core.Logic.{_⊎_, inl, inr, ⊎-elim, _≢_}
 use mathlib.Core.List.{List, [], _∷_, _++_, append-assoc}
-use mathlib.Core.Bool.{Bool, true, false, cond}
+use mathlib.Core.Bool.{Bool, true, cond}
 use native.Mathlib.Omega.{arith}
 use native.Mathlib.Nat.{mod-eq-of-lt, mod-add-mod, suc-mul, zero-mul, add-zero, add-comm, mul-le-mul-right}
 use lib.Pow.{mod-mod-pow}
 use lib.ListN.{length, getD, take, drop, replicate, length-append, length-drop, take-append-drop}
 use lib.Seq.{take-add, take-take, take-append-le, drop-drop, drop-at, length-take-le, drop-cons}
 use Rattle.little.specs.declared.Size.{Size}
-use Rattle.little.specs.declared.Size.the-variants.{Byte, Word, Long}
+use Rattle.little.specs.declared.Size.the-variants.{Long}
 use Rattle.little.specs.Width.{bytesOf}
 use Rattle.little.specs.Bytes.{Bytes, valueOf, bytesFrom, replaced}
-use Rattle.little.proofs.Laws.{length-bytes, bytes-value, replaced-length, replaced-take, replaced-drop, replaced-part}
-use Rattle.memory.specs.Place.{placeOf}
-use Rattle.memory.specs.Access.{loadOf, storeOf, ramAfter, operandAt}
+use Rattle.little.proofs.Laws.{bytes-value, replaced-length, replaced-take, replaced-drop, replaced-part}
+use Rattle.memory.specs.Access.{loadOf, storeOf, ramAfter}
 use Rattle.memory.specs.declared.Place.{Place}
-use Rattle.memory.specs.declared.Place.the-variants.{Ram, Rom, Missing}
+use Rattle.memory.specs.declared.Place.the-variants.{Ram, Missing}
 use Rattle.memory.specs.declared.Loaded.the-variants.{Value}
-use Rattle.memory.proofs.Laws.{place-ram, bytes-le}
+use Rattle.memory.proofs.Laws.{place-ram}
 use Rattle.state.specs.Register.{getRegister}
 use Rattle.state.specs.Sound.{Sound}
 use Rattle.state.specs.declared.State.{State}
 use Rattle.state.proofs.Valid.{Valid}
 use Rattle.code.specs.declared.Form.{Form}
-use Rattle.step.specs.Try.{Try, did, no}
-use Rattle.step.specs.Operand.{pointerOf, storing}
-use Rattle.step.specs.Stack.{less, plus}
-use Rattle.step.specs.Block.{copied, roundOf}
-use Rattle.step.proofs.Rounds.{round-copies}
-use Rattle.run.specs.Run.{Result, ends, runOf}
+use Rattle.operand.specs.Try.{did}
+use Rattle.operand.specs.Operand.{pointerOf, storing}
+use Rattle.operand.specs.Round.{less, plus}
+use Rattle.block.specs.Block.{copied, roundOf}
+use Rattle.block.proofs.Rounds.{round-copies}
+use Rattle.step.specs.Many.{Result}
+use Rattle.run.specs.Run.{runOf}
 use Rattle.run.specs.Repeat.{At, roundsOf, countOf, passed, elementOf, targetOf}
 use Rattle.run.specs.Search.{Target, bytesMoved, CopyMoves, CopySpreads}
 use Rattle.run.proofs.Bytes.{bytes-append, bytes-take, bytes-drop}
 use Rattle.run.proofs.Registers.{once}
-use Rattle.run.proofs.Rounds.{Pointers, Rounded, copied-rounded, refused-not, same-did}
-use Rattle.run.proofs.Counts.{count-some, rounds-none, rounds-did, rounds-no}
+use Rattle.run.proofs.Rounds.{Pointers, Rounded, copied-rounded, same-did}
+use Rattle.run.proofs.Counts.{rounds-none, rounds-did}
 use Rattle.run.proofs.Steps.{at-pointers, at-valid}
 use Rattle.run.proofs.Demand.{copy-repeats}
 use Rattle.run.proofs.Search.{up-passed}

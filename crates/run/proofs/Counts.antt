@@ -1,6 +1,6 @@
 -- The count of rounds, when a form goes on, and where its pointers are after some rounds.
-use Prim.Native.Nat.{ℕ, zero, suc, _+_, _-_, _*_, _%_, _^_, _<_, _≤_}
-use mathlib.Core.Path.{_≡_, refl, ap, sym, _∙_, subst}
+use Prim.Native.Nat.{ℕ, suc, _+_, _-_, _*_, _%_, _^_, _<_, _≤_}
+use mathlib.Core.Path.{_≡_, refl, ap, sym, _∙_}
 use mathlib.Core.Logic.{_⊎_, inl, inr, _≢_}
 use mathlib.Core.List.{List}
 use mathlib.Core.Bool.{Bool, true, false, cond, not, _&&_}
@@ -14,9 +14,9 @@ use Rattle.little.specs.declared.Size.the-variants.{Word}
 use Rattle.state.specs.declared.State.{State}
 use Rattle.state.proofs.Laws.{register-lt}
 use Rattle.code.specs.declared.Form.{Form}
-use Rattle.step.specs.Try.{Try, did, no}
-use Rattle.step.specs.Stack.{less, plus}
-use Rattle.step.specs.Block.{countIn, moreIn, roundOf, equalIn, goesOn}
+use Rattle.operand.specs.Try.{did, no}
+use Rattle.operand.specs.Round.{less, plus}
+use Rattle.block.specs.Block.{countIn, moreIn, roundOf, equalIn, goesOn}
 use Rattle.run.specs.Repeat.{roundsOf, countOf, passed}
 use Rattle.run.proofs.Registers.{once}
 

@@ -1,26 +1,22 @@
 -- Demand 3, as specs/Demand.antt states it.
-use Prim.Native.Nat.{ℕ, zero, suc, _+_, _-_, _<_, _≤_}
-use mathlib.Core.Path.{_≡_, refl, ap, sym, _∙_, subst}
+use Prim.Native.Nat.{ℕ, suc, _+_, _-_, _≤_}
+use mathlib.Core.Path.{_≡_, ap, sym, _∙_, subst}
 use mathlib.Core.Logic.{_⊎_, inl, inr}
 use mathlib.Core.List.{List}
-use mathlib.Core.Bool.{Bool, true, false}
+use mathlib.Core.Bool.{true, false}
 use native.Mathlib.Omega.{arith}
 use native.Mathlib.Nat.{zero-add, add-zero}
-use native.Mathlib.Numerals.{add-one}
-use Rattle.answer.specs.declared.Answer.the-variants.{Done, Refused}
-use Rattle.answer.specs.declared.Why.{Why}
-use Rattle.answer.specs.declared.Why.the-variants.{Missing, ToRom}
+use Rattle.answer.specs.declared.Answer.the-variants.{Done}
 use Rattle.state.specs.declared.State.{State}
 use Rattle.code.specs.declared.Form.{Form}
-use Rattle.step.specs.Try.{did, no}
-use Rattle.step.specs.Block.{roundOf}
 use Rattle.step.specs.Exec.{pastOf}
-use Rattle.run.specs.Run.{ends, goOf, runOf}
-use Rattle.run.specs.Repeat.{At, ElementsThere, TargetsInRam, Spares, EqualAt, NoneEqual, countOf, roundsOf}
-use Rattle.run.specs.Demand.{EndsAfter, GoesOnAfter, CopyRepeats, CompareFinds, CompareExhausts, NotBefore, StopsByStart}
+use Rattle.step.specs.Many.{ends}
+use Rattle.run.specs.Run.{goOf}
+use Rattle.run.specs.Repeat.{At, ElementsThere, EqualAt, NoneEqual, countOf}
+use Rattle.run.specs.Demand.{EndsAfter, CopyRepeats, CompareFinds, CompareExhausts, NotBefore, StopsByStart}
 use Rattle.run.proofs.Laws.{go-none}
 use Rattle.run.proofs.Counts.{count-some}
-use Rattle.run.proofs.Repeats.{Clear, Goes, Ended, repeat-on, repeat-ends, repeat-refused, refused-at, run-at}
+use Rattle.run.proofs.Repeats.{Clear, repeat-on, repeat-ends, repeat-refused, refused-at, run-at}
 
 -- a compare writes nothing
 pub compare-clear : (n : ℕ) (f : Form) (s : State) (ram rom : List ℕ) → f .copies ≡ false → ElementsThere n f s ram rom → Clear n f s ram rom

@@ -19,7 +19,7 @@ use Rattle.memory.specs.declared.Loaded.the-variants.{Value}
 use Rattle.memory.proofs.Laws.{place-ram, ram-fits}
 use Rattle.state.specs.declared.State.{State}
 use Rattle.code.specs.declared.Form.{Form}
-use Rattle.step.specs.Block.{accumulator}
+use Rattle.block.specs.Block.{accumulator}
 use Rattle.run.specs.Repeat.{At, ElementsThere, Spares, EqualAt, RefusedAt, noElement, noTarget, romTarget, countOf, elementOf, targetOf, elementPlace, targetPlace}
 use Rattle.run.specs.Demand.{EndsAfter, GoesOnAfter}
 use Rattle.run.specs.Endings.{Ending, atCount, atEqual, atRefusal, Passes, Told, roundsDone, ComesTo, OneTold, NoOtherTold, EndsAsTold, EveryStart}

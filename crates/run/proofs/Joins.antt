@@ -1,14 +1,13 @@
 -- Runs one after the other, the run of one step, and the count.
 use Prim.Native.Nat.{ℕ, zero, suc, _+_, _-_, _<_, _≤_}
-use mathlib.Core.Path.{_≡_, refl, ap, sym, _∙_, subst}
-use mathlib.Core.Logic.{_⊎_, inl, inr}
+use mathlib.Core.Path.{_≡_, refl, ap, sym, _∙_}
 use mathlib.Core.List.{List}
-use mathlib.Core.Bool.{Bool, true, false, cond}
+use mathlib.Core.Bool.{Bool, true, false}
 use native.Mathlib.Omega.{arith}
 use native.Mathlib.Nat.{zero-add, add-zero}
 use lib.ListN.{length}
 use lib.Dec.{ltb}
-use borrow.Author.Tests.{le-ltb, ltb-true, ltb-false}
+use borrow.Author.Tests.{ltb-true, ltb-false}
 use Rattle.answer.specs.declared.Answer.{Answer}
 use Rattle.answer.specs.declared.Answer.the-variants.{Done, Refused}
 use Rattle.answer.specs.declared.Why.{Why}
@@ -16,13 +15,13 @@ use Rattle.answer.specs.declared.Why.the-variants.{TooMany, TooLong, Invalid}
 use Rattle.state.specs.State.{validOf}
 use Rattle.state.specs.declared.State.{State}
 use Rattle.state.proofs.Valid.{Valid, valid-says, valid-from}
-use Rattle.step.specs.Try.{Try, did, no, Outcome, leaves}
+use Rattle.operand.specs.Try.{Try, did, no, leaves}
 use Rattle.step.specs.Step.{tooLong, guarded, onceOf, tryOf, stepOf}
 use Rattle.step.proofs.Kept.{Keeps, keeps-once}
-use Rattle.run.specs.declared.Ran.{Ran}
-use Rattle.run.specs.Run.{Result, result, ends, goOf, afterChecks, runOf}
-use Rattle.run.specs.Statements.{RunSettled, RunsJoin, RunStops, OneStepRun, CountIsTrue, later, doneBy, asRun}
-use Rattle.run.proofs.Laws.{guard-passes, try-once, run-many, run-long, run-invalid, run-goes, go-none, go-did, go-no}
+use Rattle.step.specs.Many.{Result, result, ends}
+use Rattle.run.specs.Run.{goOf, runOf}
+use Rattle.run.specs.Statements.{RunSettled, RunsJoin, RunStops, OneStepRun, CountIsTrue, later, asRun}
+use Rattle.run.proofs.Laws.{try-once, run-many, run-long, run-invalid, run-goes, go-none, go-did, go-no}
 
 pub run-settled : RunSettled
 run-settled n s ram rom p q l m e f =

@@ -1,5 +1,5 @@
 -- What a round leaves of the registers: its pointers moved, BC one less, A and WA and the counter as they were.
-use Prim.Native.Nat.{ℕ, _+_, _-_, _*_, _/_, _%_, _^_, _<_, _≤_}
+use Prim.Native.Nat.{ℕ, _+_, _-_, _*_, _%_, _^_, _<_, _≤_}
 use mathlib.Core.Path.{_≡_, refl, ap, sym, _∙_}
 use mathlib.Core.Logic.{_≢_}
 use mathlib.Core.Bool.{Bool, true, false, cond}
@@ -9,20 +9,19 @@ use lib.Dec.{ltb}
 use borrow.Author.Tests.{ltb-true, ltb-false}
 use Rattle.little.specs.declared.Size.{Size}
 use Rattle.little.specs.declared.Size.the-variants.{Byte, Word, Long}
-use Rattle.little.specs.Width.{bitsOf, bytesOf}
+use Rattle.little.specs.Width.{bytesOf}
 use Rattle.alu.specs.Flag.{byteOf}
 use Rattle.alu.specs.declared.Flags.{Flags}
 use Rattle.alu.proofs.Packed.{packed-lt}
-use Rattle.state.specs.State.{longOf, withFlags, withBothFlags, withLong}
+use Rattle.state.specs.State.{longOf, withFlags, withBothFlags}
 use Rattle.state.specs.Sound.{Sound}
-use Rattle.state.specs.Register.{indexOf, slotOf, namedIn, slotIn, setSlot, registerAt, getRegister, setRegister}
+use Rattle.state.specs.Register.{indexOf, slotOf, namedIn, slotIn, registerAt, getRegister, setRegister}
 use Rattle.state.specs.declared.State.{State}
-use Rattle.state.specs.declared.Slot.{Slot}
-use Rattle.state.proofs.Laws.{sound-lent, Apart, registers, register-same, register-apart, sound-register, register-lt}
+use Rattle.state.proofs.Laws.{sound-lent, Apart, registers, register-same, register-apart, sound-register}
 use Rattle.code.specs.declared.Form.{Form}
-use Rattle.step.specs.Stack.{less, plus}
-use Rattle.step.specs.Flag.{flagged}
-use Rattle.step.specs.Block.{countIn, counted, moved, accumulator}
+use Rattle.operand.specs.Round.{less, plus}
+use Rattle.operand.specs.Flag.{flagged}
+use Rattle.block.specs.Block.{countIn, counted, moved, accumulator}
 
 -- the code of A, of WA and of XWA
 abbrev accumulatorCode : Size → ℕ

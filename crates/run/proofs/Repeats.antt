@@ -1,14 +1,14 @@
 -- A repeating form runs as its rounds: one induction for all forms.
-use Prim.Native.Nat.{ℕ, zero, suc, _+_, _-_, _*_, _%_, _^_, _<_, _≤_}
+use Prim.Native.Nat.{ℕ, zero, suc, _+_, _-_, _%_, _^_, _<_, _≤_}
 use mathlib.Core.Path.{_≡_, refl, ap, sym, _∙_, subst}
-use mathlib.Core.Logic.{_⊎_, inl, inr, ⊎-elim, _≢_}
+use mathlib.Core.Logic.{_⊎_, inl, inr, ⊎-elim}
 use mathlib.Core.List.{List}
 use mathlib.Core.Bool.{Bool, true, false, cond, not, _&&_}
 use native.Mathlib.Omega.{arith}
 use native.Mathlib.Nat.{zero-add, add-zero}
 use lib.Dec.{eqb}
 use lib.ListN.{length}
-use borrow.Author.Tests.{eq-eqb, ne-eqb, eqb-true}
+use borrow.Author.Tests.{eq-eqb, ne-eqb}
 use Rattle.answer.specs.declared.Answer.the-variants as answer
 use Rattle.answer.specs.declared.Why.{Why}
 use Rattle.answer.specs.declared.Why.the-variants as why
@@ -23,20 +23,21 @@ use Rattle.state.specs.Register.{getRegister}
 use Rattle.state.specs.declared.State.{State}
 use Rattle.state.proofs.Laws.{register-lt}
 use Rattle.code.specs.declared.Form.{Form}
-use Rattle.step.specs.Try.{Try, did, no}
-use Rattle.step.specs.Operand.{pointerOf}
-use Rattle.step.specs.Flag.{flagsIn}
-use Rattle.step.specs.Block.{countIn, accumulator, compared, roundOf, equalIn, goesOn}
+use Rattle.operand.specs.Try.{Try, did, no}
+use Rattle.operand.specs.Operand.{pointerOf}
+use Rattle.operand.specs.Flag.{flagsIn}
+use Rattle.block.specs.Block.{countIn, accumulator, roundOf, equalIn}
 use Rattle.step.specs.Exec.{pastOf}
 use Rattle.step.specs.Step.{tryOf}
-use Rattle.step.proofs.Rounds.{round-copies, round-compares, round-refused}
-use Rattle.run.specs.Run.{Result, ends, goOf, runOf}
+use Rattle.block.proofs.Rounds.{round-compares, round-refused}
+use Rattle.step.specs.Many.{ends}
+use Rattle.run.specs.Run.{goOf, runOf}
 use Rattle.run.specs.Repeat.{At, ElementsThere, TargetsInRam, Spares, EqualAt, NoneEqual, RefusedAt, noElement, noTarget, romTarget, countOf, roundsOf, passed, elementOf, targetOf, elementPlace, targetPlace}
 use Rattle.run.proofs.Bytes.{loaded-fits}
-use Rattle.run.proofs.Laws.{go-none, go-did, go-no, run-goes}
+use Rattle.run.proofs.Laws.{go-did, go-no, run-goes}
 use Rattle.run.proofs.Registers.{once, once-lt}
-use Rattle.run.proofs.Rounds.{Pointers, Rounded, Left, left-length, left-compare, round-leaves, ready-did, round-no-element, round-no-target, refused-not, same-did, compared-equal, copy-unequal}
-use Rattle.run.proofs.Counts.{count-some, count-round, count-bc, goes-on, goes-not, rounds-none, rounds-did, rounds-no, passed-more, passed-none}
+use Rattle.run.proofs.Rounds.{Rounded, Left, left-length, left-compare, round-leaves, ready-did, round-no-element, round-no-target, refused-not, same-did, compared-equal, copy-unequal}
+use Rattle.run.proofs.Counts.{count-round, count-bc, goes-on, goes-not, rounds-none, rounds-did, rounds-no, passed-more, passed-none}
 use Rattle.run.proofs.Steps.{at-pointers, at-valid, within, step-did, step-no, at-next}
 
 -- what is supposed of the first n rounds

@@ -1,14 +1,13 @@
 -- One round of a listed form, and many.
-use Prim.Native.Nat.{ℕ, zero, suc, _+_, _-_, _*_, _%_, _^_, _<_, _≤_}
+use Prim.Native.Nat.{ℕ, _+_, _-_, _^_, _<_, _≤_}
 use mathlib.Core.Path.{_≡_, refl, ap, sym, _∙_, subst}
-use mathlib.Core.Logic.{_⊎_, inl, inr, ⊎-elim, _≢_}
+use mathlib.Core.Logic.{inl, inr, _≢_}
 use mathlib.Core.List.{List}
-use mathlib.Core.Bool.{Bool, true, false, cond, not, _&&_}
+use mathlib.Core.Bool.{Bool, true, false, not, _&&_}
 use native.Mathlib.Omega.{arith}
 use native.Mathlib.Nat.{mod-eq-of-lt}
 use lib.Dec.{eqb}
 use lib.ListN.{length}
-use borrow.Author.Tests.{eq-eqb, ne-eqb, eqb-true, eqb-false}
 use Rattle.answer.specs.declared.Answer.{Answer}
 use Rattle.answer.specs.declared.Answer.the-variants as answer
 use Rattle.answer.specs.declared.Why.{Why}
@@ -16,10 +15,9 @@ use Rattle.answer.specs.declared.Why.the-variants as why
 use Rattle.little.specs.declared.Size.{Size}
 use Rattle.little.specs.declared.Size.the-variants.{Byte, Word, Long}
 use Rattle.little.specs.Width.{bitsOf, bytesOf}
-use Rattle.alu.specs.Flag.{byteOf, flagsOf, copiedOf, comparedOf}
+use Rattle.alu.specs.Flag.{comparedOf}
 use Rattle.alu.specs.Sums.{differenceOf}
 use Rattle.alu.specs.Operation.{operated}
-use Rattle.alu.specs.declared.Arith.the-variants.{Cp}
 use Rattle.alu.specs.declared.Flags.{Flags}
 use Rattle.alu.proofs.Packed.{unpacked}
 use Rattle.alu.proofs.Results.{compared-same}
@@ -37,18 +35,17 @@ use Rattle.state.specs.declared.State.{State}
 use Rattle.state.proofs.Valid.{Valid}
 use Rattle.state.proofs.Laws.{register-lt}
 use Rattle.code.specs.declared.Form.{Form}
-use Rattle.code.specs.Range.{PointersIn, NotLong}
-use Rattle.step.specs.Try.{Try, did, no, withLoaded}
-use Rattle.step.specs.Operand.{pointerOf, storing, storedBy}
-use Rattle.step.specs.Stack.{less, plus}
-use Rattle.step.specs.Flag.{flagsIn, flagged}
-use Rattle.step.specs.Block.{countIn, moreIn, counted, moved, copied, accumulator, compared, roundOf, equalIn, goesOn}
-use Rattle.step.proofs.Rounds.{round-copies, round-compares, round-refused}
+use Rattle.code.specs.Range.{PointersIn}
+use Rattle.operand.specs.Try.{did, no}
+use Rattle.operand.specs.Operand.{pointerOf, storing, storedBy}
+use Rattle.operand.specs.Round.{less}
+use Rattle.operand.specs.Flag.{flagsIn, flagged}
+use Rattle.block.specs.Block.{countIn, moreIn, counted, moved, copied, accumulator, compared, roundOf, equalIn}
+use Rattle.block.proofs.Rounds.{round-copies, round-compares, round-refused}
 use Rattle.step.proofs.Kept.{copied-valid, compared-valid}
 use Rattle.little.specs.Bytes.{Bytes}
-use Rattle.run.specs.Repeat.{roundsOf, countOf, passed}
-use Rattle.run.proofs.Bytes.{bytes-after, loaded-fits}
-use Rattle.run.proofs.Registers.{once, once-lt, moved-sound, moved-self, moved-long, moved-bc, moved-acc, counted-sound, counted-bc, counted-long, counted-acc, flagged-sound, flagged-register, flagged-acc}
+use Rattle.run.proofs.Bytes.{bytes-after}
+use Rattle.run.proofs.Registers.{once, moved-sound, moved-self, moved-long, moved-bc, moved-acc, counted-sound, counted-bc, counted-long, counted-acc, flagged-sound, flagged-register, flagged-acc}
 
 -- ---- what is known of a listed form's pointers
 pub record Pointers (f : Form) : Type 0 where

@@ -1,9 +1,9 @@
 -- The outlet's search and the ends of copies, as specs/Search.antt states them.
-use Prim.Native.Nat.{ℕ, zero, suc, _+_, _-_, _*_, _%_, _^_, _<_, _≤_}
+use Prim.Native.Nat.{ℕ, suc, _+_, _-_, _*_, _%_, _^_, _≤_}
 use mathlib.Core.Path.{_≡_, refl, ap, sym, _∙_, subst}
-use mathlib.Core.Logic.{_⊎_, inl, inr}
+use mathlib.Core.Logic.{inl, inr}
 use mathlib.Core.List.{List}
-use mathlib.Core.Bool.{Bool, true, false, cond}
+use mathlib.Core.Bool.{Bool, true, cond}
 use native.Mathlib.Omega.{arith}
 use native.Mathlib.Nat.{add-zero}
 use Rattle.answer.specs.declared.Answer.the-variants.{Done}
@@ -13,11 +13,12 @@ use Rattle.state.specs.State.{longOf, withCounter}
 use Rattle.state.specs.Register.{slotIn, registerAt, getRegister}
 use Rattle.state.specs.declared.State.{State}
 use Rattle.code.specs.declared.Form.{Form}
-use Rattle.step.specs.Flag.{flagsIn}
-use Rattle.step.specs.Block.{countIn}
+use Rattle.operand.specs.Flag.{flagsIn}
+use Rattle.block.specs.Block.{countIn}
 use Rattle.step.specs.Exec.{pastOf}
-use Rattle.run.specs.Run.{ends, goOf, runOf}
-use Rattle.run.specs.Repeat.{At, ElementsThere, TargetsInRam, Spares, EqualAt, NoneEqual, countOf, passed}
+use Rattle.step.specs.Many.{ends}
+use Rattle.run.specs.Run.{goOf, runOf}
+use Rattle.run.specs.Repeat.{At, countOf, passed}
 use Rattle.run.specs.Search.{SearchFinds, SearchFails, CopyEnds}
 use Rattle.run.proofs.Laws.{go-none}
 use Rattle.run.proofs.Counts.{count-some}

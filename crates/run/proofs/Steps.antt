@@ -1,13 +1,12 @@
 -- One step at a repeating form: its round, and the counter at it or past it.
-use Prim.Native.Nat.{ℕ, zero, suc, _+_, _-_, _*_, _%_, _^_, _<_, _≤_}
+use Prim.Native.Nat.{ℕ, _+_, _-_, _^_, _<_, _≤_}
 use mathlib.Core.Path.{_≡_, refl, ap, sym, _∙_, subst}
-use mathlib.Core.Logic.{_⊎_, inl, inr, ⊎-elim}
+use mathlib.Core.Logic.{_⊎_, ⊎-elim}
 use mathlib.Core.List.{List, [], _∷_}
 use mathlib.Core.Bool.{Bool, true, false, cond}
 use native.Mathlib.Omega.{arith}
 use native.Mathlib.Nat.{mod-eq-of-lt}
 use native.Mathlib.Numerals.{add-one}
-use lib.Dec.{ltb}
 use lib.ListN.{length, getD, take, drop, length-drop}
 use lib.Seq.{drop-cons}
 use borrow.Author.Tests.{le-ltb}
@@ -20,37 +19,35 @@ use Rattle.little.specs.Width.{bitsOf, bytesOf}
 use Rattle.alu.specs.Flag.{comparedOf}
 use Rattle.alu.specs.Sums.{differenceOf}
 use Rattle.memory.specs.Place.{placeOf}
-use Rattle.memory.specs.Access.{loadOf, storeOf, ramAfter, codeAt, codeFrom}
+use Rattle.memory.specs.Access.{loadOf, storeOf, ramAfter, codeAt}
 use Rattle.memory.specs.declared.Place.{Place}
 use Rattle.memory.specs.declared.Place.the-variants.{Ram, Rom, Missing}
 use Rattle.memory.specs.declared.Loaded.{Loaded}
 use Rattle.memory.specs.declared.Loaded.the-variants.{Value, Refused}
 use Rattle.memory.proofs.Laws.{ram-fits, after-length, after-below, after-above, code-in}
-use Rattle.state.specs.State.{validOf, longOf, withLong, withCounter, withFlags, withBothFlags}
+use Rattle.state.specs.State.{longOf, withLong, withCounter, withFlags, withBothFlags}
 use Rattle.state.specs.Register.{slotIn, setSlot, registerAt, setRegister}
 use Rattle.state.specs.declared.State.{State}
 use Rattle.state.proofs.Valid.{Valid, valid-says, valid-from}
 use Rattle.code.specs.Listed.{decodeOf}
 use Rattle.code.specs.declared.Form.{Form}
 use Rattle.code.specs.declared.Op.{Op}
-use Rattle.code.specs.declared.Op.the-variants.{Block}
 use Rattle.code.specs.declared.Instruction.{Instruction}
 use Rattle.code.specs.declared.Decoded.{Decoded}
 use Rattle.code.specs.declared.Decoded.the-variants.{Whole}
 use Rattle.code.specs.Range.{InRange}
 use Rattle.code.proofs.Prefix.{same-start}
 use Rattle.code.proofs.Ranges.{length-fits, block-length, ranges}
-use Rattle.step.specs.Try.{Try, did, no, andThen, withLoaded}
-use Rattle.step.specs.Operand.{pointerOf, storing, storedBy}
-use Rattle.step.specs.Flag.{flagsIn, flagged}
-use Rattle.step.specs.Block.{moreIn, counted, moved, accumulator, copied, compared, roundOf, goesOn, endsAt}
+use Rattle.operand.specs.Try.{Try, did, no, andThen}
+use Rattle.operand.specs.Operand.{pointerOf, storing, storedBy}
+use Rattle.operand.specs.Flag.{flagsIn, flagged}
+use Rattle.block.specs.Block.{moreIn, counted, moved, accumulator, copied, compared, roundOf, goesOn, endsAt}
 use Rattle.step.specs.Exec.{pastOf, effectOf, executedOf}
 use Rattle.step.specs.Step.{tooLong, done, onceOf, tryOf}
-use Rattle.little.specs.Bytes.{Bytes}
 use Rattle.run.specs.Repeat.{At}
 use Rattle.run.proofs.Bytes.{bytes-code}
 use Rattle.run.proofs.Laws.{try-once}
-use Rattle.step.proofs.Rounds.{round-copies, round-compares, round-refused}
+use Rattle.block.proofs.Rounds.{round-copies, round-compares, round-refused}
 use Rattle.run.proofs.Rounds.{Pointers, pointers, Rounded, Left, unchanged, wrote, left-length, left-bytes}
 
 -- ---- the counter has no part in a round

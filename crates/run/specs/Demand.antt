@@ -7,9 +7,10 @@ use Rattle.answer.specs.declared.Answer.the-variants.{Done, Refused}
 use Rattle.answer.specs.declared.Why.{Why}
 use Rattle.state.specs.declared.State.{State}
 use Rattle.code.specs.declared.Form.{Form}
-use Rattle.step.specs.Try.{did}
+use Rattle.operand.specs.Try.{did}
 use Rattle.step.specs.Exec.{pastOf}
-use Rattle.run.specs.Run.{mostSteps, ends, runOf}
+use Rattle.step.specs.Many.{ends}
+use Rattle.run.specs.Run.{mostSteps, runOf}
 use Rattle.run.specs.Repeat.{At, ElementsThere, TargetsInRam, Spares, EqualAt, NoneEqual, RefusedAt, countOf, roundsOf}
 
 -- n rounds are done, and n steps end there: registers, flags and memory are those of n rounds, the counter is past it

@@ -3,7 +3,7 @@ use Prim.Native.Nat.{ℕ, zero, suc, _+_, _-_, _*_, _%_, _^_, _<_, _≤_}
 use mathlib.Core.Path.{_≡_}
 use mathlib.Core.Logic.{_⊎_, _≢_}
 use mathlib.Core.List.{List}
-use mathlib.Core.Bool.{Bool, true, false, cond}
+use mathlib.Core.Bool.{true, false, cond}
 use lib.Dec.{eqb}
 use lib.ListN.{length}
 use Rattle.answer.specs.declared.Why.{Why}
@@ -25,8 +25,8 @@ use Rattle.code.specs.declared.Form.{Form}
 use Rattle.code.specs.declared.Instruction.{Instruction}
 use Rattle.code.specs.declared.Op.the-variants.{Block}
 use Rattle.code.specs.declared.Decoded.the-variants.{Whole}
-use Rattle.step.specs.Try.{Try, did, no}
-use Rattle.step.specs.Block.{countIn, accumulator, roundOf}
+use Rattle.operand.specs.Try.{Try, did, no}
+use Rattle.block.specs.Block.{countIn, accumulator, roundOf}
 
 -- n rounds one after the other, each on the registers, flags and memory that the one before left; or the first refusal
 unfoldable pub roundsOf : ℕ → Form → State → List ℕ → List ℕ → Try
@@ -52,6 +52,13 @@ elementOf f s i = passed f (getRegister s Long (f .from)) i % 2 ^ 24
 abbrev pub targetOf : Form → State → ℕ → ℕ
 targetOf f s i = passed f (getRegister s Long (f .to)) i % 2 ^ 24
 
+-- where element i lies, and where a copy writes it to
+abbrev pub elementPlace : Form → State → List ℕ → List ℕ → ℕ → Place
+elementPlace f s ram rom i = placeOf (length ram) (length rom) (elementOf f s i) (bytesOf (f .size))
+
+abbrev pub targetPlace : Form → State → List ℕ → List ℕ → ℕ → Place
+targetPlace f s ram rom i = placeOf (length ram) (length rom) (targetOf f s i) (bytesOf (f .size))
+
 -- ---- what demand 3 supposes
 -- a valid state, with both memories within their limits, at a listed repeating copy or compare whose bytes lie in one memory;
 -- `sound`, `ramBytes` and `romBytes` say only that each number fits where the code holds it, which the types see to
@@ -69,7 +76,7 @@ pub record At (f : Form) (s : State) (ram rom : List ℕ) : Type 0 where
 
 -- of the first n elements: every element is there
 abbrev pub ElementsThere : ℕ → Form → State → List ℕ → List ℕ → Type 0
-ElementsThere n f s ram rom = (i : ℕ) → i < n → placeOf (length ram) (length rom) (elementOf f s i) (bytesOf (f .size)) ≢ Missing
+ElementsThere n f s ram rom = (i : ℕ) → i < n → elementPlace f s ram rom i ≢ Missing
 
 -- every byte that a copy writes is RAM
 abbrev pub TargetsInRam : ℕ → Form → State → List ℕ → Type 0
@@ -88,13 +95,6 @@ EqualAt f s ram rom i = (f .copies ≡ false) × (loadOf ram rom (elementOf f s 
 -- none of the first n does
 abbrev pub NoneEqual : ℕ → Form → State → List ℕ → List ℕ → Type 0
 NoneEqual n f s ram rom = (i : ℕ) → i < n → EqualAt f s ram rom i → ⊥
-
--- where element i lies, and where a copy writes it to
-abbrev pub elementPlace : Form → State → List ℕ → List ℕ → ℕ → Place
-elementPlace f s ram rom i = placeOf (length ram) (length rom) (elementOf f s i) (bytesOf (f .size))
-
-abbrev pub targetPlace : Form → State → List ℕ → List ℕ → ℕ → Place
-targetPlace f s ram rom i = placeOf (length ram) (length rom) (targetOf f s i) (bytesOf (f .size))
 
 -- the round of element i is refused with this number, in the order of check: 5, the element is missing;
 -- or a copy finds it, and 5, its target is missing, or 6, its target is ROM

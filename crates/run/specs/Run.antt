@@ -8,30 +8,12 @@ use Rattle.answer.specs.declared.Answer.{Answer}
 use Rattle.answer.specs.declared.Answer.the-variants.{Done, Refused}
 use Rattle.answer.specs.declared.Why.the-variants.{TooMany}
 use Rattle.state.specs.declared.State.{State}
-use Rattle.step.specs.Try.{Try, did, no}
+use Rattle.operand.specs.Try.{Try, did, no}
 use Rattle.step.specs.Step.{guarded, tryOf}
-use Rattle.run.specs.declared.Ran.{Ran}
+use Rattle.step.specs.declared.turn.Ran.{Ran}
+use Rattle.step.specs.Many.{Result, result, ends}
 
--- what a run leaves: the state so far, the bytes of RAM, the steps done, and its answer
-pub record Result : Type 0 where
-  pub state : State
-  pub ram : List ℕ
-  pub done : ℕ
-  pub answer : Answer
-
--- a function's result, with what RAM holds after it
-abbrev pub result : Ran → List ℕ → Result
-result r ram = record { state = r .state; ram = ram; done = r .done; answer = r .answer }
-
--- what a function answers for a run that ends after d steps
-abbrev pub stopped : State → ℕ → Answer → Ran
-stopped s d a = record { state = s; done = d; answer = a }
-
--- a run that ends after d steps
-abbrev pub ends : ℕ → State → List ℕ → Answer → Result
-ends d s ram a = record { state = s; ram = ram; done = d; answer = a }
-
--- d steps are done and n are left: all of them, or those before the first one refused
+-- d steps are done and n are left: all of them, each with its checks, or those before the first one refused
 unfoldable pub goOf : ℕ → ℕ → State → List ℕ → List ℕ → Result
 goOf zero d s ram rom = ends d s ram Done
 goOf (suc n) d s ram rom =

@@ -4,21 +4,20 @@ use Prim.Native.Nat.{ℕ, _+_, _-_, _*_, _%_, _^_, _<_, _≤_}
 use mathlib.Core.Path.{_≡_}
 use mathlib.Core.Logic.{_⊎_}
 use mathlib.Core.List.{List}
-use mathlib.Core.Bool.{Bool, true, false}
+use mathlib.Core.Bool.{true, false}
 use lib.ListN.{length, getD, take, drop, replicate}
 use Rattle.answer.specs.declared.Answer.the-variants.{Done}
 use Rattle.little.specs.declared.Size.the-variants.{Byte, Long}
 use Rattle.little.specs.Width.{bytesOf}
 use Rattle.little.specs.Bytes.{replaced}
-use Rattle.memory.specs.Place.{placeOf}
-use Rattle.memory.specs.declared.Place.the-variants.{Ram, Rom}
 use Rattle.state.specs.Register.{getRegister}
 use Rattle.state.specs.declared.State.{State}
 use Rattle.code.specs.declared.Form.{Form}
-use Rattle.step.specs.Operand.{pointerOf}
-use Rattle.step.specs.Flag.{flagsIn}
-use Rattle.step.specs.Block.{countIn}
-use Rattle.run.specs.Run.{ends, runOf}
+use Rattle.operand.specs.Operand.{pointerOf}
+use Rattle.operand.specs.Flag.{flagsIn}
+use Rattle.block.specs.Block.{countIn}
+use Rattle.step.specs.Many.{ends}
+use Rattle.run.specs.Run.{runOf}
 use Rattle.run.specs.Repeat.{At, ElementsThere, TargetsInRam, Spares, EqualAt, NoneEqual, countOf, passed}
 
 -- ---- a search upwards, CPIR

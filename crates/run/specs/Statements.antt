@@ -1,16 +1,16 @@
 -- What is proved of a run, beside what the call promises and demand 3. Each statement is proved in proofs/Joins.antt.
 use Prim.Native.Nat.{ℕ, _+_, _<_, _≤_}
 use mathlib.Core.Path.{_≡_}
-use mathlib.Core.Logic.{_⊎_}
 use mathlib.Core.List.{List}
 use Rattle.answer.specs.declared.Answer.{Answer}
 use Rattle.answer.specs.declared.Answer.the-variants.{Done, Refused}
 use Rattle.answer.specs.declared.Why.{Why}
 use Rattle.state.specs.declared.State.{State}
-use Rattle.step.specs.Try.{Outcome, no}
+use Rattle.operand.specs.Try.{Outcome, no}
 use Rattle.step.specs.Step.{tryOf, stepOf}
-use Rattle.run.specs.declared.Ran.{Ran}
-use Rattle.run.specs.Run.{mostSteps, Result, ends, runOf, RunMeets}
+use Rattle.step.specs.declared.turn.Ran.{Ran}
+use Rattle.step.specs.Many.{Result, ends}
+use Rattle.run.specs.Run.{mostSteps, runOf, RunMeets}
 
 -- any two results that meet what the call promises are the same, and so is RAM after them
 abbrev pub RunSettled : Type 0

@@ -12,8 +12,8 @@ use Rattle.answer.specs.declared.Why.the-variants.{Invalid}
 use Rattle.little.specs.Bytes.{valueOf, bytesFrom}
 use Rattle.state.specs.State.{validOf}
 use Rattle.state.specs.declared.State.{State}
-use Rattle.saved.specs.Sr.{srOf, flagsIn, bankIn, levelIn}
-use Rattle.saved.specs.Record.{longsBytes, longsAt, recordOf, saveAnswer, saveBytes, srAt, stateAt, fixedAt, loadOf, refusedRecord}
+use Rattle.saved.specs.Sr.{srOf, fIn, bankIn, levelIn}
+use Rattle.saved.specs.Record.{longsBytes, longsAt, recordOf, saveAnswer, saveBytes, srAt, stateAt, fixedAt, restoredOf, refusedRecord}
 use Rattle.saved.proofs.Numbers.{lent-length, lent-take, read-part}
 
 -- ---- saving
@@ -77,18 +77,18 @@ unfolding stateAt
 state-made l e f g = rw (e, f, g, read-part 4 (drop 80 l) (omega arith))
 
 module _ (l : List ℕ) where
-  pub load-length : (length l ≡ 88 → ⊥) → loadOf l ≡ refusedRecord Invalid
-  unfolding loadOf
+  pub load-length : (length l ≡ 88 → ⊥) → restoredOf l ≡ refusedRecord Invalid
+  unfolding restoredOf
   load-length e = simp (ne-eqb (length l) 88 e)
 
-  pub load-invalid : length l ≡ 88 → validOf (stateAt l) ≡ false → loadOf l ≡ refusedRecord Invalid
-  unfolding loadOf
+  pub load-invalid : length l ≡ 88 → validOf (stateAt l) ≡ false → restoredOf l ≡ refusedRecord Invalid
+  unfolding restoredOf
   load-invalid e v = simp (eq-eqb (length l) 88 e, v)
 
-  pub load-fixed : length l ≡ 88 → validOf (stateAt l) ≡ true → fixedAt l ≡ false → loadOf l ≡ refusedRecord Invalid
-  unfolding loadOf
+  pub load-fixed : length l ≡ 88 → validOf (stateAt l) ≡ true → fixedAt l ≡ false → restoredOf l ≡ refusedRecord Invalid
+  unfolding restoredOf
   load-fixed e v m = simp (eq-eqb (length l) 88 e, v, m)
 
-  pub load-good : length l ≡ 88 → validOf (stateAt l) ≡ true → fixedAt l ≡ true → loadOf l ≡ record { answer = Done; state = stateAt l }
-  unfolding loadOf
+  pub load-good : length l ≡ 88 → validOf (stateAt l) ≡ true → fixedAt l ≡ true → restoredOf l ≡ record { answer = Done; state = stateAt l }
+  unfolding restoredOf
   load-good e v m = simp (eq-eqb (length l) 88 e, v, m)

@@ -7,7 +7,7 @@ use Rattle.answer.specs.declared.Answer.the-variants.{Refused}
 use Rattle.answer.specs.declared.Why.the-variants.{Invalid}
 use Rattle.little.specs.Bytes.{bytesFrom}
 use Rattle.state.specs.State.{zeroState, validOf}
-use Rattle.saved.specs.Record.{longsBytes, recordOf, saveAnswer, saveBytes, loadOf}
+use Rattle.saved.specs.Record.{longsBytes, recordOf, saveAnswer, saveBytes, restoredOf}
 use Rattle.saved.specs.Statements.{ZeroRecord, Saves, BadRecords, Settled}
 use Rattle.saved.proofs.Laws.{save-done, save-short, save-invalid}
 
@@ -23,7 +23,7 @@ saves s b = (save-done s b, ⊎-elim (save-invalid s b) (short (validOf s) refl)
     short false e n = save-invalid s b e
 
 pub bad-records : BadRecords
-unfolding loadOf
+unfolding restoredOf
 bad-records l e = rw e refl
 
 pub settled : Settled

@@ -17,8 +17,8 @@ use Rattle.state.specs.State.{validOf}
 use Rattle.state.specs.Sound.{Sound}
 use Rattle.state.specs.declared.State.{State}
 use Rattle.state.proofs.Valid.{Valid, valid-says, and-true}
-use Rattle.saved.specs.Sr.{srOf, flagsIn, bankIn, levelIn, onesIn}
-use Rattle.saved.specs.Record.{longsBytes, longsAt, recordOf, srAt, stateAt, fixedAt, isRecord, loadOf}
+use Rattle.saved.specs.Sr.{srOf, fIn, bankIn, levelIn, onesIn}
+use Rattle.saved.specs.Record.{longsBytes, longsAt, recordOf, srAt, stateAt, fixedAt, isRecord, restoredOf}
 use Rattle.saved.specs.Statements.{SavedReadsBack, ReadSavesBack, RecordsAreOfStates}
 use Rattle.saved.proofs.Numbers.{longs-length, longs-back, bytes-drop, part-bytes, bytes-longs}
 use Rattle.saved.proofs.Laws.{load-good}
@@ -69,7 +69,7 @@ module _ (s : State) (ok : Sound s) (v : Valid s) where
       (value-bytes 4 (s .counter) (omega (arith, v .counter)))
 
   -- SR and back
-  sr-back : (bankIn (srOf s) ≡ s .bank .0) × (levelIn (srOf s) ≡ s .level .0) × (flagsIn (srOf s) ≡ s .flags)
+  sr-back : (bankIn (srOf s) ≡ s .bank .0) × (levelIn (srOf s) ≡ s .level .0) × (fIn (srOf s) ≡ s .flags)
   sr-back =
       let b : srOf s / 0x100 ≡ s .bank .0 + 8 * (17 + 2 * s .level .0) = omega (arith, ok .flags-fit) in
       let l : srOf s / 0x1000 ≡ s .level .0 + 8 = omega (arith, ok .flags-fit, v .bank) in

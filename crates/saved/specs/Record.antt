@@ -12,7 +12,7 @@ use Rattle.answer.specs.declared.Why.the-variants.{Invalid}
 use Rattle.little.specs.Bytes.{valueOf, bytesFrom}
 use Rattle.state.specs.State.{validOf, zeroState}
 use Rattle.state.specs.declared.State.{State}
-use Rattle.saved.specs.Sr.{srOf, flagsIn, bankIn, levelIn, onesIn}
+use Rattle.saved.specs.Sr.{srOf, fIn, bankIn, levelIn, onesIn}
 use Rattle.saved.specs.declared.Restored.{Restored}
 
 -- numbers of four bytes, one after the other
@@ -58,7 +58,7 @@ stateAt l = record {
   counter = valueOf (take 4 (drop 80 l));
   bank = record { 0 = bankIn (srAt l) };
   level = record { 0 = levelIn (srAt l) };
-  flags = flagsIn (srAt l);
+  flags = fIn (srAt l);
   spare = getD l 86 0;
 }
 
@@ -75,9 +75,9 @@ abbrev pub refusedRecord : Why → Restored
 refusedRecord w = record { answer = Refused w; state = zeroState }
 
 -- what a load gives
-unfoldable pub loadOf : List ℕ → Restored
-loadOf l = cond (isRecord l) (record { answer = Done; state = stateAt l }) (refusedRecord Invalid)
+unfoldable pub restoredOf : List ℕ → Restored
+restoredOf l = cond (isRecord l) (record { answer = Done; state = stateAt l }) (refusedRecord Invalid)
 
 -- what a load promises of its result r
 abbrev pub LoadMeets : List ℕ → Restored → Type 0
-LoadMeets l r = r ≡ loadOf l
+LoadMeets l r = r ≡ restoredOf l

@@ -9,8 +9,8 @@ abbrev pub srOf : State → ℕ
 srOf s = s .flags + 2 ^ 8 * s .bank .0 + 2 ^ 11 + 2 ^ 12 * s .level .0 + 2 ^ 15
 
 -- and back
-abbrev pub flagsIn : ℕ → ℕ
-flagsIn sr = sr % 2 ^ 8
+abbrev pub fIn : ℕ → ℕ
+fIn sr = sr % 2 ^ 8
 
 -- the three bits 8 to 10; bit 10 makes the bank 4 or more, which no valid state has
 abbrev pub bankIn : ℕ → ℕ

@@ -13,11 +13,11 @@ use Rattle.state.specs.State.{zeroState, validOf}
 use Rattle.state.specs.Sound.{Sound}
 use Rattle.state.specs.declared.State.{State}
 use Rattle.saved.specs.declared.Restored.{Restored}
-use Rattle.saved.specs.Record.{recordOf, saveAnswer, saveBytes, SaveMeets, stateAt, isRecord, loadOf, LoadMeets}
+use Rattle.saved.specs.Record.{recordOf, saveAnswer, saveBytes, SaveMeets, stateAt, isRecord, restoredOf, LoadMeets}
 
 -- a saved state reads back as itself
 abbrev pub SavedReadsBack : Type 0
-SavedReadsBack = (s : State) → Sound s → validOf s ≡ true → loadOf (recordOf s) ≡ record { answer = Done; state = s }
+SavedReadsBack = (s : State) → Sound s → validOf s ≡ true → restoredOf (recordOf s) ≡ record { answer = Done; state = s }
 
 -- a good record is written again as itself
 abbrev pub ReadSavesBack : Type 0
@@ -42,7 +42,7 @@ Saves =
 
 -- what is no good record is 2, and gives the all-zero state
 abbrev pub BadRecords : Type 0
-BadRecords = (l : List ℕ) → isRecord l ≡ false → loadOf l ≡ record { answer = Refused Invalid; state = zeroState }
+BadRecords = (l : List ℕ) → isRecord l ≡ false → restoredOf l ≡ record { answer = Refused Invalid; state = zeroState }
 
 -- two outcomes of a save, or of a load, that meet what it promises are the same
 abbrev pub Settled : Type 0

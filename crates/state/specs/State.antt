@@ -61,15 +61,15 @@ lent s registers counter bank flags spare = record {
 abbrev pub banked : State → List ℕ → ℕ → State
 banked s registers bank = lent s registers (s .counter) bank (s .flags) (s .spare)
 
--- these and F
+-- the registers, the bank and F
 abbrev pub bankedWith : State → List ℕ → ℕ → ℕ → State
 bankedWith s registers bank flags = lent s registers (s .counter) bank flags (s .spare)
 
--- these and the counter
+-- the registers, the bank and the counter
 abbrev pub bankedAt : State → List ℕ → ℕ → ℕ → State
 bankedAt s registers bank counter = lent s registers counter bank (s .flags) (s .spare)
 
--- these, the counter and F
+-- the registers, the bank, the counter and F
 abbrev pub bankedAtWith : State → List ℕ → ℕ → ℕ → ℕ → State
 bankedAtWith s registers bank counter flags = lent s registers counter bank flags (s .spare)
 
@@ -81,7 +81,7 @@ controlled s counter bank flags spare = lent s (s .registers) counter bank flags
 abbrev pub flaggedAt : State → ℕ → ℕ → State
 flaggedAt s counter flags = lent s (s .registers) counter (s .bank .0) flags (s .spare)
 
--- the counter alone, as it is
+-- the counter alone, not taken modulo 2^24
 abbrev pub standingAt : State → ℕ → State
 standingAt s counter = lent s (s .registers) counter (s .bank .0) (s .flags) (s .spare)
 

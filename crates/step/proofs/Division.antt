@@ -1,11 +1,8 @@
 -- The work of an operation, divided as the code divides it, is what the operation does.
-use Prim.Native.Nat.{ℕ, _%_, _^_}
+use Prim.Native.Nat.{ℕ}
 use mathlib.Core.Path.{_≡_, refl, sym}
 use mathlib.Core.List.{List}
 use mathlib.Core.Bool.{Bool, true, false, cond}
-use Rattle.answer.specs.declared.Answer.{Answer}
-use Rattle.answer.specs.declared.Answer.the-variants as answer
-use Rattle.answer.specs.declared.Answer.the-variants.{Done}
 use Rattle.little.specs.declared.Size.{Size}
 use Rattle.alu.specs.declared.Computed.{Computed}
 use Rattle.alu.specs.declared.Arith.{Arith}
@@ -13,24 +10,22 @@ use Rattle.code.specs.declared.Operand.{Operand}
 use Rattle.code.specs.declared.Operand.the-variants.{Register, Constant}
 use Rattle.code.specs.declared.Op.{Op}
 use Rattle.code.specs.declared.Op.the-variants.{Nop, Incf, Decf, Ldf, Rcf, Scf, Ccf, Zcf, Exf, PushF, PopF, Set, Push, Pop, Jp16, Jp24, Call16, Call24, Calr, Ret, Jr, Jrl, LoadConstant, Load, Into, Compute, ComputeInto, ComputeConstant, Inc, Dec, Shifted, Extz, Exts, Store, Block}
-use Rattle.memory.specs.Access.{storeOf, ramAfter}
 use Rattle.memory.specs.declared.Loaded.{Loaded}
 use Rattle.memory.specs.declared.Loaded.the-variants.{Value, Refused}
 use Rattle.state.specs.State.{withFlags, withBothFlags}
 use Rattle.state.specs.Register.{getRegister}
 use Rattle.state.specs.declared.State.{State}
 use Rattle.step.specs.declared.kind.Kind.{Kind}
-use Rattle.step.specs.Try.{did, after, leaves, withLoaded}
-use Rattle.step.specs.Operand.{valueAt, putAt, storing}
-use Rattle.step.specs.Flag.{flagged}
-use Rattle.step.specs.Compute.{computed, resultIn, storesOf, answerIn}
+use Rattle.operand.specs.Try.{did, withLoaded}
+use Rattle.operand.specs.Operand.{valueAt, putAt}
+use Rattle.operand.specs.Flag.{flagged}
+use Rattle.compute.specs.Compute.{computed, resultIn, storesOf, answerIn}
 use Rattle.step.specs.Exec.{effectOf}
-use Rattle.step.specs.Kind.{kindOf, kindDone, targetOf, endAfter}
-use Rattle.step.specs.Stack.{withStack}
-use Rattle.step.proofs.Laws.{stored, not-stored}
+use Rattle.step.specs.Kind.{kindOf, kindDone}
+use Rattle.compute.specs.Put.{putInto}
 
 -- CP puts its result nowhere
-answered : (a : Arith) (s : State) (ram rom : List ℕ) (z : Size) (o : Operand) (r : Computed) → answerIn a s ram rom z o r ≡ putAt (flagged s (r .flags)) ram rom z (targetOf a o) (r .value)
+answered : (a : Arith) (s : State) (ram rom : List ℕ) (z : Size) (o : Operand) (r : Computed) → answerIn a s ram rom z o r ≡ putAt (flagged s (r .flags)) ram rom z (putInto a o) (r .value)
 answered a s ram rom z o r = go (storesOf a)
   where
     go : (b : Bool) → cond b (resultIn s ram rom z o r) (did (flagged s (r .flags)) ram) ≡ putAt (flagged s (r .flags)) ram rom z (cond b o (Constant 0)) (r .value)
@@ -40,7 +35,7 @@ answered a s ram rom z o r = go (storesOf a)
 -- the same of a value that was loaded
 answers :
     (a : Arith) (s : State) (ram rom : List ℕ) (z : Size) (o : Operand) (l : Loaded) (r : ℕ → Computed) →
-    withLoaded l (λ v. answerIn a s ram rom z o (r v)) ≡ withLoaded l (λ v. putAt (flagged s (r v .flags)) ram rom z (targetOf a o) (r v .value))
+    withLoaded l (λ v. answerIn a s ram rom z o (r v)) ≡ withLoaded l (λ v. putAt (flagged s (r v .flags)) ram rom z (putInto a o) (r v .value))
 answers a s ram rom z o (Value v) r = answered a s ram rom z o (r v)
 answers a s ram rom z o (Refused w) r = refl
 
@@ -86,11 +81,3 @@ pub effect-by :
     (op : Op) (z : Size) (o : Operand) (at : ℕ) (s : State) (ram rom : List ℕ) (k : Kind) → kindOf op ≡ k →
     kindDone k z o at s ram rom ≡ effectOf op z o at s ram rom
 effect-by op z o at s ram rom k e = rw (← e) (sym (effect-is op z o at s ram rom))
-
--- a push: the end of the stack is moved where the store is done, and there alone
-pub end-after :
-    (s : State) (x : ℕ) (ram rom : List ℕ) (z : Size) (v : ℕ) (m : List ℕ) (a : Answer) →
-    m ≡ ramAfter ram rom (x % 2 ^ 24) z v → a ≡ storeOf ram rom (x % 2 ^ 24) z →
-    after a (endAfter a s x) m ≡ leaves s ram (storing (withStack s x) ram rom (x % 2 ^ 24) z v)
-end-after s x ram rom z v m Done e d = stored s (withStack s x) ram rom (x % 2 ^ 24) z v m e (sym d)
-end-after s x ram rom z v m (answer.Refused w) e d = not-stored s (withStack s x) ram rom (x % 2 ^ 24) z v m e w (sym d)

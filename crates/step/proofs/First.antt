@@ -21,7 +21,6 @@ use Rattle.code.specs.Registers.{registerRows}
 use Rattle.code.specs.Listed.{withConstant, sizeOf, firstRows, decodeOf}
 use Rattle.code.proofs.Judge.{next-there, next-short}
 use Rattle.code.proofs.FirstRows.{jump-short-0, jump-short-1, register-form}
-use Rattle.step.specs.Try.{Try}
 use Rattle.step.specs.Step.{done, onceOf}
 use Rattle.step.specs.Times.{timesOf}
 use Rattle.step.proofs.Times.{times-one}

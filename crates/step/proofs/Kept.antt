@@ -20,12 +20,12 @@ use Rattle.code.specs.declared.Instruction.{Instruction}
 use Rattle.code.specs.declared.Decoded.{Decoded}
 use Rattle.code.specs.declared.Decoded.the-variants as decoded
 use Rattle.code.specs.Listed.{decodeOf}
-use Rattle.step.specs.Try.{Try, did, no}
-use Rattle.step.specs.Flag.{flagged, exchanged}
-use Rattle.step.specs.Block.{copied, compared, roundOf}
+use Rattle.operand.specs.Try.{Try, did, no}
+use Rattle.operand.specs.Flag.{flagged, exchanged}
+use Rattle.block.specs.Block.{copied, compared, roundOf}
 use Rattle.step.specs.Exec.{pastOf, executedOf}
 use Rattle.step.specs.Step.{done, onceOf}
-use Rattle.step.specs.Touched.{Span, none, bytes, readOf, targetOf, Spares}
+use Rattle.step.specs.Touched.{Span, none, bytes, readOf, storedOf, KeepsRest}
 use Rattle.step.proofs.Touched.{Kept, past-kept, copied-kept, compared-kept, Fair, fair-round, fair-effect}
 
 -- ---- validity
@@ -77,13 +77,13 @@ pub sound-kept : Kept Sound
 sound-kept = record { registers = sound-register; counters = sound-counter; banks = sound-bank; flags = sound-flagged; exchanges = sound-exchanged }
 
 -- ---- what a step leaves
-pub spares-length : (g : Span) (ram m : List ℕ) → Spares g ram m → length m ≡ length ram
+pub spares-length : (g : Span) (ram m : List ℕ) → KeepsRest g ram m → length m ≡ length ram
 spares-length none ram m e = ap length e
 spares-length (bytes a n) ram m h = h .0
 
 pub executed-fair :
     (P : State → Type 0) (i : Instruction) (s : State) (ram rom : List ℕ) → Kept P → P s
-    → Fair P ram rom (readOf (i .op) (i .size) (i .operand) (pastOf (i .length) s)) (targetOf (i .op) (i .size) (i .operand) (pastOf (i .length) s)) (executedOf i s ram rom)
+    → Fair P ram rom (readOf (i .op) (i .size) (i .operand) (pastOf (i .length) s)) (storedOf (i .op) (i .size) (i .operand) (pastOf (i .length) s)) (executedOf i s ram rom)
 unfolding executedOf
 executed-fair P i s ram rom k ok = fair-effect P ram rom (i .op) (i .size) (i .operand) (s .counter) (pastOf (i .length) s) k (past-kept P k (i .length) s ok)
 

@@ -2,10 +2,9 @@ pub mod Laws
 pub mod RegisterForms
 pub mod Division
 pub mod Times
+pub mod Many
 pub mod First
-pub mod Rounds
 pub mod Kept
 pub mod Touched
 pub mod Statements
 pub mod Shown
-pub mod Examples

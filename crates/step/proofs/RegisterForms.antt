@@ -26,7 +26,7 @@ use Rattle.code.specs.Registers.{registerRows, notByte}
 use Rattle.code.proofs.Groups.{in-group, Missed}
 use Rattle.code.proofs.RegisterRows.{inc, dec, register-arms}
 use Rattle.code.proofs.Judge.{next-there, number-read, number-lacks}
-use Rattle.step.specs.Try.{Outcome, after, leaves}
+use Rattle.operand.specs.Try.{Outcome, after, leaves}
 use Rattle.step.specs.Exec.{executedOf}
 use Rattle.step.specs.Step.{done}
 use Rattle.step.specs.Register.{onRegister, secondDone}

@@ -28,12 +28,12 @@ use Rattle.code.specs.declared.Decoded.{Decoded}
 use Rattle.code.specs.declared.Decoded.the-variants as decoded
 use Rattle.code.specs.Listed.{decodeOf}
 use Rattle.step.specs.declared.Stepped.{Stepped}
-use Rattle.step.specs.Try.{Try, did, no, Outcome, leaves, andThen}
-use Rattle.step.specs.Block.{moved, copied, compared, roundOf, goesOn, endsAt}
+use Rattle.operand.specs.Try.{Try, did, no, Outcome, leaves, andThen}
+use Rattle.block.specs.Block.{moved, copied, compared, roundOf, goesOn, endsAt}
 use Rattle.step.specs.Exec.{pastOf, effectOf, executedOf}
 use Rattle.step.specs.Step.{tooLong, guarded, done, onceOf, tryOf, stepOf}
 use Rattle.step.specs.Reset.{resetOf, resetFrom}
-use Rattle.step.specs.Touched.{Span, none, bytes, readOf, targetOf, loadTo, readAnswer, storeAnswer, answerBy, Spares}
+use Rattle.step.specs.Touched.{Span, none, bytes, readOf, storedOf, loadTo, readAnswer, storeAnswer, answerBy, KeepsRest}
 use Rattle.step.specs.Statements.{_⇔_, RefusedChangesNothing, Within, Passed, RefusedWhen, KeepsValid, StoresOnlyThere, Settled, ResetMissing, single, RoundIsSingle}
 use Rattle.step.proofs.Touched.{Kept, Fair}
 use Rattle.step.proofs.Kept.{valid-kept, sound-kept, spares-length, executed-fair}
@@ -75,7 +75,7 @@ module _ (P : State → Type 0) (s : State) (ram rom : List ℕ) (r g : Span) wh
   fair-answer (did t m) h = sym (h .1 .1)
   fair-answer (no w) h = sym h
 
-  fair-done : (t : Try) → Fair P ram rom r g t → leaves s ram t .answer ≡ Done → P (leaves s ram t .state) × Spares g ram (leaves s ram t .ram)
+  fair-done : (t : Try) → Fair P ram rom r g t → leaves s ram t .answer ≡ Done → P (leaves s ram t .state) × KeepsRest g ram (leaves s ram t .ram)
   unfolding Fair
   fair-done (did t m) h e = (h .0, h .1 .0)
   fair-done (no w) h e = absurd (omega (arith, ap numberOf e, some w))
@@ -124,7 +124,7 @@ module _ (s : State) (ram rom : List ℕ) where
   reads i = readOf (i .op) (i .size) (i .operand) (pastOf (i .length) s)
 
   abbrev target : Instruction → Span
-  target i = targetOf (i .op) (i .size) (i .operand) (pastOf (i .length) s)
+  target i = storedOf (i .op) (i .size) (i .operand) (pastOf (i .length) s)
 
   step-long : tooLong (length ram) (length rom) ≡ true → stepOf s ram rom ≡ leaves s ram (no TooLong)
   unfolding stepOf tryOf guarded
@@ -148,10 +148,10 @@ module _ (s : State) (ram rom : List ℕ) where
       ∙ fair-answer Valid s ram rom (reads i) (target i) (executedOf i s ram rom)
       (executed-fair Valid i s ram rom valid-kept (valid-says s (p .1)))
 
-  left : (P : State → Type 0) → Kept P → P s → (i : Instruction) → Passed s ram rom → judged ≡ decoded.Whole i → answer ≡ Done → P (stepOf s ram rom .state) × Spares (target i) ram (stepOf s ram rom .ram)
+  left : (P : State → Type 0) → Kept P → P s → (i : Instruction) → Passed s ram rom → judged ≡ decoded.Whole i → answer ≡ Done → P (stepOf s ram rom .state) × KeepsRest (target i) ram (stepOf s ram rom .ram)
   left P k ok i p e d =
       let w = step-whole i p e in
-      subst (λ (o : Outcome). P (o .state) × Spares (target i) ram (o .ram)) (sym w)
+      subst (λ (o : Outcome). P (o .state) × KeepsRest (target i) ram (o .ram)) (sym w)
       (fair-done P s ram rom (reads i) (target i) (executedOf i s ram rom) (executed-fair P i s ram rom k ok) (sym (ap answerIn w) ∙ d))
 
   -- the five courses of a step
@@ -307,14 +307,14 @@ keeps-valid s ram rom e = go (accepted s ram rom (course s ram rom) e)
         → (validOf (stepOf s ram rom .state) ≡ true) × (length (stepOf s ram rom .ram) ≡ length ram) × (Sound s → Sound (stepOf s ram rom .state))
     go (i, (p, d)) =
         let v = left s ram rom Valid valid-kept (valid-says s (p .1)) i p d e in
-        (valid-from (stepOf s ram rom .state) (v .0), spares-length (targetOf (i .op) (i .size) (i .operand) (pastOf (i .length) s)) ram (stepOf s ram rom .ram) (v .1), λ ok. left s ram rom Sound sound-kept ok i p d e .0)
+        (valid-from (stepOf s ram rom .state) (v .0), spares-length (storedOf (i .op) (i .size) (i .operand) (pastOf (i .length) s)) ram (stepOf s ram rom .ram) (v .1), λ ok. left s ram rom Sound sound-kept ok i p d e .0)
 
 pub stores-only-there : StoresOnlyThere
 stores-only-there s ram rom i e d = go (accepted s ram rom (course s ram rom) e)
   where
     go :
         (j : Instruction) × (Passed s ram rom × (decodeOf (codeAt ram rom (s .counter)) ≡ decoded.Whole j))
-        → Spares (targetOf (i .op) (i .size) (i .operand) (pastOf (i .length) s)) ram (stepOf s ram rom .ram)
+        → KeepsRest (storedOf (i .op) (i .size) (i .operand) (pastOf (i .length) s)) ram (stepOf s ram rom .ram)
     go (j, (p, f)) = left s ram rom Valid valid-kept (valid-says s (p .1)) i p d e .1
 
 -- the result in an outcome

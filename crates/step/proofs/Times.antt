@@ -1,8 +1,8 @@
 -- Laws of several steps in one call.
-use Prim.Native.Nat.{ℕ, suc, _+_, _-_, _%_, _^_, _<_, _≤_}
+use Prim.Native.Nat.{ℕ, suc, _+_, _-_, _%_, _^_, _<_}
 use mathlib.Core.Path.{_≡_, refl, ap, sym, _∙_}
 use mathlib.Core.List.{List}
-use mathlib.Core.Bool.{Bool, true, false, _&&_}
+use mathlib.Core.Bool.{Bool, true, _&&_}
 use native.Mathlib.Omega.{arith}
 use native.Mathlib.Nat.{sub-self, mod-eq-of-lt}
 use lib.ListN.{length}
@@ -28,12 +28,13 @@ use Rattle.code.specs.declared.Instruction.{Instruction}
 use Rattle.code.specs.declared.Operand.{Operand}
 use Rattle.step.specs.declared.kind.Kind.{Kind}
 use Rattle.step.specs.declared.kind.Kind.the-variants.{Blocks}
-use Rattle.step.specs.Try.{Try, did, no, Outcome, after, leaves, andThen}
-use Rattle.step.specs.Block.{roundOf, goesOn, endsAt}
-use Rattle.step.specs.Exec.{effectOf, executedOf, pastOf}
+use Rattle.operand.specs.Try.{Try, did, no, Outcome, after, leaves, andThen}
+use Rattle.block.specs.Block.{roundOf, goesOn, endsAt}
+use Rattle.step.specs.Exec.{effectOf, executedOf}
 use Rattle.step.specs.Kind.{kindOf, kindDone}
 use Rattle.step.specs.Step.{done, onceOf}
-use Rattle.step.specs.Times.{onward, timesOf, Fewer, Stands, inRom, againOf}
+use Rattle.step.specs.Times.{timesOf, Fewer, Stands}
+use Rattle.block.specs.Again.{inRom, againOf}
 use Rattle.step.proofs.Division.{effect-by}
 use Rattle.step.proofs.Laws.{past-is}
 

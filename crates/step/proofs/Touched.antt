@@ -29,15 +29,16 @@ use Rattle.code.specs.declared.Operand.the-variants.{Register, Constant, Memory
 use Rattle.code.specs.declared.Op.{Op}
 use Rattle.code.specs.declared.Op.the-variants.{Nop, Incf, Decf, Ldf, Rcf, Scf, Ccf, Zcf, Exf, PushF, PopF, Set, Push, Pop, Jp16, Jp24, Call16, Call24, Calr, Ret, Jr, Jrl, LoadConstant, Load, Into, Compute, ComputeInto, ComputeConstant, Inc, Dec, Shifted, Extz, Exts, Store, Block}
 use Rattle.alu.specs.Condition.{holdsOf}
-use Rattle.step.specs.Try.{Try, did, no, andThen, withLoaded}
-use Rattle.step.specs.Operand.{pointerOf, valueAt, valueIn, storing, storedBy, putAt}
-use Rattle.step.specs.Stack.{plus, pushOf, popOf}
-use Rattle.step.specs.Flag.{flagsIn, flagged, exchanged}
-use Rattle.step.specs.Jump.{jumpOf}
-use Rattle.step.specs.Compute.{computed, resultIn, storesOf, answerIn}
-use Rattle.step.specs.Block.{counted, moved, copied, compared, roundOf, goesOn, endsAt}
+use Rattle.operand.specs.Try.{Try, did, no, andThen, withLoaded}
+use Rattle.operand.specs.Operand.{pointerOf, valueAt, valueIn, storing, storedBy, putAt}
+use Rattle.operand.specs.Round.{plus}
+use Rattle.stack.specs.Stack.{pushOf, popOf}
+use Rattle.operand.specs.Flag.{flagsIn, flagged, exchanged}
+use Rattle.control.specs.Control.{jumpOf}
+use Rattle.compute.specs.Compute.{computed, resultIn, storesOf, answerIn}
+use Rattle.block.specs.Block.{counted, moved, copied, compared, roundOf, goesOn, endsAt}
 use Rattle.step.specs.Exec.{pastOf, effectOf}
-use Rattle.step.specs.Touched.{Span, none, bytes, operandSpan, onStack, belowStack, readOf, targetOf, loadTo, readAnswer, storeAnswer, answerBy, Spares}
+use Rattle.step.specs.Touched.{Span, none, bytes, operandSpan, onStack, belowStack, readOf, storedOf, loadTo, readAnswer, storeAnswer, answerBy, KeepsRest}
 
 -- what no change of the state breaks
 pub record Kept (P : State → Type 0) : Type 0 where
@@ -91,7 +92,7 @@ module _ (P : State → Type 0) (k : Kept P) where
 module _ (P : State → Type 0) (ram rom : List ℕ) where
   -- what is tried keeps the state's part, spares all but its target, and answers by where what it reads and its target lie
   unfoldable pub Fair : Span → Span → Try → Type 0
-  Fair r g (did t m) = P t × (Spares g ram m × (answerBy ram rom r g ≡ Done))
+  Fair r g (did t m) = P t × (KeepsRest g ram m × (answerBy ram rom r g ≡ Done))
   Fair r g (no w) = answerBy ram rom r g ≡ Refused w
 
   -- what is read is there
@@ -199,8 +200,8 @@ module _ (P : State → Type 0) (ram rom : List ℕ) where
       go v true = fair-storing _ _ (f .size) v (copied-kept P k f s ok)
       go v false = fair-did _ (compared-kept P k f v s ok)
 
-  pub fair-effect : (op : Op) (z : Size) (o : Operand) (at : ℕ) (s : State) → Kept P → P s → Fair (readOf op z o s) (targetOf op z o s) (effectOf op z o at s ram rom)
-  unfolding effectOf readOf targetOf
+  pub fair-effect : (op : Op) (z : Size) (o : Operand) (at : ℕ) (s : State) → Kept P → P s → Fair (readOf op z o s) (storedOf op z o s) (effectOf op z o at s ram rom)
+  unfolding effectOf readOf storedOf
   fair-effect Nop z o at s k ok = fair-did s ok
   fair-effect Incf z o at s k ok = fair-did _ (k .banks s _ ok)
   fair-effect Decf z o at s k ok = fair-did _ (k .banks s _ ok)

@@ -16,13 +16,13 @@ use Rattle.code.specs.Written.{constantIn, registerIn}
 use Rattle.state.specs.State.{withCounter, withBank}
 use Rattle.state.specs.Register.{getRegister, setRegister}
 use Rattle.state.specs.declared.State.{State}
-use Rattle.step.specs.Try.{Try, did, andThen, withLoaded}
-use Rattle.step.specs.Operand.{displaced, valueAt, putAt}
-use Rattle.step.specs.Stack.{pushOf, popOf, callOf, retOf, pushFOf, popFOf}
-use Rattle.step.specs.Jump.{jumpOf}
-use Rattle.step.specs.Flag.{flagsIn, flagged, exchanged}
-use Rattle.step.specs.Compute.{computed, resultIn, answerIn, stepsOf}
-use Rattle.step.specs.Block.{roundOf, endsAt}
+use Rattle.operand.specs.Try.{Try, did, andThen, withLoaded}
+use Rattle.operand.specs.Operand.{displaced, valueAt, putAt}
+use Rattle.stack.specs.Stack.{pushOf, popOf, callOf, retOf, pushFOf, popFOf}
+use Rattle.control.specs.Control.{jumpOf}
+use Rattle.operand.specs.Flag.{flagsIn, flagged, exchanged}
+use Rattle.compute.specs.Compute.{computed, resultIn, answerIn, stepsOf}
+use Rattle.block.specs.Block.{roundOf, endsAt}
 
 -- the state past an instruction of n bytes
 unfoldable pub pastOf : ℕ → State → State

@@ -8,7 +8,7 @@ use Rattle.code.specs.declared.Operand.the-variants.{Register}
 use Rattle.code.specs.Said.{judge}
 use Rattle.code.specs.Rows.{lookup}
 use Rattle.code.specs.Registers.{registerRows}
-use Rattle.step.specs.Try.{Try}
+use Rattle.operand.specs.Try.{Try}
 use Rattle.step.specs.Exec.{pastOf, effectOf}
 use Rattle.step.specs.Step.{done}
 

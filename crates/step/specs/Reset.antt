@@ -12,7 +12,7 @@ use Rattle.memory.specs.declared.Loaded.{Loaded}
 use Rattle.memory.specs.declared.Loaded.the-variants as loaded
 use Rattle.state.specs.State.{zeroState, resetState}
 use Rattle.step.specs.declared.Stepped.{Stepped}
-use Rattle.step.specs.Try.{refusedWith}
+use Rattle.step.specs.Result.{refusedWith}
 use Rattle.step.specs.Step.{tooLong}
 
 -- from the vector that was loaded, or not: a refusal returns the all-zero state

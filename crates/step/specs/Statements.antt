@@ -1,4 +1,4 @@
--- What a user may hold each call to. Each statement is proved in proofs/Statements.antt.
+-- What a user may hold each call to. Each statement is proved in proofs/Statements.antt or proofs/Shown.antt.
 use Prim.Native.Nat.{ℕ, _<_, _≤_, _^_}
 use mathlib.Core.Path.{_≡_}
 use mathlib.Core.List.{List, [], _++_}
@@ -23,13 +23,14 @@ use Rattle.code.specs.declared.Instruction.{Instruction}
 use Rattle.code.specs.declared.Decoded.the-variants as decoded
 use Rattle.code.specs.Listed.{decodeOf}
 use Rattle.step.specs.declared.Stepped.{Stepped}
-use Rattle.step.specs.Try.{andThen, refusedWith}
-use Rattle.step.specs.Block.{roundOf, endsAt}
+use Rattle.operand.specs.Try.{andThen}
+use Rattle.step.specs.Result.{refusedWith}
+use Rattle.block.specs.Block.{roundOf, endsAt}
 use Rattle.step.specs.Exec.{pastOf, effectOf}
 use Rattle.step.specs.Step.{stepOf, StepMeets}
 use Rattle.step.specs.Show.{shownOf, showAnswerOf, shownFrom, ShowMeets, ShowAnswerMeets}
 use Rattle.step.specs.Reset.{resetOf, ResetMeets}
-use Rattle.step.specs.Touched.{readOf, targetOf, answerBy, Spares}
+use Rattle.step.specs.Touched.{readOf, storedOf, answerBy, KeepsRest}
 
 infix 5 _⇔_
 -- each of two follows from the other
@@ -59,7 +60,7 @@ pub record RefusedWhen (s : State) (ram rom : List ℕ) : Type 0 where
   pub operands :
       (i : Instruction) → Passed s ram rom → decodeOf (codeAt ram rom (s .counter)) ≡ decoded.Whole i →
       stepOf s ram rom .answer
-      ≡ answerBy ram rom (readOf (i .op) (i .size) (i .operand) (pastOf (i .length) s)) (targetOf (i .op) (i .size) (i .operand) (pastOf (i .length) s))
+      ≡ answerBy ram rom (readOf (i .op) (i .size) (i .operand) (pastOf (i .length) s)) (storedOf (i .op) (i .size) (i .operand) (pastOf (i .length) s))
 
 -- an accepted step gives a valid state and keeps RAM's length; a state whose numbers fit stays so
 abbrev pub KeepsValid : Type 0
@@ -72,7 +73,7 @@ abbrev pub StoresOnlyThere : Type 0
 StoresOnlyThere =
     (s : State) (ram rom : List ℕ) (i : Instruction) → stepOf s ram rom .answer ≡ Done →
     decodeOf (codeAt ram rom (s .counter)) ≡ decoded.Whole i →
-    Spares (targetOf (i .op) (i .size) (i .operand) (pastOf (i .length) s)) ram (stepOf s ram rom .ram)
+    KeepsRest (storedOf (i .op) (i .size) (i .operand) (pastOf (i .length) s)) ram (stepOf s ram rom .ram)
 
 -- any two results that meet what a call promises are the same, and so is RAM after them; a part that is shown stands in one place
 pub record Settled (s : State) (ram rom : List ℕ) (at : ℕ) : Type 0 where

@@ -13,7 +13,8 @@ use Rattle.code.specs.declared.Decoded.the-variants as decoded
 use Rattle.state.specs.State.{validOf}
 use Rattle.state.specs.declared.State.{State}
 use Rattle.step.specs.declared.Stepped.{Stepped}
-use Rattle.step.specs.Try.{Try, no, Outcome, outcome, leaves}
+use Rattle.operand.specs.Try.{Try, no, Outcome, leaves}
+use Rattle.step.specs.Result.{outcome}
 use Rattle.step.specs.Exec.{executedOf}
 
 -- 1: RAM or ROM is longer than 65,536 bytes

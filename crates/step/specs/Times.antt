@@ -1,19 +1,13 @@
 -- Several steps in one call.
 use Prim.Native.Nat.{ℕ, zero, suc, _≤_}
 use mathlib.Core.Path.{_≡_}
-use mathlib.Core.Bool.{Bool, true, false, _&&_}
 use mathlib.Core.List.{List}
-use lib.Dec.{ltb}
 use Rattle.answer.specs.declared.Answer.{Answer}
 use Rattle.answer.specs.declared.Answer.the-variants.{Done, Refused}
 use Rattle.memory.specs.Access.{codeAt}
-use Rattle.memory.specs.declared.Place.{Place}
-use Rattle.memory.specs.declared.Place.the-variants.{Ram, Rom, Missing}
-use Rattle.code.specs.declared.Form.{Form}
 use Rattle.state.specs.State.{standingAt}
 use Rattle.state.specs.declared.State.{State}
-use Rattle.step.specs.Try.{Try, did, no}
-use Rattle.step.specs.Block.{goesOn}
+use Rattle.operand.specs.Try.{Try, did, no}
 use Rattle.step.specs.Step.{onceOf}
 
 -- what is tried after a step that is done
@@ -36,13 +30,3 @@ Fewer (Refused w) m n = n ≡ m
 abbrev pub Stands : ℕ → ℕ → List ℕ → List ℕ → (State → List ℕ → Try) → Type 0
 Stands at past ram rom does =
     (m : List ℕ) → codeAt m rom at ≡ codeAt ram rom at → (s : State) → onceOf (standingAt s at) m rom ≡ does (standingAt s past) m
-
--- whether a place is in ROM
-abbrev pub inRom : Place → Bool
-inRom (Ram o) = false
-inRom (Rom o) = true
-inRom Missing = false
-
--- a form goes on, its code stays as it is, and there are steps left for it
-abbrev pub againOf : Form → Bool → ℕ → State → Bool
-againOf f stays left s = stays && (ltb 0 left && goesOn f s)

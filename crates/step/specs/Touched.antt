@@ -22,9 +22,9 @@ use Rattle.code.specs.declared.Operand.{Operand}
 use Rattle.code.specs.declared.Operand.the-variants.{Register, Constant, Memory}
 use Rattle.code.specs.declared.Op.{Op}
 use Rattle.code.specs.declared.Op.the-variants.{Nop, Incf, Decf, Ldf, Rcf, Scf, Ccf, Zcf, Exf, PushF, PopF, Set, Push, Pop, Jp16, Jp24, Call16, Call24, Calr, Ret, Jr, Jrl, LoadConstant, Load, Into, Compute, ComputeInto, ComputeConstant, Inc, Dec, Shifted, Extz, Exts, Store, Block}
-use Rattle.step.specs.Operand.{pointerOf, addressOf}
-use Rattle.step.specs.Stack.{less}
-use Rattle.step.specs.Compute.{storesOf}
+use Rattle.operand.specs.Operand.{pointerOf, addressOf}
+use Rattle.operand.specs.Round.{less}
+use Rattle.compute.specs.Compute.{storesOf}
 
 -- no byte, or so many bytes from an address on
 pub data Span : Type 0 where
@@ -37,7 +37,7 @@ operandSpan s z (Register r) = none
 operandSpan s z (Constant n) = none
 operandSpan s z (Memory m) = bytes (addressOf s m) (bytesOf z)
 
--- n bytes from the stack's end on, and below it
+-- n bytes from the stack's end on
 abbrev pub onStack : State → ℕ → Span
 onStack s n = bytes (pointerOf s 7) n
 
@@ -85,42 +85,42 @@ readOf (Store r) z o s = none
 readOf (Block f) z o s = bytes (pointerOf s (f .from)) (bytesOf (f .size))
 
 -- where it stores: a push or a call below the stack, a copy at its other pointer, the others at their operand; CP nowhere
-unfoldable pub targetOf : Op → Size → Operand → State → Span
-targetOf Nop z o s = none
-targetOf Incf z o s = none
-targetOf Decf z o s = none
-targetOf Ldf z o s = none
-targetOf Rcf z o s = none
-targetOf Scf z o s = none
-targetOf Ccf z o s = none
-targetOf Zcf z o s = none
-targetOf Exf z o s = none
-targetOf PushF z o s = belowStack s 1
-targetOf PopF z o s = none
-targetOf (Set r) z o s = none
-targetOf Push z o s = belowStack s (bytesOf z)
-targetOf Pop z o s = none
-targetOf Jp16 z o s = none
-targetOf Jp24 z o s = none
-targetOf Call16 z o s = belowStack s 4
-targetOf Call24 z o s = belowStack s 4
-targetOf Calr z o s = belowStack s 4
-targetOf Ret z o s = none
-targetOf (Jr cc) z o s = none
-targetOf (Jrl cc) z o s = none
-targetOf (LoadConstant n) z o s = operandSpan s z o
-targetOf (Load r) z o s = none
-targetOf (Into r) z o s = operandSpan s z o
-targetOf (Compute op r) z o s = none
-targetOf (ComputeInto op r) z o s = cond (storesOf op) (operandSpan s z o) none
-targetOf (ComputeConstant op n) z o s = cond (storesOf op) (operandSpan s z o) none
-targetOf (Inc n) z o s = operandSpan s z o
-targetOf (Dec n) z o s = operandSpan s z o
-targetOf (Shifted kind n) z o s = operandSpan s z o
-targetOf Extz z o s = operandSpan s z o
-targetOf Exts z o s = operandSpan s z o
-targetOf (Store r) z o s = operandSpan s z o
-targetOf (Block f) z o s = cond (f .copies) (bytes (pointerOf s (f .to)) (bytesOf (f .size))) none
+unfoldable pub storedOf : Op → Size → Operand → State → Span
+storedOf Nop z o s = none
+storedOf Incf z o s = none
+storedOf Decf z o s = none
+storedOf Ldf z o s = none
+storedOf Rcf z o s = none
+storedOf Scf z o s = none
+storedOf Ccf z o s = none
+storedOf Zcf z o s = none
+storedOf Exf z o s = none
+storedOf PushF z o s = belowStack s 1
+storedOf PopF z o s = none
+storedOf (Set r) z o s = none
+storedOf Push z o s = belowStack s (bytesOf z)
+storedOf Pop z o s = none
+storedOf Jp16 z o s = none
+storedOf Jp24 z o s = none
+storedOf Call16 z o s = belowStack s 4
+storedOf Call24 z o s = belowStack s 4
+storedOf Calr z o s = belowStack s 4
+storedOf Ret z o s = none
+storedOf (Jr cc) z o s = none
+storedOf (Jrl cc) z o s = none
+storedOf (LoadConstant n) z o s = operandSpan s z o
+storedOf (Load r) z o s = none
+storedOf (Into r) z o s = operandSpan s z o
+storedOf (Compute op r) z o s = none
+storedOf (ComputeInto op r) z o s = cond (storesOf op) (operandSpan s z o) none
+storedOf (ComputeConstant op n) z o s = cond (storesOf op) (operandSpan s z o) none
+storedOf (Inc n) z o s = operandSpan s z o
+storedOf (Dec n) z o s = operandSpan s z o
+storedOf (Shifted kind n) z o s = operandSpan s z o
+storedOf Extz z o s = operandSpan s z o
+storedOf Exts z o s = operandSpan s z o
+storedOf (Store r) z o s = operandSpan s z o
+storedOf (Block f) z o s = cond (f .copies) (bytes (pointerOf s (f .to)) (bytesOf (f .size))) none
 
 -- what is read has to be there
 abbrev pub loadTo : Place → Answer
@@ -143,6 +143,6 @@ unfoldable pub answerBy : List ℕ → List ℕ → Span → Span → Answer
 answerBy ram rom read target = firstRefusal (readAnswer ram rom read) (storeAnswer ram rom target)
 
 -- two memories of one length that differ at most in a span
-abbrev pub Spares : Span → List ℕ → List ℕ → Type 0
-Spares none ram m = m ≡ ram
-Spares (bytes a n) ram m = (length m ≡ length ram) × ((i : ℕ) → (i < a) ⊎ (a + n ≤ i) → getD m i 0 ≡ getD ram i 0)
+abbrev pub KeepsRest : Span → List ℕ → List ℕ → Type 0
+KeepsRest none ram m = m ≡ ram
+KeepsRest (bytes a n) ram m = (length m ≡ length ram) × ((i : ℕ) → (i < a) ⊎ (a + n ≤ i) → getD m i 0 ≡ getD ram i 0)

@@ -1,55 +1,13 @@
 // What kind of work each listed operation is, in the order of the list of codes.
 ghost use mathlib.Core.Path.{_≡_};
 ghost use Rattle.step.specs.Kind.{kindOf};
-use alu::Arith;
-use alu::Shift;
 use code::Form;
 use code::Op;
+use compute::kind::Side;
+use compute::kind::Use;
+use control::kind::Control;
 use little::Size;
-
-// The other operand of an operation on two, and where the result goes.
-pub enum Side {
-    Register(u8), // the register of a code is the first, and gets the result
-    Into(u8), // the register of a code is the second, and the operand gets the result
-    With(u32), // a number is the second, and the operand gets the result
-}
-
-// What is put; where nothing else is said, into the operand.
-pub enum Use {
-    Number(u32),
-    From(u8), // the register of a code
-    Load(u8), // the operand's value, into the register of a code
-    Compute(Arith, Side),
-    Inc(u8),
-    Dec(u8),
-    Shift(Shift, u8),
-    Extz,
-    Exts,
-}
-
-// What changes the counter, the bank and the flags alone.
-pub enum Control {
-    Nop,
-    BankOn(u8),
-    BankIs,
-    Rcf,
-    Scf,
-    Ccf,
-    Zcf,
-    Exf,
-    Jump,
-    JumpIf(u8, Size), // on a condition, by a displacement of a size
-}
-
-pub enum Stack {
-    PushF,
-    PopF,
-    Push,
-    Pop,
-    Call,
-    Calr,
-    Ret,
-}
+use stack::kind::Stack;
 
 pub enum Kind {
     Puts(Use),

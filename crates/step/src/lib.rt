@@ -3,8 +3,8 @@ ghost use mathlib.Core.Path.{_≡_};
 ghost use denote.Ref.{ptr};
 ghost use Rattle.memory.specs.Access.{codeAt};
 ghost use Rattle.code.specs.Listed.{decodeOf};
-ghost use Rattle.step.specs.Try.{doneWith, refusedWith, outcome, leaves};
-ghost use Rattle.step.specs.Exec.{executedOf};
+ghost use Rattle.step.specs.Result.{doneWith, refusedWith, outcome};
+ghost use Rattle.operand.specs.Try.{leaves};
 ghost use Rattle.step.specs.Step.{tooLong, onceOf, StepMeets};
 ghost use Rattle.step.specs.Show.{judgedOf, lengthIn, ShowAnswerMeets, ShowMeets};
 ghost use Rattle.step.specs.Reset.{ResetMeets};
@@ -15,13 +15,9 @@ use little::Size;
 use memory::Loaded;
 use state::State;
 
-mod block;
-mod compute;
-mod control;
+mod jump;
 mod kind;
-mod operand;
 mod register;
-mod stack;
 pub mod turn;
 
 pub struct Stepped {
@@ -53,28 +49,13 @@ fn decode_at<'a>(ram: &'a [u8], rom: &'a [u8], at: u32) -> Decoded
     code::decode(memory::fetch(ram, rom, at))
 }
 
-// The same of a whole state.
+// What stands at the counter, done or refused: one of many.
 fn whole_once(s: State, ram: &mut [u8], rom: &[u8]) -> Stepped
     ensures { λ r. ⌜ outcome r (now (ram .exit)) ≡ leaves s (now (ram .entry)) (onceOf s (now (ram .entry)) (now (rom .entry))) ⌝ }
 {
-    let mut regs = s.registers;
-    let mut counter = s.counter;
-    let b = s.bank;
-    let mut bank = b.0;
-    let mut flags = s.flags;
-    let mut spare = s.spare;
-    let mut none: u32 = 0;
-    let a = turn::once(
-        &mut regs,
-        &mut counter,
-        &mut bank,
-        &mut flags,
-        &mut spare,
-        ram,
-        rom,
-        &mut none,
-    );
-    let t = state::whole(s, regs, counter, bank, flags, spare);
+    let r = turn::many(s, ram, rom, 1);
+    let t = r.state;
+    let a = r.answer;
     Stepped {
         state: t,
         answer: a,

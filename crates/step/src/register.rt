@@ -15,22 +15,22 @@ ghost use Rattle.code.specs.Registers.{registerRows};
 ghost use Rattle.state.specs.declared.State.{State};
 ghost use Rattle.state.specs.State.{bankedAt, bankedAtWith};
 ghost use Rattle.state.specs.Register.{setRegister};
-ghost use Rattle.step.specs.Try.{Does, did};
-ghost use Rattle.step.specs.Flag.{flagged};
-ghost use Rattle.step.specs.Compute.{computed, answerIn};
+ghost use Rattle.operand.specs.Try.{Does, did};
+ghost use Rattle.operand.specs.Flag.{flagged};
+ghost use Rattle.compute.specs.Compute.{computed, answerIn};
 ghost use Rattle.step.specs.Exec.{pastOf};
 ghost use Rattle.step.specs.Step.{done};
 ghost use Rattle.step.specs.Register.{onRegister, secondDone};
-use crate::compute::operated;
-use crate::compute::steps_of;
-use crate::compute::stores;
-use crate::control::past;
 use alu::Arith;
 use alu::Computed;
 use answer::Answer;
 use answer::Why;
 use code::registers::arith_of;
 use code::registers::shift_of;
+use compute::operated;
+use compute::steps_of;
+use compute::stores;
+use control::past;
 use little::Size;
 
 // Puts a value into a register, and goes past n bytes of code.
@@ -271,7 +271,7 @@ fn shifted(
         return Answer::Refused(Why::Unlisted);
     }
     let v = state::read(&*regs, bank, size, r);
-    let w = crate::compute::shifted(shift_of(c % 4), size, v, places);
+    let w = compute::shifted(shift_of(c % 4), size, v, places);
     *flags = w.flags;
     set(w.value, 3, size, r, bank, regs, counter)
 }

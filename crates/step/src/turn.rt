@@ -1,34 +1,36 @@
-// One call: what stands at the counter, done or refused, and further rounds of a form that goes on.
+// Many steps in one call: what stands at the counter, done or refused, again and again.
 ghost use mathlib.Core.Path.{_≡_};
 ghost use Prim.Native.Nat.{suc, _-_};
 ghost use Rattle.memory.specs.Access.{codeAt};
 ghost use Rattle.state.specs.declared.State.{State};
 ghost use Rattle.state.specs.State.{lent, bankedAtWith, standingAt};
 ghost use Rattle.code.specs.Listed.{decodeOf};
-ghost use Rattle.step.specs.Try.{Does, andThen};
-ghost use Rattle.step.specs.Block.{roundOf, endsAt};
+ghost use Rattle.operand.specs.Try.{Does, andThen};
+ghost use Rattle.block.specs.Block.{roundOf, endsAt};
 ghost use Rattle.step.specs.Kind.{kindDone};
 ghost use Rattle.step.specs.Times.{timesOf, Fewer, Stands};
-use crate::block::again;
-use crate::block::ended;
-use crate::block::in_rom;
-use crate::block::round;
-use crate::compute::puts;
-use crate::control::control;
-use crate::control::short_jump;
+ghost use Rattle.step.specs.Many.{result, stopped, manyOf};
+use crate::jump::short_jump;
 use crate::kind::Kind;
 use crate::kind::kind_of;
-use crate::operand::number_in;
 use crate::register::register;
-use crate::stack::stack;
 use answer::Answer;
 use answer::Why;
+use block::again;
+use block::ended;
+use block::in_rom;
+use block::round;
 use code::Decoded;
 use code::Form;
 use code::Instruction;
 use code::Operand;
 use code::first::size_of;
+use compute::puts;
+use control::control;
 use little::Size;
+use operand::number_in;
+use stack::stack;
+use state::State;
 
 // A round of the form that stands at an address, and as many more as there are steps for and the form goes on; the counter is
 // past it. In ROM the form stays what it is, so that it is not read again for each round.
@@ -160,7 +162,7 @@ fn execute(
 // What stands at the counter, done or refused, whatever the state is: the checks before it are the caller's. A form that goes on
 // may use some of the `more` steps that the caller has left. The state's parts lie apart and are changed where they lie. Register
 // forms and short jumps are done as they are read: a firmware has many, and this is quickest.
-pub fn once(
+fn once(
     regs: &mut [u32; 20],
     counter: &mut u32,
     bank: &mut u8,
@@ -189,4 +191,53 @@ pub fn once(
             Decoded::Unlisted => Answer::Refused(Why::Unlisted),
         },
     }
+}
+
+// The state so far, the count of steps done, and how it ended.
+pub struct Ran {
+    pub state: State,
+    pub done: u32,
+    pub answer: Answer,
+}
+
+fn stop(s: State, done: u32, answer: Answer) -> Ran
+    ensures { λ r. ⌜ r ≡ stopped s done answer ⌝ }
+{
+    Ran {
+        state: s,
+        done: done,
+        answer: answer,
+    }
+}
+
+// Many steps of any state: the checks before the first are the caller's. A call of `once` may do several of those left.
+pub fn many(s: State, ram: &mut [u8], rom: &[u8], steps: u32) -> Ran
+    ensures { λ r. ⌜ result r (now (ram .exit)) ≡ manyOf steps 0 s (now (ram .entry)) (now (rom .entry)) ⌝ }
+{
+    let mut regs = s.registers;
+    let mut counter = s.counter;
+    let b = s.bank;
+    let mut bank = b.0;
+    let mut flags = s.flags;
+    let mut spare = s.spare;
+    let mut left = steps;
+    while 0 < left {
+        left -= 1;
+        let a = once(
+            &mut regs,
+            &mut counter,
+            &mut bank,
+            &mut flags,
+            &mut spare,
+            &mut *ram,
+            rom,
+            &mut left,
+        );
+        if let Answer::Refused(w) = a {
+            let t = state::whole(s, regs, counter, bank, flags, spare);
+            return stop(t, steps - 1 - left, Answer::Refused(w));
+        }
+    }
+    let t = state::whole(s, regs, counter, bank, flags, spare);
+    stop(t, steps, Answer::Done)
 }

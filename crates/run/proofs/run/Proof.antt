@@ -1,5 +1,5 @@
 use mathlib.Core.Path.{sym, _∙_}
-use Rattle.run.proofs.Laws.{run-many, run-long, run-invalid, run-goes}
+use Rattle.run.proofs.Laws.{run-many, run-long, run-invalid, run-goes, many-goes}
 use borrow.Author.Needs.{needs}
 use Rattle.run.proofs.run.Statement.{statement}
 use Rattle.run.proofs.run.Tie as tie
@@ -27,8 +27,8 @@ returns-2 c =
 valid-requires : tie.Need-valid-requires
 valid-requires c κs = search needs
 
-go-requires : tie.Need-go-requires
-go-requires c κs = (sym (c .before .before .valid .ensures) ∙ c .before .if3 .taken, sym (c .before .before .before .before .too-long .ensures) ∙ c .before .before .before .if2 .left)
+many-requires : tie.Need-many-requires
+many-requires c κs = search needs
 
 same-length : tie.Need-same-length
 same-length c = search needs
@@ -36,8 +36,12 @@ same-length c = search needs
 returns-3 : tie.Need-returns-3
 returns-3 c =
     let a = c .before .before .before .before .before .before .before .before .before .before .before .args in
-    c .before .before .go .ensures
-    ∙ sym (run-goes (a .s) (a .ram .now) (a .rom .now) (a .steps) (c .before .before .before .before .before .before .before .before .if1 .left) (sym (c .before .before .before .before .before .before .before .too-long .ensures) ∙ c .before .before .before .before .before .before .if2 .left) (sym (c .before .before .before .before .before .valid .ensures) ∙ c .before .before .before .before .if3 .taken))
+    let few = c .before .before .before .before .before .before .before .before .if1 .left in
+    let short = sym (c .before .before .before .before .before .before .before .too-long .ensures) ∙ c .before .before .before .before .before .before .if2 .left in
+    let good = sym (c .before .before .before .before .before .valid .ensures) ∙ c .before .before .before .before .if3 .taken in
+    c .before .before .many .ensures
+    ∙ many-goes (a .steps) 0 (a .s) (a .ram .now) (a .rom .now) short good
+    ∙ sym (run-goes (a .s) (a .ram .now) (a .rom .now) (a .steps) few short good)
 
 refuse-requires-3 : tie.Need-refuse-requires-3
 refuse-requires-3 c κs = search needs
@@ -58,7 +62,7 @@ run-spec =
     refuse-requires-2
     returns-2
     valid-requires
-    go-requires
+    many-requires
     same-length
     returns-3
     refuse-requires-3

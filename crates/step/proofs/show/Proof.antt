@@ -1,11 +1,10 @@
-use Prim.Native.Nat.{ℕ, _≤_, _<_}
+use Prim.Native.Nat.{ℕ}
 use lib.Seq.{length-take-le}
 use lib.ListN.{length, take}
 use lib.Dec.{eqb}
 use mathlib.Core.Path.{_≡_, refl, ap, sym, _∙_}
 use mathlib.Core.Bool.{false}
 use mathlib.Core.List.{List}
-use native.Mathlib.Omega.{arith}
 use borrow.Author.Tests.{lt-ltb, le-ltb, ne-eqb}
 use Rattle.code.specs.Listed.{decodeOf}
 use Rattle.step.specs.Show.{shownOf, shownFrom, lengthIn}

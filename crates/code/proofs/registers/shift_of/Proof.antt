@@ -1,5 +1,5 @@
 use borrow.Author.Needs.{needs}
-use Rattle.code.specs.Registers.{shiftOf}
+use Rattle.code.specs.Registers.{shiftKind}
 use Rattle.code.proofs.Groups.{none-below}
 use mathlib.Core.Path.{_≡_, ap}
 use Prim.Native.Nat.{suc, _-_, _≤_}
@@ -17,7 +17,7 @@ returns-3 : tie.Need-returns-3
 returns-3 c = search needs
 
 returns-4 : tie.Need-returns-4
-returns-4 c = let h : 3 ≤ c .before .args .n = none-below 3 _ (c .match .rest) in let d : suc (suc (suc (c .before .args .n - 3))) ≡ c .before .args .n = omega arith in ap shiftOf d
+returns-4 c = let h : 3 ≤ c .before .args .n = none-below 3 _ (c .match .rest) in let d : suc (suc (suc (c .before .args .n - 3))) ≡ c .before .args .n = omega arith in ap shiftKind d
 
 pub shift-of-spec : {M : Type 1} → statement M
 shift-of-spec = tie.close (tie.spec returns returns-2 returns-3 returns-4)

@@ -1,6 +1,6 @@
 use mathlib.Core.Path.{refl, sym, _∙_}
 use Rattle.state.specs.State.{flaggedAt, withFlags, withBothFlags, withCounter}
-use Rattle.step.specs.Flag.{flagged}
+use Rattle.operand.specs.Flag.{flagged}
 use Rattle.step.specs.Exec.{pastOf}
 use borrow.Author.Needs.{needs}
 use Rattle.step.proofs.register.compute.Statement.{statement}

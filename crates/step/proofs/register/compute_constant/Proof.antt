@@ -6,7 +6,7 @@ use Rattle.state.specs.State.{bankedAtWith, withCounter}
 use Rattle.code.specs.declared.Op.the-variants.{ComputeConstant}
 use Rattle.code.specs.Registers.{arithOf}
 use Rattle.code.proofs.RegisterRows.{compute-constant}
-use Rattle.step.specs.Operand.{valueIn}
+use Rattle.operand.specs.Operand.{valueIn}
 use Rattle.step.specs.Exec.{effectOf, pastOf}
 use Rattle.step.proofs.RegisterForms.{says-number, lacks-number}
 use borrow.Author.Needs.{needs}

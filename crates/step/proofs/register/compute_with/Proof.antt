@@ -1,6 +1,6 @@
 use mathlib.Core.Path.{refl, _∙_}
 use Rattle.state.specs.State.{withCounter}
-use Rattle.step.specs.Operand.{valueIn}
+use Rattle.operand.specs.Operand.{valueIn}
 use Rattle.step.specs.Exec.{effectOf, pastOf}
 use borrow.Author.Needs.{needs}
 use Rattle.step.proofs.register.compute_with.Statement.{statement}

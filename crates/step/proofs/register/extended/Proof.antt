@@ -5,7 +5,7 @@ use Rattle.code.specs.Rows.{lookup}
 use Rattle.code.specs.Registers.{registerRows}
 use Rattle.code.specs.Said.{judge}
 use Rattle.code.proofs.RegisterRows.{no-extension}
-use Rattle.step.specs.Operand.{valueIn}
+use Rattle.operand.specs.Operand.{valueIn}
 use Rattle.step.specs.Exec.{effectOf, pastOf}
 use Rattle.step.proofs.RegisterForms.{says-whole, byte-extension, not-byte}
 use borrow.Author.Needs.{needs}

@@ -6,13 +6,13 @@ use Rattle.state.specs.State.{bankedAtWith, withFlags, withBothFlags, withCount
 use Rattle.code.specs.declared.Decoded.the-variants.{Short, Unlisted}
 use Rattle.code.specs.declared.Operand.the-variants.{Register}
 use Rattle.code.specs.declared.Op.the-variants.{Shifted}
-use Rattle.code.specs.Registers.{placesRows, shiftOf}
+use Rattle.code.specs.Registers.{placesRows, shiftKind}
 use Rattle.code.specs.Rows.{lookup}
 use Rattle.code.specs.Said.{whole, judge, wholeOf}
 use Rattle.code.proofs.Judge.{run-there, run-unlisted, next-short}
 use Rattle.code.proofs.RegisterRows.{shift, no-shift}
-use Rattle.step.specs.Operand.{valueIn}
-use Rattle.step.specs.Flag.{flagged}
+use Rattle.operand.specs.Operand.{valueIn}
+use Rattle.operand.specs.Flag.{flagged}
 use Rattle.step.specs.Exec.{effectOf, executedOf, pastOf}
 use Rattle.step.proofs.Laws.{judged}
 use borrow.Author.Needs.{needs}
@@ -28,7 +28,7 @@ returns-2 c rest ram rom =
     let a = c .before .before .before .args in
     let s = bankedAtWith rest (a .regs .now) (a .bank) (a .counter .now) (a .flags .now) in
     rw (shift _ _ (a .c) (c .before .before .before .pre) (omega arith))
-    (judged s ram rom _ Short _ (next-short (lookup (placesRows (a .size) (Register (a .r)) (shiftOf (a .c % 4)))) (a .code .now) 2 (omega arith)) refl)
+    (judged s ram rom _ Short _ (next-short (lookup (placesRows (a .size) (Register (a .r)) (shiftKind (a .c % 4)))) (a .code .now) 2 (omega arith)) refl)
 
 shared-slice-read-places : tie.Need-shared-slice-read-places
 shared-slice-read-places c = search needs
@@ -39,7 +39,7 @@ returns-3 c rest ram rom =
     let a = c .before .before .before .before .before .args in
     let s = bankedAtWith rest (a .regs .now) (a .bank) (a .counter .now) (a .flags .now) in
     rw (shift _ _ (a .c) (c .before .before .before .before .before .pre) (omega arith))
-    (judged s ram rom _ Unlisted _ (run-unlisted 15 (λ n. whole (Shifted (shiftOf (a .c % 4)) n) (a .size) (Register (a .r))) (a .code .now) 2 (omega arith) (omega arith)) refl)
+    (judged s ram rom _ Unlisted _ (run-unlisted 15 (λ n. whole (Shifted (shiftKind (a .c % 4)) n) (a .size) (Register (a .r))) (a .code .now) 2 (omega arith) (omega arith)) refl)
 
 read-requires : tie.Need-read-requires
 read-requires c κs = search needs
@@ -58,7 +58,7 @@ unfolding placesRows judge executedOf effectOf valueIn flagged withFlags withBot
 returns-4 c rest ram rom =
     let a = c .before .before .before .before .before .before .before .before .before .before .before .before .args in
     let s = bankedAtWith rest (a .regs .now) (a .bank) (a .counter .now) (a .flags .now) in
-    let op = Shifted (shiftOf (a .c % 4)) in
+    let op = Shifted (shiftKind (a .c % 4)) in
     rw (shift _ _ (a .c) (c .before .before .before .before .before .before .before .before .before .before .before .before .pre) (omega arith))
     (judged s ram rom _ (wholeOf (op (getD (a .code .now) 2 0)) (a .size) (Register (a .r)) 3) _
     (run-there 15 (λ n. whole (op n) (a .size) (Register (a .r))) (a .code .now) 2 (omega arith) _ (omega arith) refl)

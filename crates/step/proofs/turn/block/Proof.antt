@@ -1,7 +1,6 @@
-use Prim.Native.Nat.{ℕ, suc, _≤_, _<_, _-_, _+_, _^_}
+use Prim.Native.Nat.{ℕ, suc, _≤_, _<_, _-_, _+_}
 use mathlib.Core.Path.{_≡_, refl, ap, sym, _∙_}
-use mathlib.Core.Bool.{Bool, true}
-use mathlib.Core.List.{List}
+use mathlib.Core.Bool.{true}
 use native.Mathlib.Omega.{arith}
 use native.Mathlib.Nat.{sub-self}
 use lib.ListN.{length}
@@ -10,8 +9,8 @@ use Rattle.memory.specs.Access.{codeAt}
 use Rattle.state.specs.State.{zeroState, bankedWith, bankedAtWith, standingAt}
 use Rattle.state.specs.declared.State.{State}
 use Rattle.answer.specs.declared.Answer.the-variants.{Done, Refused}
-use Rattle.step.specs.Block.{goesOn, endsAt}
-use Rattle.step.specs.Try.{did, after, leaves}
+use Rattle.block.specs.Block.{goesOn, endsAt}
+use Rattle.operand.specs.Try.{did, after, leaves}
 use Rattle.step.specs.Times.{timesOf}
 use Rattle.step.proofs.Times.{again-says, rom-below, rom-same, round-done, round-again, first-not, later-not}
 use Rattle.step.proofs.turn.block.Statement.{statement}

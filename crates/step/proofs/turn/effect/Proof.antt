@@ -2,7 +2,7 @@ use mathlib.Core.Path.{ap, sym, _∙_}
 use Rattle.state.specs.State.{lent}
 use Rattle.answer.specs.declared.Answer.the-variants.{Done}
 use Rattle.step.specs.declared.kind.Kind.{Kind}
-use Rattle.step.specs.Try.{leaves}
+use Rattle.operand.specs.Try.{leaves}
 use Rattle.step.specs.Kind.{kindDone}
 use Rattle.step.proofs.Times.{fewer-same, one-step, stands-block}
 use borrow.Author.Needs.{needs}

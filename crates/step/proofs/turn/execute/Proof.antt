@@ -2,7 +2,7 @@ use Prim.Native.Nat.{suc, _-_, _%_}
 use mathlib.Core.Path.{_≡_, subst}
 use Rattle.state.specs.State.{lent, withCounter}
 use Rattle.state.specs.declared.State.{State}
-use Rattle.step.specs.Try.{after, leaves}
+use Rattle.operand.specs.Try.{after, leaves}
 use Rattle.step.specs.Exec.{pastOf}
 use Rattle.answer.specs.declared.Answer.{Answer}
 use Rattle.step.specs.Times.{timesOf, Fewer}

@@ -5,7 +5,7 @@ use lib.ListN.{length}
 use Rattle.state.specs.State.{lent}
 use Rattle.code.specs.Listed.{decodeOf}
 use Rattle.code.specs.declared.Decoded.the-variants.{Short, Unlisted}
-use Rattle.step.specs.Try.{leaves}
+use Rattle.operand.specs.Try.{leaves}
 use Rattle.step.proofs.Times.{fewer-same}
 use Rattle.step.proofs.First.{none-says, register-says, jump-says, once-by}
 use borrow.Author.Needs.{needs}

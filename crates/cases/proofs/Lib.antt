@@ -1,0 +1,6 @@
+pub mod Cases
+pub mod Runs
+pub mod Tests
+pub mod Full
+pub mod Evidence
+pub mod Examples

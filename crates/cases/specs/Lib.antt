@@ -1,0 +1,5 @@
+pub mod Table
+pub mod Cases
+pub mod Runs
+pub mod Evidence
+pub mod Examples

@@ -1,0 +1,40 @@
+use Prim.Native.Nat.{_+_, _-_, _^_}
+use mathlib.Core.Path.{_≡_, refl, sym, _∙_}
+use mathlib.Core.Bool.{true, false, cond}
+use lib.Pow.{mod-mod-pow}
+use Rattle.little.specs.Width.{bitsOf}
+use Rattle.alu.specs.Width.{negative}
+use Rattle.alu.specs.Flag.{flagsOf}
+use Rattle.alu.specs.Condition.{holdsOf}
+use Rattle.state.specs.State.{withCounter}
+use Rattle.control.specs.Control.{jumpOf}
+use borrow.Author.Needs.{needs}
+use Rattle.control.proofs.jump.Statement.{statement}
+use Rattle.control.proofs.jump.Tie as tie
+
+unpack-requires : tie.Need-unpack-requires
+unpack-requires c κs = search needs
+
+holds-requires : tie.Need-holds-requires
+holds-requires c κs = search needs
+
+displace-requires : tie.Need-displace-requires
+displace-requires c κs = search needs
+
+returns : tie.Need-returns
+unfolding jumpOf withCounter
+returns c rest =
+    let a = c .before .before .before .before .args in
+    let t : holdsOf (flagsOf (a .flags)) (a .cc) ≡ true = sym (rw (c .before .before .before .unpack .ensures) at (c .before .before .holds .ensures)) ∙ c .before .if1 .taken in
+    let k = bitsOf (a .size) in
+    rw (c .displace .ensures, t, mod-mod-pow (a .counter + a .d + cond (negative k (a .d)) (2 ^ 24 - 2 ^ k) 0) 0 24) refl
+
+returns-2 : tie.Need-returns-2
+unfolding jumpOf
+returns-2 c rest =
+    let a = c .before .before .before .args in
+    let t : holdsOf (flagsOf (a .flags)) (a .cc) ≡ false = sym (rw (c .before .before .unpack .ensures) at (c .before .holds .ensures)) ∙ c .if1 .left in
+    rw t refl
+
+pub jump-spec : {M : Type 1} → statement M
+jump-spec = tie.close (tie.spec unpack-requires holds-requires displace-requires returns returns-2)

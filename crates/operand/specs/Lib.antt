@@ -1,0 +1,4 @@
+pub mod Try
+pub mod Round
+pub mod Flag
+pub mod Operand

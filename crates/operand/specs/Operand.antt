@@ -1,0 +1,70 @@
+-- The operand of an instruction: its address, its value, and a value put there.
+use Prim.Native.Nat.{ℕ, _+_, _-_, _%_, _^_}
+use mathlib.Core.List.{List}
+use mathlib.Core.Bool.{cond}
+use Rattle.answer.specs.declared.Answer.{Answer}
+use Rattle.answer.specs.declared.Answer.the-variants.{Done, Refused}
+use Rattle.little.specs.declared.Size.{Size}
+use Rattle.little.specs.declared.Size.the-variants.{Long}
+use Rattle.alu.specs.Width.{negative}
+use Rattle.memory.specs.Access.{loadOf, storeOf, ramAfter}
+use Rattle.memory.specs.declared.Loaded.{Loaded}
+use Rattle.memory.specs.declared.Loaded.the-variants.{Value}
+use Rattle.state.specs.Register.{registerAt, setRegister}
+use Rattle.state.specs.declared.State.{State}
+use Rattle.code.specs.declared.Base.{Base}
+use Rattle.code.specs.declared.Base.the-variants.{Indirect, Displaced, Absolute8, Absolute16, Absolute24}
+use Rattle.code.specs.declared.MemoryForm.{MemoryForm}
+use Rattle.code.specs.declared.Operand.{Operand}
+use Rattle.code.specs.declared.Operand.the-variants.{Register, Constant, Memory}
+use Rattle.operand.specs.Try.{Try, did, no}
+
+-- x plus a number d of k bits with a sign, modulo 2^24: where its top bit is one, d stands for d less 2^k
+abbrev pub displaced : ℕ → ℕ → ℕ → ℕ
+displaced k x d = (x + d + cond (negative k d) (2 ^ 24 - 2 ^ k) 0) % 2 ^ 24
+
+-- the address that a long register holds, by the registers and the bank alone, and of a state
+abbrev pub pointerIn : List ℕ → ℕ → ℕ → ℕ
+pointerIn registers bank r = registerAt registers bank Long r % 2 ^ 24
+
+abbrev pub pointerOf : State → ℕ → ℕ
+pointerOf s r = pointerIn (s .registers) (s .bank .0) r
+
+-- (R), (R+d8), and n8, n16, n24, whose missing high bits are 0
+abbrev pub addressFrom : List ℕ → ℕ → Base → ℕ → ℕ
+addressFrom registers bank (Indirect r) n = pointerIn registers bank r
+addressFrom registers bank (Displaced r) d = displaced 8 (registerAt registers bank Long r) d
+addressFrom registers bank Absolute8 n = n % 2 ^ 24
+addressFrom registers bank Absolute16 n = n % 2 ^ 24
+addressFrom registers bank Absolute24 n = n % 2 ^ 24
+
+-- the address of a memory form
+unfoldable pub addressIn : List ℕ → ℕ → MemoryForm → ℕ
+addressIn registers bank m = addressFrom registers bank (m .base) (m .number)
+
+abbrev pub addressOf : State → MemoryForm → ℕ
+addressOf s m = addressIn (s .registers) (s .bank .0) m
+
+-- the operand's value
+unfoldable pub valueIn : List ℕ → ℕ → List ℕ → List ℕ → Size → Operand → Loaded
+valueIn registers bank ram rom z (Register r) = Value (registerAt registers bank z r)
+valueIn registers bank ram rom z (Constant n) = Value n
+valueIn registers bank ram rom z (Memory m) = loadOf ram rom (addressIn registers bank m) z
+
+abbrev pub valueAt : State → List ℕ → List ℕ → Size → Operand → Loaded
+valueAt s ram rom z o = valueIn (s .registers) (s .bank .0) ram rom z o
+
+-- a store at an address, and the state t where it is done
+abbrev pub storedBy : Answer → State → List ℕ → Try
+storedBy Done t ram = did t ram
+storedBy (Refused w) t ram = no w
+
+-- a value stored at an address a
+unfoldable pub storing : State → List ℕ → List ℕ → ℕ → Size → ℕ → Try
+storing t ram rom a z v = storedBy (storeOf ram rom a z) t (ramAfter ram rom a z v)
+
+-- a value put where the operand is
+abbrev pub putAt : State → List ℕ → List ℕ → Size → Operand → ℕ → Try
+putAt s ram rom z (Register r) v = did (setRegister s z r v) ram
+putAt s ram rom z (Constant n) v = did s ram
+putAt s ram rom z (Memory m) v = storing s ram rom (addressOf s m) z v

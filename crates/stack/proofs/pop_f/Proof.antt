@@ -1,0 +1,70 @@
+use mathlib.Core.Path.{ap, sym, _∙_}
+use Rattle.little.specs.declared.Size.the-variants.{Byte}
+use Rattle.alu.specs.Flag.{byteOf, flagsOf}
+use Rattle.state.specs.State.{bankedWith, withFlags, withBothFlags}
+use Rattle.stack.proofs.Laws.{popped-by, not-popped, flags-low}
+use Rattle.answer.specs.declared.Answer.the-variants.{Done}
+use Rattle.state.specs.declared.State.{State}
+use Rattle.operand.specs.Try.{after}
+use borrow.Author.Needs.{needs}
+use Rattle.stack.proofs.pop_f.Statement.{statement}
+use Rattle.stack.proofs.pop_f.Tie as tie
+
+pointer-requires : tie.Need-pointer-requires
+pointer-requires c κs = search needs
+
+load-requires : tie.Need-load-requires
+load-requires c κs = search needs
+
+enum-known-v : tie.Need-enum-known-v
+enum-known-v c = search needs
+
+cast-f : tie.Need-cast-f
+cast-f c = search needs
+
+popped-requires : tie.Need-popped-requires
+popped-requires c κs = search needs
+
+unpack-requires : tie.Need-unpack-requires
+unpack-requires c κs = search needs
+
+pack-requires : tie.Need-pack-requires
+pack-requires c κs = search needs
+
+enum-known-w : tie.Need-enum-known-w
+enum-known-w c = search needs
+
+returns : tie.Need-returns
+unfolding withFlags withBothFlags
+returns c rest =
+    let a = c .before .before .before .before .before .before .before .before .before .before .before .before .args in
+    let f = a .flags .now in
+    let s = bankedWith rest (a .regs .now) (a .bank) f in
+    let v = c .before .before .before .before .before .v .given .0 .0 in
+    let e = rw (c .before .before .before .before .before .before .before .before .pointer .ensures) at (c .before .before .before .before .before .before .before .load .ensures) in
+    rw (c .pack .ensures, c .before .unpack .ensures, flags-low v)
+    (ap (λ (t : State). after Done (withFlags t (byteOf (flagsOf v))) (a .ram .now)) (c .before .before .popped .ensures s)
+    ∙ sym (popped-by s (a .ram .now) (a .rom .now) Byte (λ t x. withFlags t (byteOf (flagsOf x))) v (sym e ∙ c .before .before .before .before .before .v .given .1)))
+
+returns-2 : tie.Need-returns-2
+returns-2 c rest =
+    let a = c .before .before .before .before .before .before .before .before .args in
+    let f = a .flags .now in
+    let s = bankedWith rest (a .regs .now) (a .bank) f in
+    let e = rw (c .before .before .before .before .pointer .ensures) at (c .before .before .before .load .ensures) in
+    sym (not-popped s (a .ram .now) (a .rom .now) Byte (λ t x. withFlags t (byteOf (flagsOf x))) (c .before .w .given .0 .0) (sym e ∙ c .before .w .given .1))
+
+pub pop-f-spec : {M : Type 1} → statement M
+pop-f-spec =
+    tie.close
+    (tie.spec
+    pointer-requires
+    load-requires
+    enum-known-v
+    cast-f
+    popped-requires
+    unpack-requires
+    pack-requires
+    enum-known-w
+    returns
+    returns-2)

@@ -1,0 +1,160 @@
+// Pushes, pops, calls and returns.
+ghost use mathlib.Core.Path.{_≡_};
+ghost use Rattle.little.specs.Width.{bytesOf};
+ghost use Rattle.little.specs.declared.Size.the-variants.{Long};
+ghost use Rattle.state.specs.declared.State.{State};
+ghost use Rattle.state.specs.State.{banked, bankedWith, bankedAt, bankedAtWith};
+ghost use Rattle.state.specs.Register.{registerAt, setRegister};
+ghost use Rattle.operand.specs.Try.{Does};
+ghost use Rattle.operand.specs.Round.{plus};
+ghost use Rattle.stack.specs.Stack.{withStack, pushOf, popOf, callOf, retOf, popFOf};
+ghost use Rattle.stack.specs.Stack.{endAfter, stackOf};
+use crate::kind::Stack;
+use answer::Answer;
+use code::Operand;
+use little::Size;
+use memory::Loaded;
+use operand::displace;
+use operand::number_in;
+use operand::pointer;
+use operand::register_in;
+
+pub mod kind;
+
+// Moves the stack's end where a store was done.
+fn move_end(stored: Answer, bank: u8, regs: &mut [u32; 20], end: u32)
+    ensures { λ _. ⌜ ((s : State) → banked s (now (regs .exit)) bank ≡ endAfter stored (banked s (now (regs .entry)) bank) end) ⌝ }
+{
+    match stored {
+        Answer::Done => {
+            state::write(regs, bank, Size::Long, 7, end);
+        }
+        Answer::Refused(_) => {}
+    }
+}
+
+// Stores below the stack's end, and moves the end there where the store is done.
+fn push(bank: u8, regs: &mut [u32; 20], ram: &mut [u8], rom: &[u8], size: Size, v: u32) -> Answer
+    ensures { λ a. ⌜ ((s : State) → Does (λ t m. pushOf t m (now (rom .entry)) size v)
+        (banked s (now (regs .entry)) bank) (now (ram .entry))
+        a (banked s (now (regs .exit)) bank) (now (ram .exit))) ⌝ }
+{
+    let n = little::bytes(size) as u32;
+    let end = std::num::wrapping_sub_u32(state::read(&*regs, bank, Size::Long, 7), n);
+    let a = memory::store(ram, rom, end % 16777216, size, v);
+    move_end(a, bank, regs, end);
+    a
+}
+
+// The stack's end moved, as after a pop of a size.
+fn popped(bank: u8, regs: &mut [u32; 20], size: Size)
+    ensures { λ _. ⌜ ((s : State) → banked s (now (regs .exit)) bank
+        ≡ withStack (banked s (now (regs .entry)) bank) (plus 32 (registerAt (now (regs .entry)) bank Long 7) (bytesOf size))) ⌝ }
+{
+    let n = little::bytes(size) as u32;
+    let x = state::read(&*regs, bank, Size::Long, 7);
+    state::write(regs, bank, Size::Long, 7, std::num::wrapping_add_u32(x, n));
+}
+
+// A pop into the register of a code.
+fn pop(bank: u8, regs: &mut [u32; 20], ram: &[u8], rom: &[u8], size: Size, code: u8) -> Answer
+    ensures { λ a. ⌜ ((s : State) → Does (λ t m. popOf t m (now (rom .entry)) size (λ u v. setRegister u size code v))
+        (banked s (now (regs .entry)) bank) (now (ram .entry))
+        a (banked s (now (regs .exit)) bank) (now (ram .entry))) ⌝ }
+{
+    match memory::load(ram, rom, pointer(bank, &*regs, 7), size) {
+        Loaded::Value(v) => {
+            popped(bank, &mut *regs, size);
+            state::write(regs, bank, size, code, v);
+            Answer::Done
+        }
+        Loaded::Refused(w) => Answer::Refused(w),
+    }
+}
+
+fn call(
+    bank: u8,
+    regs: &mut [u32; 20],
+    counter: &mut u32,
+    ram: &mut [u8],
+    rom: &[u8],
+    to: u32,
+) -> Answer
+    ensures { λ a. ⌜ ((s : State) → Does (λ t m. callOf t m (now (rom .entry)) to)
+        (bankedAt s (now (regs .entry)) bank (now (counter .entry))) (now (ram .entry))
+        a (bankedAt s (now (regs .exit)) bank (now (counter .exit))) (now (ram .exit))) ⌝ }
+{
+    match push(bank, regs, ram, rom, Size::Long, *counter) {
+        Answer::Done => {
+            *counter = to % 16777216;
+            Answer::Done
+        }
+        Answer::Refused(w) => Answer::Refused(w),
+    }
+}
+
+fn ret(bank: u8, regs: &mut [u32; 20], counter: &mut u32, ram: &[u8], rom: &[u8]) -> Answer
+    ensures { λ a. ⌜ ((s : State) → Does (λ t m. retOf t m (now (rom .entry)))
+        (bankedAt s (now (regs .entry)) bank (now (counter .entry))) (now (ram .entry))
+        a (bankedAt s (now (regs .exit)) bank (now (counter .exit))) (now (ram .entry))) ⌝ }
+{
+    match memory::load(ram, rom, pointer(bank, &*regs, 7), Size::Long) {
+        Loaded::Value(v) => {
+            popped(bank, regs, Size::Long);
+            *counter = v % 16777216;
+            Answer::Done
+        }
+        Loaded::Refused(w) => Answer::Refused(w),
+    }
+}
+
+fn pop_f(bank: u8, regs: &mut [u32; 20], flags: &mut u8, ram: &[u8], rom: &[u8]) -> Answer
+    ensures { λ a. ⌜ ((s : State) → Does (λ t m. popFOf t m (now (rom .entry)))
+        (bankedWith s (now (regs .entry)) bank (now (flags .entry))) (now (ram .entry))
+        a (bankedWith s (now (regs .exit)) bank (now (flags .exit))) (now (ram .entry))) ⌝ }
+{
+    match memory::load(ram, rom, pointer(bank, &*regs, 7), Size::Byte) {
+        Loaded::Value(v) => {
+            let f = (v % 256) as u8;
+            popped(bank, regs, Size::Byte);
+            *flags = alu::pack(alu::unpack(f));
+            Answer::Done
+        }
+        Loaded::Refused(w) => Answer::Refused(w),
+    }
+}
+
+pub fn stack(
+    what: Stack,
+    size: Size,
+    operand: Operand,
+    bank: u8,
+    flags: &mut u8,
+    regs: &mut [u32; 20],
+    counter: &mut u32,
+    ram: &mut [u8],
+    rom: &[u8],
+) -> Answer
+    ensures { λ a. ⌜ ((s : State) → Does (λ t m. stackOf what size operand t m (now (rom .entry)))
+        (bankedAtWith s (now (regs .entry)) bank (now (counter .entry)) (now (flags .entry))) (now (ram .entry))
+        a (bankedAtWith s (now (regs .exit)) bank (now (counter .exit)) (now (flags .exit))) (now (ram .exit))) ⌝ }
+{
+    match what {
+        Stack::PushF => {
+            let f = *flags as u32;
+            push(bank, regs, ram, rom, Size::Byte, f)
+        }
+        Stack::PopF => pop_f(bank, regs, flags, &*ram, rom),
+        Stack::Push => {
+            let v = state::read(&*regs, bank, size, register_in(operand));
+            push(bank, regs, ram, rom, size, v)
+        }
+        Stack::Pop => pop(bank, regs, &*ram, rom, size, register_in(operand)),
+        Stack::Call => call(bank, regs, counter, ram, rom, number_in(operand)),
+        Stack::Calr => {
+            let to = displace(Size::Word, *counter, number_in(operand));
+            call(bank, regs, counter, ram, rom, to)
+        }
+        Stack::Ret => ret(bank, regs, counter, &*ram, rom),
+    }
+}
