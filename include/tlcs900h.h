@@ -2,7 +2,8 @@
  * A proved TLCS-900/H core: reset, one step, many steps, and the length of an instruction.
  *
  * Link with libtlcs900h.a (x86-64 Linux). It calls no other function, keeps nothing between calls and allocates nothing:
- * two threads may call it at once, each with its own record and RAM. A call takes less than TLCS900H_STACK bytes of stack.
+ * two threads may call it at once, each with its own record and RAM. A call takes less than TLCS900H_STACK bytes of stack (measured
+ * over every kind of instruction, not proved).
  * What tlcs900h_show needs is linked only where it is called.
  *
  * The machine
@@ -32,8 +33,9 @@
  *   it, and for writing where it is not const. A null pointer with length 0 is an empty memory. `done` and `length` are
  *   never null. The parts of one call must not overlap, and nothing else may write them while it runs.
  *
- * The answer of each call is a number, 0 to 7, and depends on nothing but what the call is given. A refused step or run,
- * asked again, is refused with the same number (and *done is then 0) until the caller changes the record, RAM or ROM.
+ * The answer of each call is a number, 0 to 7, and depends on nothing but what the call is given. A step or run that was
+ * refused with 1 to 6, asked again for a step or more, is refused with the same number (and *done is then 0) until the
+ * caller changes what it hands over.
  */
 #ifndef TLCS900H_INCLUDED
 #define TLCS900H_INCLUDED

@@ -1,8 +1,8 @@
 /*
  * How much stack each call takes: it is called on a painted stack, and what is no longer paint was used. Every first byte of
- * an instruction is tried with every byte behind it, and with every byte behind one, two and three others; from RAM and from
+ * an instruction is tried with every byte behind it, and with every byte behind one, two and three others, which are 0; from RAM and from
  * ROM; with registers that point to RAM, to ROM and to neither. The header names a bound; the last line counts the calls
- * that keep below it. For x86-64.
+ * that keep below it. Stack that is set aside and never written is not seen. For x86-64.
  */
 #define _XOPEN_SOURCE 700
 #include <stdio.h>
