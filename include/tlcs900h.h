@@ -58,7 +58,7 @@ extern "C" {
 #define TLCS900H_MEMORY 65536       /* the most bytes of RAM, and of ROM */
 #define TLCS900H_LEAST_ROM 256      /* the fewest bytes of ROM for a reset */
 #define TLCS900H_MOST_STEPS 1000000 /* the most steps of a run */
-#define TLCS900H_STACK 1024         /* a call takes less stack than so many bytes */
+#define TLCS900H_STACK 2048         /* a call takes less stack than so many bytes */
 
 /* Offsets in a record. */
 enum {
