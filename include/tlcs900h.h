@@ -2,9 +2,8 @@
  * A proved TLCS-900/H core: reset, one step, many steps, and the length of an instruction.
  *
  * Link with libtlcs900h.a (x86-64 Linux). It calls no other function, keeps nothing between calls and allocates nothing:
- * two threads may call it at once, each with its own record and RAM. A call takes less than TLCS900H_STACK bytes of stack (measured
- * over every kind of instruction, not proved).
- * What tlcs900h_show needs is linked only where it is called.
+ * two threads may call it at once, each with its own record and RAM. A call takes less than TLCS900H_STACK bytes of stack
+ * (measured over every kind of instruction, not proved). What tlcs900h_show needs is linked only where it is called.
  *
  * The machine
  *   RAM  holds the addresses 0 to ram_len - 1.
