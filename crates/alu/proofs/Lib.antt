@@ -3,6 +3,7 @@ pub mod Bools
 pub mod Ones
 pub mod Conditions
 pub mod Shifts
+pub mod Raised
 pub mod Overflow
 pub mod Meaning
 pub mod Ranges

@@ -13,7 +13,7 @@ use Rattle.little.specs.Width.{bitsOf}
 use Rattle.alu.specs.declared.Shift.{Shift}
 use Rattle.alu.specs.Extend.{extzOf, extsOf}
 use Rattle.alu.specs.declared.Shift.the-variants.{Sla, Sra, Sll, Srl}
-use Rattle.alu.specs.declared.Shifted.{Shifted}
+use Rattle.alu.specs.declared.shifter.Shifted.{Shifted}
 use Rattle.alu.specs.Width.{low, negative, weighed}
 use Rattle.alu.specs.Sums.{computedOf}
 use Rattle.alu.specs.Shift.{shifted, onePlace, shiftBy, shiftOf}

@@ -16,7 +16,7 @@ use Rattle.alu.specs.Logic.{plain}
 use Rattle.alu.specs.Sums.{computedOf}
 use native.Mathlib.Numerals.{sub-one}
 use Rattle.alu.specs.declared.Shift.{Shift}
-use Rattle.alu.specs.declared.Shifted.{Shifted}
+use Rattle.alu.specs.declared.shifter.Shifted.{Shifted}
 use Rattle.alu.specs.Shift.{placesOf, shifted, joined, onePlace, shiftBy, shiftOf}
 
 -- a places and then b places are a + b places

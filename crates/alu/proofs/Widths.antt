@@ -43,6 +43,11 @@ bits-pos Byte = lit< tt
 bits-pos Word = lit< tt
 bits-pos Long = lit< tt
 
+pub bits-le : (s : Size) → bitsOf s ≤ 32
+bits-le Byte = lit≤ tt
+bits-le Word = lit≤ tt
+bits-le Long = lit≤ tt
+
 pub size-le : (s : Size) → 2 ^ bitsOf s ≤ 4294967296
 size-le Byte = lit≤ tt
 size-le Word = lit≤ tt
@@ -58,9 +63,3 @@ pub half-top : (s : Size) → 2 ^ (bitsOf s / 2) ≤ 2 ^ (bitsOf s - 1)
 half-top Byte = lit≤ tt
 half-top Word = lit≤ tt
 half-top Long = lit≤ tt
-
--- a size has fewer than 32 bits where it has fewer than 4 bytes
-pub four-bytes : (s : Size) → ltb (bytesOf s) 4 ≡ ltb (bitsOf s) 32
-four-bytes Byte = refl
-four-bytes Word = refl
-four-bytes Long = refl

@@ -3,7 +3,7 @@ use Prim.Native.Nat.{ℕ, zero, suc, _+_, _*_, _/_, _%_, _^_}
 use mathlib.Core.Bool.{Bool, false, cond}
 use lib.Dec.{eqb}
 use Rattle.alu.specs.declared.Computed.{Computed}
-use Rattle.alu.specs.declared.Shifted.{Shifted}
+use Rattle.alu.specs.declared.shifter.Shifted.{Shifted}
 use Rattle.alu.specs.declared.Shift.{Shift}
 use Rattle.alu.specs.declared.Shift.the-variants.{Sla, Sra, Sll, Srl}
 use Rattle.alu.specs.Width.{low, negative, weighed, one}

@@ -1,9 +1,11 @@
-// The parity table, and its rule.
+// The parity table, its rule, and V by it.
 ghost use mathlib.Core.Path.{_≡_};
-ghost use Rattle.alu.specs.Parity.{evenOnes};
+ghost use Rattle.little.specs.Width.{bitsOf};
+ghost use Rattle.alu.specs.Parity.{evenOnes, parityOf};
+use little::Size;
 
 // Whether a byte has an even number of ones.
-pub fn even_ones(x: u8) -> bool
+fn even_ones(x: u8) -> bool
     ensures { λ r. ⌜ r ≡ evenOnes 8 x ⌝ }
 {
     EVEN[x as usize] == b'1'
@@ -27,3 +29,15 @@ const EVEN: [u8; 256] = *b"\
     0110100110010110\
     0110100110010110\
     1001011001101001";
+
+// V of logic and shifts. The ones of a word are even where those of its two bytes taken together are. Two functions call this,
+// so that the compiler keeps the table in a function of its own, and lays it out only where it is read.
+pub fn parity(size: Size, x: u32) -> bool
+    ensures { λ r. ⌜ r ≡ parityOf (bitsOf size) x ⌝ }
+{
+    match size {
+        Size::Byte => even_ones((x % 256) as u8),
+        Size::Word => even_ones(((x / 256 ^ x) % 256) as u8),
+        Size::Long => false,
+    }
+}

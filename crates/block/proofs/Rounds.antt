@@ -1,8 +1,8 @@
--- Laws of one round, from what it loads.
+-- Laws of one round, from what it loads, and of whether another follows.
 use Prim.Native.Nat.{ℕ}
-use mathlib.Core.Path.{_≡_, ap, _∙_}
+use mathlib.Core.Path.{_≡_, refl, sym, ap, _∙_}
 use mathlib.Core.List.{List}
-use mathlib.Core.Bool.{Bool, true, false, cond}
+use mathlib.Core.Bool.{Bool, true, false, cond, not, _&&_}
 use Rattle.answer.specs.declared.Why.{Why}
 use Rattle.code.specs.declared.Form.{Form}
 use Rattle.memory.specs.Access.{loadOf}
@@ -34,3 +34,33 @@ module _ (f : Form) (s : State) (ram rom : List ℕ) where
   pub round-refused : (w : Why) → element ≡ Refused w → roundOf f s ram rom ≡ no w
   unfolding roundOf
   round-refused w e = ap (λ (l : Loaded). withLoaded l withValue) e
+
+-- ---- the tests of goesOn and againOf, one after the other
+module _ (m z : Bool) where
+  more-not-equal : (m && not (not true && z)) ≡ m
+  more-not-equal = go m
+    where
+      go : (b : Bool) → (b && not (not true && z)) ≡ b
+      go true = refl
+      go false = refl
+
+  -- a copy goes on by BC alone
+  pub goes-copy : (again copies : Bool) → again ≡ true → copies ≡ true → m ≡ (again && (m && not (not copies && z)))
+  goes-copy again copies e f = rw (e, f) (sym more-not-equal)
+
+  -- a compare by BC and Z
+  pub goes-compare : (again copies : Bool) → again ≡ true → copies ≡ false → (m && not z) ≡ (again && (m && not (not copies && z)))
+  goes-compare again copies e f = rw (e, f) refl
+
+-- a form that does not repeat never
+pub goes-not : (again rest : Bool) → again ≡ false → false ≡ (again && rest)
+goes-not again rest e = rw e refl
+
+pub again-more : (stays left goes : Bool) → goes ≡ true → (stays && left) ≡ (stays && (left && goes))
+again-more stays true goes e = rw e refl
+again-more stays false goes e = refl
+
+pub again-not : (stays left goes : Bool) → goes ≡ false → false ≡ (stays && (left && goes))
+again-not true true goes e = rw e refl
+again-not true false goes e = refl
+again-not false left goes e = refl

@@ -12,6 +12,7 @@ use Rattle.code.specs.declared.Form.{Form}
 use Rattle.memory.specs.Access.{loadOf}
 use Rattle.state.specs.State.{withCounter}
 use Rattle.state.specs.Register.{registerAt, getRegister, setRegister}
+use Rattle.state.specs.declared.Bank.{Bank}
 use Rattle.state.specs.declared.State.{State}
 use Rattle.operand.specs.Try.{Try, did, withLoaded}
 use Rattle.operand.specs.Operand.{pointerOf, storing}
@@ -44,13 +45,13 @@ copied f s =
     flagged t (copiedOf (flagsIn s) (moreIn t))
 
 -- A of a byte's compare, WA of a word's
-abbrev pub accumulatorIn : List ℕ → ℕ → Size → ℕ
+abbrev pub accumulatorIn : List ℕ → Bank → Size → ℕ
 accumulatorIn registers bank Byte = registerAt registers bank Byte 1
 accumulatorIn registers bank Word = registerAt registers bank Word 0
 accumulatorIn registers bank Long = registerAt registers bank Long 0
 
 abbrev pub accumulator : State → Size → ℕ
-accumulator s z = accumulatorIn (s .registers) (s .bank .0) z
+accumulator s z = accumulatorIn (s .registers) (s .bank) z
 
 -- the registers and flags after a compare's round with the element v: the pointer, BC, and the flags of CPI and CPD
 unfoldable pub compared : Form → ℕ → State → State

@@ -1,8 +1,10 @@
 // Copies and compares: each round is a step.
 ghost use mathlib.Core.Path.{_≡_};
-ghost use mathlib.Core.Bool.{not};
+ghost use mathlib.Core.Bool.{false, not};
 ghost use lib.Dec.{eqb};
 ghost use Rattle.little.specs.declared.Size.the-variants.{Word};
+ghost use Rattle.little.specs.Width.{bitsOf};
+ghost use Rattle.alu.specs.Sums.{differenceOf};
 ghost use Rattle.state.specs.declared.State.{State};
 ghost use Rattle.state.specs.Register.{registerAt};
 ghost use Rattle.state.specs.State.{banked, bankedWith, bankedAtWith};
@@ -11,22 +13,24 @@ ghost use Rattle.operand.specs.Operand.{pointerOf, storing};
 ghost use Rattle.memory.specs.Place.{placeOf};
 ghost use Rattle.block.specs.Again.{inRom, againOf};
 ghost use Rattle.block.specs.Block.{counted, steppedOf, moved, copied, accumulatorIn, compared, roundOf, goesOn, endsAt};
+use alu::Computed;
 use answer::Answer;
 use code::Form;
 use little::Size;
 use memory::Loaded;
 use memory::Place;
 use operand::pointer;
+use state::Bank;
 
 // Whether BC is not 0.
-fn more(bank: u8, regs: &[u32; 20]) -> bool
+fn more(bank: Bank, regs: &[u32; 20]) -> bool
     ensures { λ r. ⌜ r ≡ not (eqb (registerAt (now (regs .entry)) bank Word 1) 0) ⌝ }
 {
     state::read(regs, bank, Size::Word, 1) != 0
 }
 
 // BC less one.
-fn counted(bank: u8, regs: &mut [u32; 20])
+fn counted(bank: Bank, regs: &mut [u32; 20])
     ensures { λ _. ⌜ ((s : State) → banked s (now (regs .exit)) bank ≡ counted (banked s (now (regs .entry)) bank)) ⌝ }
 {
     let bc = (state::read(&*regs, bank, Size::Word, 1) % 65536) as u16;
@@ -52,7 +56,7 @@ fn stepped(f: Form, x: u32) -> u32
 }
 
 // A pointer past its element.
-fn moved(f: Form, r: u8, bank: u8, regs: &mut [u32; 20])
+fn moved(f: Form, r: u8, bank: Bank, regs: &mut [u32; 20])
     ensures { λ _. ⌜ ((s : State) → banked s (now (regs .exit)) bank ≡ moved f r (banked s (now (regs .entry)) bank)) ⌝ }
 {
     let x = state::read(&*regs, bank, Size::Long, r);
@@ -60,7 +64,7 @@ fn moved(f: Form, r: u8, bank: u8, regs: &mut [u32; 20])
     state::write(regs, bank, Size::Long, r, y);
 }
 
-fn copied(f: Form, bank: u8, flags: &mut u8, regs: &mut [u32; 20])
+fn copied(f: Form, bank: Bank, flags: &mut u8, regs: &mut [u32; 20])
     ensures { λ _. ⌜ ((s : State) → bankedWith s (now (regs .exit)) bank (now (flags .exit))
         ≡ copied f (bankedWith s (now (regs .entry)) bank (now (flags .entry)))) ⌝ }
 {
@@ -71,23 +75,23 @@ fn copied(f: Form, bank: u8, flags: &mut u8, regs: &mut [u32; 20])
     *flags = alu::pack(alu::copy_flags(old, more(bank, &*regs)));
 }
 
-// A, WA or XWA.
-fn accumulator(bank: u8, regs: &[u32; 20], size: Size) -> u32
-    ensures { λ r. ⌜ r ≡ accumulatorIn (now (regs .entry)) bank size ⌝ }
+// A, WA or XWA less v. The size is written out, so that each arm is compiled for its own.
+fn difference(bank: Bank, regs: &[u32; 20], size: Size, v: u32) -> Computed
+    ensures { λ r. ⌜ r ≡ differenceOf (bitsOf size) (accumulatorIn (now (regs .entry)) bank size) v false ⌝ }
 {
     match size {
-        Size::Byte => state::read(regs, bank, size, 1),
-        Size::Word => state::read(regs, bank, size, 0),
-        Size::Long => state::read(regs, bank, size, 0),
+        Size::Byte => alu::sub(Size::Byte, state::read(regs, bank, Size::Byte, 1), v, false),
+        Size::Word => alu::sub(Size::Word, state::read(regs, bank, Size::Word, 0), v, false),
+        Size::Long => alu::sub(Size::Long, state::read(regs, bank, Size::Long, 0), v, false),
     }
 }
 
-fn compared(f: Form, v: u32, bank: u8, flags: &mut u8, regs: &mut [u32; 20])
+fn compared(f: Form, v: u32, bank: Bank, flags: &mut u8, regs: &mut [u32; 20])
     ensures { λ _. ⌜ ((s : State) → bankedWith s (now (regs .exit)) bank (now (flags .exit))
         ≡ compared f v (bankedWith s (now (regs .entry)) bank (now (flags .entry)))) ⌝ }
 {
     let size = f.size;
-    let d = alu::sub(size, accumulator(bank, &*regs, size), v, false);
+    let d = difference(bank, &*regs, size, v);
     let found = d.flags;
     moved(f, f.from, bank, &mut *regs);
     counted(bank, &mut *regs);
@@ -99,7 +103,7 @@ fn compared(f: Form, v: u32, bank: u8, flags: &mut u8, regs: &mut [u32; 20])
 fn copy(
     f: Form,
     v: u32,
-    bank: u8,
+    bank: Bank,
     flags: &mut u8,
     regs: &mut [u32; 20],
     ram: &mut [u8],
@@ -120,9 +124,9 @@ fn copy(
 }
 
 // One round: what LDI, LDD, CPI and CPD do, but for the counter.
-pub fn round(
+fn one_round(
     f: Form,
-    bank: u8,
+    bank: Bank,
     flags: &mut u8,
     regs: &mut [u32; 20],
     ram: &mut [u8],
@@ -145,16 +149,37 @@ pub fn round(
     }
 }
 
-fn goes_on(f: Form, bank: u8, flags: u8, regs: &[u32; 20]) -> bool
+// The round that others call: a call and no more, so that a wrong round can be tried in its place.
+pub fn round(
+    f: Form,
+    bank: Bank,
+    flags: &mut u8,
+    regs: &mut [u32; 20],
+    ram: &mut [u8],
+    rom: &[u8],
+) -> Answer
+    ensures { λ a. ⌜ ((s : State) → Does (λ t m. roundOf f t m (now (rom .entry)))
+        (bankedWith s (now (regs .entry)) bank (now (flags .entry))) (now (ram .entry))
+        a (bankedWith s (now (regs .exit)) bank (now (flags .exit))) (now (ram .exit))) ⌝ }
+{
+    one_round(f, bank, flags, regs, ram, rom)
+}
+
+fn goes_on(f: Form, bank: Bank, flags: u8, regs: &[u32; 20]) -> bool
     ensures { λ r. ⌜ ((s : State) → r ≡ goesOn f (bankedWith s (now (regs .entry)) bank flags)) ⌝ }
 {
-    let now = alu::unpack(flags);
-    let equal = !f.copies & now.z;
-    f.again & (more(bank, regs) & !equal)
+    if f.again {
+        if f.copies {
+            return more(bank, regs);
+        }
+        let now = alu::unpack(flags);
+        return more(bank, regs) & !now.z;
+    }
+    false
 }
 
 // The counter at the form again, where it goes on.
-pub fn ended(f: Form, at: u32, bank: u8, flags: u8, regs: &[u32; 20], counter: u32) -> u32
+pub fn ended(f: Form, at: u32, bank: Bank, flags: u8, regs: &[u32; 20], counter: u32) -> u32
     ensures { λ r. ⌜ ((s : State) → bankedAtWith s (now (regs .entry)) bank r flags
         ≡ endsAt f at (bankedAtWith s (now (regs .entry)) bank counter flags)) ⌝ }
 {
@@ -176,8 +201,11 @@ pub fn in_rom(ram_len: usize, rom_len: usize, at: u32) -> bool
 }
 
 // Whether another round is done in the same call.
-pub fn again(f: Form, stays: bool, left: u32, bank: u8, flags: u8, regs: &[u32; 20]) -> bool
+pub fn again(f: Form, stays: bool, left: u32, bank: Bank, flags: u8, regs: &[u32; 20]) -> bool
     ensures { λ r. ⌜ ((s : State) → r ≡ againOf f stays left (bankedWith s (now (regs .entry)) bank flags)) ⌝ }
 {
-    stays & ((0 < left) & goes_on(f, bank, flags, regs))
+    if goes_on(f, bank, flags, regs) {
+        return stays & (0 < left);
+    }
+    false
 }

@@ -17,11 +17,13 @@ use Rattle.code.specs.Said.{numberAt, judge}
 use Rattle.code.specs.Rows.{lookup}
 use Rattle.code.specs.Registers.{placesRows, registerRows}
 use Rattle.code.specs.Memory.{memoryRows, copies, compares, blocks, indirectRows}
-use Rattle.code.specs.Listed.{bankRows, flagRows, constantRows, stackRows, jumpRows, relativeRows, registerFormRows, absoluteRows, memoryFormRows, memoryAtRows, storeFormRows, firstRows, decodeOf}
+use Rattle.code.specs.Listed.{bankRows, flagRows, constantRows, stackRows, jumpRows, relativeRows, registerFormRows, absoluteRows, memoryFormRows, memoryAtRows, storeFormRows, aloneRows, memoryFirstRows, firstRows, decodeOf}
 use Rattle.operand.specs.Operand.{valueIn, storing}
 use Rattle.operand.specs.Flag.{flagged}
-use Rattle.control.specs.Control.{jumpOf}
+use Rattle.control.specs.Control.{jumpOf, controlOf}
 use Rattle.block.specs.Block.{counted, moved, copied, compared, roundOf, goesOn, endsAt}
+use Rattle.stack.specs.Stack.{stackOf}
+use Rattle.compute.specs.Compute.{putsOf}
 use Rattle.step.specs.Exec.{pastOf, effectOf, executedOf}
 use Rattle.step.specs.Step.{guarded, onceOf, tryOf}
 use Rattle.run.specs.Run.{goOf, runOf}
@@ -29,5 +31,5 @@ use Rattle.cases.specs.Table.{Hold, filled, begin}
 use Rattle.cases.specs.Cases.{cases, CasesHold}
 
 pub cases-hold : CasesHold
-unfolding Hold filled begin cases byteOf flagsOf basic holdsOf onesOf evenOnes parityOf computedOf sumOf differenceOf plain andOf orOf xorOf operated placesOf shiftOf shiftBy incOf decOf valueOf bytesFrom replaced placeOf loadOf storeOf ramAfter codeAt resetState validOf longOf withLong withCounter withBank withBothFlags withFlags getBits setBits slotIn setSlot slotOf registerAt setRegister numberAt judge lookup placesRows registerRows memoryRows copies compares blocks indirectRows bankRows flagRows constantRows stackRows jumpRows relativeRows registerFormRows memoryFormRows memoryAtRows absoluteRows storeFormRows firstRows decodeOf valueIn storing flagged jumpOf counted moved copied compared roundOf goesOn endsAt pastOf effectOf executedOf guarded onceOf tryOf goOf runOf
+unfolding Hold filled begin cases byteOf flagsOf basic holdsOf onesOf evenOnes parityOf computedOf sumOf differenceOf plain andOf orOf xorOf operated placesOf shiftOf shiftBy incOf decOf valueOf bytesFrom replaced placeOf loadOf storeOf ramAfter codeAt resetState validOf longOf withLong withCounter withBank withBothFlags withFlags getBits setBits slotIn setSlot slotOf registerAt setRegister numberAt judge lookup placesRows registerRows memoryRows copies compares blocks indirectRows bankRows flagRows constantRows stackRows jumpRows relativeRows registerFormRows memoryFormRows memoryAtRows absoluteRows storeFormRows aloneRows memoryFirstRows firstRows decodeOf valueIn storing flagged jumpOf counted moved copied compared roundOf goesOn endsAt pastOf controlOf stackOf putsOf effectOf executedOf guarded onceOf tryOf goOf runOf
 cases-hold = ((refl, (refl, (refl, (refl, (refl, (refl, (refl, (refl, (refl, (refl, (refl, (refl, tt)))))))))))), (refl, (refl, (refl, (refl, (refl, (refl, (refl, (refl, (refl, (refl, (refl, (refl, tt)))))))))))))

@@ -15,7 +15,7 @@ use Rattle.state.specs.Register.{getBits, setBits, slotIn, setSlot, slotOf, reg
 use Rattle.code.specs.Said.{numberAt, judge}
 use Rattle.code.specs.Rows.{lookup}
 use Rattle.code.specs.Memory.{memoryRows, copies, compares, blocks, indirectRows}
-use Rattle.code.specs.Listed.{bankRows, flagRows, constantRows, stackRows, jumpRows, relativeRows, registerFormRows, absoluteRows, memoryFormRows, memoryAtRows, storeFormRows, firstRows, decodeOf}
+use Rattle.code.specs.Listed.{bankRows, flagRows, constantRows, stackRows, jumpRows, relativeRows, registerFormRows, absoluteRows, memoryFormRows, memoryAtRows, storeFormRows, aloneRows, memoryFirstRows, firstRows, decodeOf}
 use Rattle.operand.specs.Operand.{storing}
 use Rattle.operand.specs.Flag.{flagged}
 use Rattle.block.specs.Block.{counted, moved, copied, compared, roundOf}
@@ -28,7 +28,7 @@ use Rattle.cases.proofs.Tests.{below, only, fits, present, differs, cou
 use Rattle.cases.proofs.Full as full
 
 pub evidence-met : EvidenceMet
-unfolding evidence only below fits present differs countOf passed roundsOf filled begin byteOf flagsOf computedOf differenceOf valueOf bytesFrom replaced placeOf loadOf storeOf ramAfter codeAt resetState validOf longOf withLong withCounter withBothFlags withBank withFlags getBits setBits slotIn setSlot slotOf registerAt setRegister numberAt judge lookup memoryRows copies compares blocks indirectRows bankRows flagRows constantRows stackRows jumpRows relativeRows registerFormRows absoluteRows memoryFormRows memoryAtRows storeFormRows firstRows decodeOf storing flagged counted moved copied compared roundOf
+unfolding evidence only below fits present differs countOf passed roundsOf filled begin byteOf flagsOf computedOf differenceOf valueOf bytesFrom replaced placeOf loadOf storeOf ramAfter codeAt resetState validOf longOf withLong withCounter withBothFlags withBank withFlags getBits setBits slotIn setSlot slotOf registerAt setRegister numberAt judge lookup memoryRows copies compares blocks indirectRows bankRows flagRows constantRows stackRows jumpRows relativeRows registerFormRows absoluteRows memoryFormRows memoryAtRows storeFormRows aloneRows memoryFirstRows firstRows decodeOf storing flagged counted moved copied compared roundOf
 evidence-met =
     count-met ldir ldirStart ldirRam [] tt refl refl refl 3 refl tt tt
     and count-met lddr lddrStart lddrRam [] tt refl refl refl 2 refl tt tt

@@ -18,17 +18,18 @@ use Rattle.code.specs.Said.{numberAt, judge}
 use Rattle.code.specs.Rows.{lookup}
 use Rattle.code.specs.Registers.{placesRows, registerRows}
 use Rattle.code.specs.Memory.{memoryRows, storeRows, copies, compares, blocks, indirectRows}
-use Rattle.code.specs.Listed.{bankNumberRows, bankRows, flagRows, constantRows, stackRows, jumpRows, relativeRows, registerFormRows, absoluteRows, memoryFormRows, memoryAtRows, storeFormRows, firstRows, decodeOf}
+use Rattle.code.specs.Listed.{bankNumberRows, bankRows, flagRows, constantRows, stackRows, jumpRows, relativeRows, registerFormRows, absoluteRows, memoryFormRows, memoryAtRows, storeFormRows, aloneRows, memoryFirstRows, firstRows, decodeOf}
 use Rattle.operand.specs.Operand.{addressIn, valueIn, storing}
-use Rattle.stack.specs.Stack.{pushOf, popOf}
+use Rattle.stack.specs.Stack.{pushOf, popOf, stackOf}
 use Rattle.operand.specs.Flag.{flagged}
-use Rattle.control.specs.Control.{jumpOf}
+use Rattle.control.specs.Control.{jumpOf, controlOf}
 use Rattle.block.specs.Block.{counted, moved, copied, compared, roundOf, goesOn, endsAt}
+use Rattle.compute.specs.Compute.{putsOf}
 use Rattle.step.specs.Exec.{pastOf, effectOf, executedOf}
 use Rattle.step.specs.Step.{guarded, onceOf, tryOf, stepOf}
 use Rattle.alu.specs.Cases.{every}
 use Rattle.cases.specs.Examples.{given, sameBytes, reaches, right, bookExamples}
 
 pub examples-hold : T (every right bookExamples)
-unfolding valueOf bytesFrom replaced placeOf loadOf storeOf ramAfter codeAt zeroState validOf longOf withLong withCounter withBank withBothFlags withFlags getBits setBits slotIn setSlot slotOf registerAt setRegister byteOf flagsOf basic holdsOf onesOf evenOnes parityOf computedOf sumOf differenceOf plain andOf orOf xorOf operated placesOf shiftBy shiftOf incOf decOf extzOf extsOf numberAt judge lookup placesRows registerRows memoryRows storeRows copies compares blocks indirectRows bankNumberRows bankRows flagRows constantRows stackRows jumpRows relativeRows registerFormRows absoluteRows memoryFormRows memoryAtRows storeFormRows firstRows decodeOf addressIn valueIn storing pushOf popOf flagged jumpOf counted moved copied compared roundOf goesOn endsAt pastOf effectOf executedOf guarded onceOf tryOf stepOf given sameBytes reaches right every bookExamples
+unfolding valueOf bytesFrom replaced placeOf loadOf storeOf ramAfter codeAt zeroState validOf longOf withLong withCounter withBank withBothFlags withFlags getBits setBits slotIn setSlot slotOf registerAt setRegister byteOf flagsOf basic holdsOf onesOf evenOnes parityOf computedOf sumOf differenceOf plain andOf orOf xorOf operated placesOf shiftBy shiftOf incOf decOf extzOf extsOf numberAt judge lookup placesRows registerRows memoryRows storeRows copies compares blocks indirectRows bankNumberRows bankRows flagRows constantRows stackRows jumpRows relativeRows registerFormRows absoluteRows memoryFormRows memoryAtRows storeFormRows aloneRows memoryFirstRows firstRows decodeOf addressIn valueIn storing pushOf popOf flagged jumpOf counted moved copied compared roundOf goesOn endsAt pastOf controlOf stackOf putsOf effectOf executedOf guarded onceOf tryOf stepOf given sameBytes reaches right every bookExamples
 examples-hold = tt

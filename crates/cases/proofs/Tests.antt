@@ -21,7 +21,7 @@ use Rattle.code.specs.Listed.{decodeOf}
 use Rattle.code.specs.Memory.{form}
 use Rattle.code.specs.declared.Form.{Form}
 use Rattle.code.specs.declared.Base.the-variants.{Indirect}
-use Rattle.code.specs.declared.Op.the-variants.{Block}
+use Rattle.code.specs.declared.Op.the-variants.{Blocks}
 use Rattle.code.specs.declared.Instruction.{Instruction}
 use Rattle.code.specs.declared.Decoded.the-variants.{Whole}
 use Rattle.block.specs.Block.{accumulator}
@@ -158,7 +158,7 @@ sound-by s t =
     }
 
 abbrev pub block : Form → Instruction
-block f = record { op = Block f; size = f .size; operand = form (Indirect (f .from)) 0; length = 2 }
+block f = record { op = Blocks f; size = f .size; operand = form (Indirect (f .from)) 0; length = 2 }
 
 abbrev pub memoryTest : List ℕ → Bool
 memoryTest l = fits (2 ^ 8) l && leb (length l) (2 ^ 16)

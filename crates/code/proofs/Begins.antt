@@ -18,15 +18,16 @@ use Rattle.code.specs.declared.Found.the-variants.{Value, Missing}
 use Rattle.code.specs.declared.Operand.{Operand}
 use Rattle.code.specs.declared.Operand.the-variants.{Register}
 use Rattle.code.specs.declared.Op.{Op}
-use Rattle.code.specs.declared.Op.the-variants.{Extz, Exts}
+use Rattle.code.specs.declared.Op.the-variants.{Puts}
+use Rattle.code.specs.declared.Use.the-variants.{Extz, Exts}
 use Rattle.code.specs.declared.Base.{Base}
 use Rattle.code.specs.declared.Base.the-variants.{Indirect, Displaced, Absolute8, Absolute16, Absolute24}
 use Rattle.alu.specs.declared.Shift.{Shift}
 use Rattle.code.specs.Said.{Said, whole, unlisted, next, number, judge, numberAt, withFound}
-use Rattle.code.specs.Rows.{Row, has, lookup, byRows}
+use Rattle.code.specs.Rows.{Row, lookup, byRows}
 use Rattle.code.specs.Registers.{registerRows, placesRows, notByte, shiftKind}
 use Rattle.code.specs.Memory.{form, memoryRows, storeRows, copies, compares, blocks, blockRows, indirectRows}
-use Rattle.code.specs.Listed.{formWith, absoluteRows, bankNumberRows, bankRows, flagRows, constantRows, stackRows, jumpRows, relativeRows, registerFormRows, memoryFormRows, memoryAtRows, storeFormRows, firstRows, decodeOf}
+use Rattle.code.specs.Listed.{formWith, absoluteRows, bankNumberRows, bankRows, flagRows, constantRows, stackRows, jumpRows, relativeRows, registerFormRows, memoryFormRows, memoryAtRows, storeFormRows, aloneRows, memoryFirstRows, firstRows, decodeOf}
 use Rattle.code.specs.Laws.{ShortBegins}
 use Rattle.code.proofs.AllRows.{AllRows, in-rows, both-rows}
 use Rattle.code.proofs.Prefix.{step-next, step-number, byte-in, value-in, longer}
@@ -163,7 +164,7 @@ register : (z : Size) (o : Operand) → Open (byRows (registerRows z o))
 unfolding registerRows lookup
 register z o =
     by-rows (registerRows z o) 0x88 (omega arith) tt
-    (λ b h. (λ v. tt, λ v. tt), (λ b h. tt, (λ b h. tt, (λ b h. tt, (λ b h. (λ v. tt, λ v. tt), (λ b h. tt, (λ b h. tt, (λ b h. places z o (shiftKind (b % 4)), (λ b h. extension Extz z o, (λ b h. extension Exts z o, tt))))))))))
+    (λ b h. (λ v. tt, λ v. tt), (λ b h. tt, (λ b h. tt, (λ b h. tt, (λ b h. (λ v. tt, λ v. tt), (λ b h. tt, (λ b h. tt, (λ b h. places z o (shiftKind (b % 4)), (λ b h. extension (Puts Extz) z o, (λ b h. extension (Puts Exts) z o, tt))))))))))
 
 memory-rows : (z : Size) (o : Operand) → OpenRows (memoryRows z o)
 unfolding memoryRows
@@ -283,20 +284,20 @@ store-form-rows = (
 )
 
 first-rows : OpenRows firstRows
-unfolding firstRows
+unfolding firstRows aloneRows memoryFirstRows
 first-rows =
-    both-rows (λ b j. Open j) bankRows _ (low-rows .0)
+    both-rows (λ b j. Open j) aloneRows _
+    (both-rows (λ b j. Open j) bankRows _ (low-rows .0)
     (both-rows (λ b j. Open j) flagRows _ (low-rows .1)
     (both-rows (λ b j. Open j) constantRows _ (low-rows .2)
     (both-rows (λ b j. Open j) stackRows _ (low-rows .3)
-    (both-rows (λ b j. Open j) jumpRows _ (low-rows .4)
-    (both-rows (λ b j. Open j) relativeRows _ (low-rows .5)
+    (both-rows (λ b j. Open j) jumpRows _ (low-rows .4) (low-rows .5))))))
     (both-rows (λ b j. Open j) registerFormRows _ register-form-rows
     (both-rows (λ b j. Open j) memoryFormRows _ memory-form-rows
-    (both-rows (λ b j. Open j) memoryAtRows _ memory-at-rows store-form-rows))))))))
+    (both-rows (λ b j. Open j) memoryAtRows _ memory-at-rows store-form-rows)))
 
 nop : Can (lookup firstRows 0)
-unfolding firstRows bankRows lookup
+unfolding firstRows aloneRows bankRows lookup
 nop = tt
 
 pub short-begins : ShortBegins

@@ -1,20 +1,23 @@
 -- Laws of the copies and compares: the byte 10 to 17 after a form (R).
 use Prim.Native.Nat.{ℕ, _+_, _/_, _%_, _≤_, _<_}
 use mathlib.Core.Path.{_≡_, refl, ap, _∙_}
-use mathlib.Core.Bool.{Bool, true, false, cond}
+use mathlib.Core.Bool.{Bool, true, false, cond, _&&_, _||_}
+use mathlib.Core.Logic.{inl, inr}
 use mathlib.Core.List.{List, [], _∷_, _++_}
 use native.Mathlib.Omega.{arith}
 use lib.Dec.{leb, eqb}
-use borrow.Author.Tests.{ne-eqb, le-leb, lt-leb}
+use types.Run.{OneOf}
+use borrow.Author.Tests.{eqb-true, eqb-false, ne-eqb, le-leb, lt-leb}
 use Rattle.little.specs.declared.Size.{Size}
 use Rattle.little.specs.declared.Size.the-variants.{Byte, Word, Long}
-use Rattle.code.specs.declared.Base.the-variants.{Indirect}
 use Rattle.code.specs.declared.Operand.{Operand}
-use Rattle.code.specs.declared.Decoded.{Decoded}
-use Rattle.code.specs.Said.{Said, unlisted, judge}
+use Rattle.code.specs.Said.{Said, unlisted}
 use Rattle.code.specs.Rows.{Row, has, lookup}
-use Rattle.code.specs.Memory.{form, memoryRows, copies, compares, copy, compare, blocks, blockRows, indirectRows}
+use Rattle.code.specs.Memory.{memoryRows, storeRows, copies, compares, copy, compare, blocks, blockRows}
+use Rattle.code.specs.Listed.{sizeOf, rowsBegun}
 use Rattle.code.proofs.Groups.{in-group}
+use Rattle.code.proofs.Tables.{in-arm}
+use Rattle.code.proofs.Holds.{both-true, either-true}
 
 never : {a b : ℕ} {A : Type 0} → a ≤ b → b < a → A
 never h k = let z : ⊥ = omega arith in absurd z
@@ -68,31 +71,15 @@ module _ (z : Size) (o : Operand) (r b : ℕ) (g : b / 8 ≡ 2) where
   unfolding blocks
   no-compares h k = rw (lt-leb 2 r k) (no-compares-at z o (eqb r 3) (eqb r 5) b g h)
 
--- ---- a form (R) has the common rows and its own
-abbrev at-pointer : ℕ → Operand
-at-pointer r = form (Indirect r) 0
-
-module _ (r b : ℕ) (d : Decoded) (s : List ℕ) (z : Size) (h : d ≡ judge (lookup (memoryRows z (at-pointer r) ++ blocks z r) b) s 2) where
-  pub block-byte : z ≡ Byte → d ≡ judge (lookup (indirectRows z r) b) s 2
-  unfolding indirectRows
-  block-byte e = rw e (rw e at h)
-
-  pub block-word : z ≡ Word → d ≡ judge (lookup (indirectRows z r) b) s 2
-  unfolding indirectRows
-  block-word e = rw e (rw e at h)
-
-long-at : (r b : ℕ) → b / 8 ≡ 2 → lookup (indirectRows Long r) b ≡ unlisted
-unfolding indirectRows memoryRows lookup
-long-at r = in-group _ 2 (refl, refl, refl, refl, refl, refl, refl, refl)
-
-pub block-long : (r b : ℕ) (z : Size) → b / 8 ≡ 2 → z ≡ Long → lookup (indirectRows z r) b ≡ unlisted
-block-long r b z g e = rw e (long-at r b g)
-
 -- rows that do not list the byte may be left out
 left-out : (xs ys : List Row) (b : ℕ) → lookup ys b ≡ unlisted → lookup (xs ++ ys) b ≡ lookup xs b
 unfolding lookup
 left-out [] ys b e = e
 left-out (x ∷ xs) ys b e = ap (λ (r : Said). cond (has (x .bytes) b) (x .says b) r) (left-out xs ys b e)
+
+nothing : (b : ℕ) → lookup [] b ≡ unlisted
+unfolding lookup
+nothing b = refl
 
 module _ (b : ℕ) (g : b / 8 ≡ 2 → ⊥) where
   other : (k : ℕ) → k / 8 ≡ 2 → eqb b k ≡ false
@@ -106,28 +93,76 @@ module _ (b : ℕ) (g : b / 8 ≡ 2 → ⊥) where
   unfolding compares lookup
   no-compares-at′ z r = rw (other 0x14 refl, other 0x15 refl, other 0x16 refl, other 0x17 refl)
 
-  nothing : lookup [] b ≡ unlisted
-  unfolding lookup
-  nothing = refl
-
   no-blocks : (t u v : Bool) (z : Size) (r : ℕ) → lookup (cond t (copies z 2 3) (cond u (copies z 4 5) []) ++ cond v (compares z r) []) b ≡ unlisted
   no-blocks t u v z r = left-out _ _ b (second v) ∙ first t u
     where
       first : (t u : Bool) → lookup (cond t (copies z 2 3) (cond u (copies z 4 5) [])) b ≡ unlisted
       first true u = no-copies-at z 2 3
       first false true = no-copies-at z 4 5
-      first false false = nothing
+      first false false = nothing b
 
       second : (v : Bool) → lookup (cond v (compares z r) []) b ≡ unlisted
       second true = no-compares-at′ z r
-      second false = nothing
+      second false = nothing b
 
   no-block-rows : (z : Size) (r : ℕ) → lookup (blockRows z r) b ≡ unlisted
   unfolding blocks
   no-block-rows Byte r = no-blocks (eqb r 3) (eqb r 5) (leb 2 r) Byte r
   no-block-rows Word r = no-blocks (eqb r 3) (eqb r 5) (leb 2 r) Word r
-  no-block-rows Long r = nothing
+  no-block-rows Long r = nothing b
 
-  pub common : (z : Size) (r : ℕ) → lookup (indirectRows z r) b ≡ lookup (memoryRows z (at-pointer r)) b
-  unfolding indirectRows
-  common z r = left-out (memoryRows z (at-pointer r)) (blockRows z r) b (no-block-rows z r)
+-- ---- the rows after the form that a first byte begins
+abbrev pub size-begun : ℕ → Size
+size-begun b = sizeOf (8 + b / 16 % 4)
+
+-- the copies and compares that it may have
+abbrev own-rows : ℕ → List Row
+own-rows b = cond (eqb (b / 8) 16 || eqb (b / 8) 18 || eqb (b / 8) 20) (blockRows (size-begun b) (b % 8)) []
+
+module _ (o : Operand) (b : ℕ) where
+  pub begun-store : eqb (b / 8) 22 || eqb (b / 8) 23 || eqb (b / 8) 30 ≡ true → rowsBegun b o ≡ storeRows o
+  unfolding rowsBegun
+  begun-store h = rw h
+
+  begun-other : eqb (b / 8) 22 || eqb (b / 8) 23 || eqb (b / 8) 30 ≡ false → rowsBegun b o ≡ memoryRows (size-begun b) o ++ own-rows b
+  unfolding rowsBegun
+  begun-other h = rw h
+
+rows-at-pointer : (o : Operand) (b : ℕ) → OneOf (16 ∷ 18 ∷ []) (b / 8) → rowsBegun b o ≡ memoryRows (size-begun b) o ++ blocks (size-begun b) (b % 8)
+unfolding rowsBegun sizeOf
+rows-at-pointer o = in-arm _ _ (16 ∷ 18 ∷ []) refl
+
+pub begun-pointer :
+    (o : Operand) (b c : ℕ) → eqb (c / 8) 2 && (eqb (b / 8) 16 || eqb (b / 8) 18) ≡ true →
+    lookup (rowsBegun b o) c ≡ lookup (memoryRows (size-begun b) o ++ blocks (size-begun b) (b % 8)) c
+begun-pointer o b c h =
+    let k = both-true (eqb (c / 8) 2) (eqb (b / 8) 16 || eqb (b / 8) 18) h .1 in
+    rw (rows-at-pointer o b (elim (either-true (eqb (b / 8) 16) (eqb (b / 8) 18) k) [ inl e ↦ inl (eqb-true (b / 8) 16 e) | inr e ↦ inr (eqb-true (b / 8) 18 e) ]))
+
+-- a long pointer has none of its own
+long-rows : (b : ℕ) → b / 8 ≡ 20 → blockRows (size-begun b) (b % 8) ≡ []
+unfolding sizeOf
+long-rows = in-arm _ (λ b. []) (20 ∷ []) refl
+
+no-long : (b c : ℕ) → lookup (cond (eqb (b / 8) 20) (blockRows (size-begun b) (b % 8)) []) c ≡ unlisted
+no-long b c = go (eqb (b / 8) 20) refl
+  where
+    go : (t : Bool) → eqb (b / 8) 20 ≡ t → lookup (cond t (blockRows (size-begun b) (b % 8)) []) c ≡ unlisted
+    go true e = rw (long-rows b (eqb-true (b / 8) 20 e)) (nothing c)
+    go false e = nothing c
+
+no-more : (b c : ℕ) → eqb (c / 8) 2 && (eqb (b / 8) 16 || eqb (b / 8) 18) ≡ false → lookup (own-rows b) c ≡ unlisted
+no-more b c = go (eqb (c / 8) 2) refl
+  where
+    any : (c / 8 ≡ 2 → ⊥) → (u : Bool) (z : Size) (r : ℕ) → lookup (cond u (blockRows z r) []) c ≡ unlisted
+    any m true z r = no-block-rows c m z r
+    any m false z r = nothing c
+
+    go : (t : Bool) → eqb (c / 8) 2 ≡ t → t && (eqb (b / 8) 16 || eqb (b / 8) 18) ≡ false → lookup (own-rows b) c ≡ unlisted
+    go true e f = rw f (no-long b c)
+    go false e f = any (eqb-false (c / 8) 2 e) (eqb (b / 8) 16 || eqb (b / 8) 18 || eqb (b / 8) 20) (size-begun b) (b % 8)
+
+pub begun-memory :
+    (o : Operand) (b c : ℕ) → eqb (b / 8) 22 || eqb (b / 8) 23 || eqb (b / 8) 30 ≡ false → eqb (c / 8) 2 && (eqb (b / 8) 16 || eqb (b / 8) 18) ≡ false →
+    lookup (rowsBegun b o) c ≡ lookup (memoryRows (size-begun b) o) c
+begun-memory o b c h m = rw (begun-other o b h) (left-out _ _ c (no-more b c m))

@@ -10,7 +10,11 @@ use Rattle.little.specs.declared.Size.{Size}
 use Rattle.little.specs.declared.Size.the-variants.{Byte, Word, Long}
 use Rattle.alu.specs.declared.Arith.{Arith}
 use Rattle.alu.specs.declared.Shift.{Shift}
-use Rattle.code.specs.declared.Op.the-variants.{Ldf, Set, Push, Pop, Jr, Jrl, LoadConstant, Load, Into, Compute, ComputeInto, ComputeConstant, Inc, Dec, Shifted, Extz, Exts, Store}
+use Rattle.code.specs.declared.Op.the-variants.{Controls, Stacks, Puts, Sets}
+use Rattle.code.specs.declared.Control.the-variants.{Ldf, Jr, Jrl}
+use Rattle.code.specs.declared.Stack.the-variants.{Push, Pop}
+use Rattle.code.specs.declared.Use.the-variants.{Number, From, Load, Compute, Inc, Dec, Shifted, Extz, Exts}
+use Rattle.code.specs.declared.Side.the-variants.{First, Second, With}
 use Rattle.code.specs.declared.Base.{Base}
 use Rattle.code.specs.declared.Base.the-variants.{Indirect, Displaced, Absolute8, Absolute16, Absolute24}
 use Rattle.code.specs.declared.Operand.{Operand}
@@ -27,31 +31,31 @@ use Rattle.code.proofs.Tables.{table, by-size, by-arith, each-size, eac
 use Rattle.code.proofs.Says.{Lists}
 
 -- ---- the first byte
-pub set : (z : Size) (r : ℕ) → r < 8 → Lists firstRows (0x20 + sizeStep z + r) (withConstant (Set r) z (bytesOf z))
+pub set : (z : Size) (r : ℕ) → r < 8 → Lists firstRows (0x20 + sizeStep z + r) (withConstant (Sets r) z (bytesOf z))
 unfolding first
 set = by-size _ _ 8 refl
 
-pub push : (z : Size) → Holds (noByte z) → (r : ℕ) → r < 7 → Lists firstRows (0x18 + sizeStep z + r) (whole Push z (Register r))
+pub push : (z : Size) → Holds (noByte z) → (r : ℕ) → r < 7 → Lists firstRows (0x18 + sizeStep z + r) (whole (Stacks Push) z (Register r))
 unfolding first
 push Byte h = absurd h
 push Word h = table _ _ 7 refl
 push Long h = table _ _ 7 refl
 
-pub pop : (z : Size) → Holds (noByte z) → (r : ℕ) → r < 7 → Lists firstRows (0x38 + sizeStep z + r) (whole Pop z (Register r))
+pub pop : (z : Size) → Holds (noByte z) → (r : ℕ) → r < 7 → Lists firstRows (0x38 + sizeStep z + r) (whole (Stacks Pop) z (Register r))
 unfolding first
 pop Byte h = absurd h
 pop Word h = table _ _ 7 refl
 pop Long h = table _ _ 7 refl
 
-pub short-jump : (cc : ℕ) → cc < 16 → Lists firstRows (0x60 + cc) (withConstant (Jr cc) Byte 1)
+pub short-jump : (cc : ℕ) → cc < 16 → Lists firstRows (0x60 + cc) (withConstant (Controls (Jr cc)) Byte 1)
 unfolding first
 short-jump = table _ _ 16 refl
 
-pub long-jump : (cc : ℕ) → cc < 16 → Lists firstRows (0x70 + cc) (withConstant (Jrl cc) Byte 2)
+pub long-jump : (cc : ℕ) → cc < 16 → Lists firstRows (0x70 + cc) (withConstant (Controls (Jrl cc)) Byte 2)
 unfolding first
 long-jump = table _ _ 16 refl
 
-pub bank-number : (n : ℕ) → n < 4 → Lists bankNumberRows n (whole Ldf Byte (Constant n))
+pub bank-number : (n : ℕ) → n < 4 → Lists bankNumberRows n (whole (Controls Ldf) Byte (Constant n))
 unfolding bankNumberRows lookup
 bank-number = table _ _ 4 refl
 
@@ -61,31 +65,31 @@ unfolding first
 register-form = by-size _ _ 8 refl
 
 module _ (z : Size) (o : Operand) where
-  pub load-constant : Lists (registerRows z o) 0x03 (number (bytesOf z) (λ n. whole (LoadConstant n) z o))
+  pub load-constant : Lists (registerRows z o) 0x03 (number (bytesOf z) (λ n. whole (Puts (Number n)) z o))
   unfolding registerRows lookup
   load-constant = refl
 
-  pub load : (r : ℕ) → r < 8 → Lists (registerRows z o) (0x88 + r) (whole (Load r) z o)
+  pub load : (r : ℕ) → r < 8 → Lists (registerRows z o) (0x88 + r) (whole (Puts (Load r)) z o)
   unfolding registerRows lookup
   load = table _ _ 8 refl
 
-  pub into : (r : ℕ) → r < 8 → Lists (registerRows z o) (0x98 + r) (whole (Into r) z o)
+  pub into : (r : ℕ) → r < 8 → Lists (registerRows z o) (0x98 + r) (whole (Puts (From r)) z o)
   unfolding registerRows lookup
   into = table _ _ 8 refl
 
-  pub compute : (a : Arith) (r : ℕ) → r < 8 → Lists (registerRows z o) (0x80 + 16 * arithNumber a + r) (whole (Compute a r) z o)
+  pub compute : (a : Arith) (r : ℕ) → r < 8 → Lists (registerRows z o) (0x80 + 16 * arithNumber a + r) (whole (Puts (Compute a (First r))) z o)
   unfolding registerRows lookup
   compute = by-arith _ _ 8 refl
 
-  pub compute-constant : (a : Arith) → Lists (registerRows z o) (0xC8 + arithNumber a) (number (bytesOf z) (λ n. whole (ComputeConstant a n) z o))
+  pub compute-constant : (a : Arith) → Lists (registerRows z o) (0xC8 + arithNumber a) (number (bytesOf z) (λ n. whole (Puts (Compute a (With n))) z o))
   unfolding registerRows lookup
   compute-constant = each-arith _ _ refl
 
-  pub inc : (n : ℕ) → n < 8 → Lists (registerRows z o) (0x60 + n) (whole (Inc n) z o)
+  pub inc : (n : ℕ) → n < 8 → Lists (registerRows z o) (0x60 + n) (whole (Puts (Inc n)) z o)
   unfolding registerRows lookup
   inc = table _ _ 8 refl
 
-  pub dec : (n : ℕ) → n < 8 → Lists (registerRows z o) (0x68 + n) (whole (Dec n) z o)
+  pub dec : (n : ℕ) → n < 8 → Lists (registerRows z o) (0x68 + n) (whole (Puts (Dec n)) z o)
   unfolding registerRows lookup
   dec = table _ _ 8 refl
 
@@ -93,17 +97,17 @@ module _ (z : Size) (o : Operand) where
   unfolding registerRows lookup
   shift = each-shift _ _ refl
 
-  pub places : (t : Shift) (n : ℕ) → n < 16 → Lists (placesRows z o t) n (whole (Shifted t n) z o)
+  pub places : (t : Shift) (n : ℕ) → n < 16 → Lists (placesRows z o t) n (whole (Puts (Shifted t n)) z o)
   unfolding placesRows lookup
   places t = table _ _ 16 refl
 
-pub extz : (z : Size) (o : Operand) → Holds (noByte z) → Lists (registerRows z o) 0x12 (whole Extz z o)
+pub extz : (z : Size) (o : Operand) → Holds (noByte z) → Lists (registerRows z o) 0x12 (whole (Puts Extz) z o)
 unfolding registerRows lookup
 extz Byte o h = absurd h
 extz Word o h = refl
 extz Long o h = refl
 
-pub exts : (z : Size) (o : Operand) → Holds (noByte z) → Lists (registerRows z o) 0x13 (whole Exts z o)
+pub exts : (z : Size) (o : Operand) → Holds (noByte z) → Lists (registerRows z o) 0x13 (whole (Puts Exts) z o)
 unfolding registerRows lookup
 exts Byte o h = absurd h
 exts Word o h = refl
@@ -141,15 +145,15 @@ unfolding first memoryRows
 absolute-24 = each-size _ _ refl
 
 module _ (z : Size) (o : Operand) (more : List Row) where
-  pub load-memory : (r : ℕ) → r < 8 → Lists (memoryRows z o ++ more) (0x20 + r) (whole (Load r) z o)
+  pub load-memory : (r : ℕ) → r < 8 → Lists (memoryRows z o ++ more) (0x20 + r) (whole (Puts (Load r)) z o)
   unfolding memoryRows lookup
   load-memory = table _ _ 8 refl
 
-  pub compute-memory : (a : Arith) (r : ℕ) → r < 8 → Lists (memoryRows z o ++ more) (0x80 + 16 * arithNumber a + r) (whole (Compute a r) z o)
+  pub compute-memory : (a : Arith) (r : ℕ) → r < 8 → Lists (memoryRows z o ++ more) (0x80 + 16 * arithNumber a + r) (whole (Puts (Compute a (First r))) z o)
   unfolding memoryRows lookup
   compute-memory = by-arith _ _ 8 refl
 
-  pub compute-into : (a : Arith) (r : ℕ) → r < 8 → Lists (memoryRows z o ++ more) (0x88 + 16 * arithNumber a + r) (whole (ComputeInto a r) z o)
+  pub compute-into : (a : Arith) (r : ℕ) → r < 8 → Lists (memoryRows z o ++ more) (0x88 + 16 * arithNumber a + r) (whole (Puts (Compute a (Second r))) z o)
   unfolding memoryRows lookup
   compute-into = by-arith _ _ 8 refl
 
@@ -169,7 +173,7 @@ pub absolute-store :
 unfolding first
 absolute-store = (refl, refl, refl)
 
-pub store : (o : Operand) (z : Size) (r : ℕ) → r < 8 → Lists (storeRows o) (0x40 + sizeStep z + r) (whole (Store r) z o)
+pub store : (o : Operand) (z : Size) (r : ℕ) → r < 8 → Lists (storeRows o) (0x40 + sizeStep z + r) (whole (Puts (From r)) z o)
 unfolding storeRows lookup
 store o = by-size _ _ 8 refl
 

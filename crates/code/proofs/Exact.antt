@@ -18,7 +18,7 @@ use Rattle.code.specs.Range.{rangeOf, inRange}
 use Rattle.code.specs.Written.{codeOf}
 use Rattle.code.specs.Laws.{RangeTest, RangeExact, ReadsBack, CodeFits, NoneBegins}
 use Rattle.code.proofs.Holds.{holds-so, so-holds}
-use Rattle.code.proofs.Ranges.{ranges, length-is}
+use Rattle.code.proofs.Walked.{ranges}
 use Rattle.code.proofs.ReadsBack.{reads}
 
 pub range-test : RangeTest
@@ -33,11 +33,11 @@ read-alone : (op : Op) (z : Size) (o : Operand) → inRange op z o ≡ true → 
 read-alone op z o h = rw append-nil at (reads-back op z o [] h)
 
 pub code-fits : CodeFits
-code-fits op z o h = (reads op z o (range-test op z o .0 h) .bytes, length-is (codeOf op z o) _ (read-alone op z o h))
+code-fits op z o h = reads op z o (range-test op z o .0 h) .bytes
 
 pub range-exact : RangeExact
 range-exact op z o = (
-  λ h. (codeOf op z o, length (codeOf op z o), code-fits op z o h .0, read-alone op z o h),
+  λ h. (codeOf op z o, length (codeOf op z o), code-fits op z o h, read-alone op z o h),
   λ w. range-test op z o .1 (ranges (w .0) _ (w .2) (w .3)),
 )
 

@@ -1,132 +1,157 @@
 -- Laws of the first byte's rows, group by group.
-use Prim.Native.Nat.{ℕ, _+_, _/_, _%_, _<_}
+use Prim.Native.Nat.{ℕ, _+_, _/_, _%_, _≤_, _<_}
 use mathlib.Core.Path.{_≡_, refl}
 use mathlib.Core.Bool.{cond}
 use mathlib.Core.List.{List, [], _∷_}
-use lib.Dec.{ltb, eqb}
+use native.Mathlib.Omega.{arith}
+use lib.Dec.{ltb}
+use borrow.Author.Tests.{ne-eqb}
 use types.Run.{OneOf}
 use Rattle.little.specs.declared.Size.the-variants.{Byte, Word, Long}
-use Rattle.code.specs.declared.Op.the-variants.{Set, Push, Pop, Jr, Jrl}
+use Rattle.code.specs.declared.Op.the-variants.{Controls, Stacks, Sets}
+use Rattle.code.specs.declared.Control.the-variants.{Jr, Jrl}
+use Rattle.code.specs.declared.Stack.the-variants.{Push, Pop}
 use Rattle.code.specs.declared.Base.the-variants.{Indirect, Displaced}
+use Rattle.code.specs.declared.Operand.{Operand}
 use Rattle.code.specs.declared.Operand.the-variants.{Register}
 use Rattle.code.specs.Said.{Said, whole, unlisted}
-use Rattle.code.specs.Rows.{lookup, byRows}
+use Rattle.code.specs.Rows.{Row, lookup, byRows}
 use Rattle.code.specs.Registers.{registerRows}
-use Rattle.code.specs.Memory.{form, storeRows, indirectRows, rowsAfter}
-use Rattle.code.specs.Listed.{withConstant, sizeOf, formWith, absoluteRows, bankRows, flagRows, constantRows, stackRows, jumpRows, relativeRows, registerFormRows, memoryFormRows, memoryAtRows, storeFormRows, firstRows}
-use Rattle.code.proofs.Groups.{in-group, in-groups, in-others, other, Missed}
+use Rattle.code.specs.Memory.{form, memoryRows, indirectRows}
+use Rattle.code.specs.Listed.{withConstant, sizeOf, formWith, absoluteRows, bankRows, flagRows, constantRows, stackRows, jumpRows, relativeRows, registerFormRows, memoryFormRows, memoryAtRows, storeFormRows, aloneRows, memoryFirstRows, rowsBegun, firstRows}
+use Rattle.code.proofs.Groups.{Missed, Below, all-above}
+use Rattle.code.proofs.Tables.{table, besides, no-arm, in-run, in-arm, in-no-arm}
 
 -- all lists, opened
 unfoldable pub first : ℕ → Said
-unfolding firstRows bankRows flagRows constantRows stackRows jumpRows relativeRows registerFormRows memoryFormRows memoryAtRows storeFormRows absoluteRows lookup
+unfolding firstRows aloneRows memoryFirstRows bankRows flagRows constantRows stackRows jumpRows relativeRows registerFormRows memoryFormRows memoryAtRows storeFormRows absoluteRows lookup
 first b = lookup firstRows b
 
-pub set-byte : (b : ℕ) → b / 8 ≡ 4 → lookup firstRows b ≡ withConstant (Set (b % 8)) Byte 1
+-- ---- which list a first byte stands in
+pub in-alone : (b : ℕ) → b < 0x80 → lookup firstRows b ≡ lookup aloneRows b
 unfolding first
-set-byte = in-group _ 4 (refl, refl, refl, refl, refl, refl, refl, refl)
+in-alone = table _ _ 0x80 refl
 
-pub set-word : (b : ℕ) → b / 8 ≡ 6 → lookup firstRows b ≡ withConstant (Set (b % 8)) Word 2
-unfolding first
-set-word = in-group _ 6 (refl, refl, refl, refl, refl, refl, refl, refl)
+abbrev pub register-groups : List ℕ
+register-groups = 25 ∷ 27 ∷ 29 ∷ []
 
-pub set-long : (b : ℕ) → b / 8 ≡ 8 → lookup firstRows b ≡ withConstant (Set (b % 8)) Long 4
-unfolding first
-set-long = in-group _ 8 (refl, refl, refl, refl, refl, refl, refl, refl)
-
-pub push-word : (b : ℕ) → b / 8 ≡ 5 → lookup firstRows b ≡ cond (ltb (b % 8) 7) (whole Push Word (Register (b % 8))) unlisted
-unfolding first
-push-word = in-group _ 5 (refl, refl, refl, refl, refl, refl, refl, refl)
-
-pub push-long : (b : ℕ) → b / 8 ≡ 7 → lookup firstRows b ≡ cond (ltb (b % 8) 7) (whole Push Long (Register (b % 8))) unlisted
-unfolding first
-push-long = in-group _ 7 (refl, refl, refl, refl, refl, refl, refl, refl)
-
-pub pop-word : (b : ℕ) → b / 8 ≡ 9 → lookup firstRows b ≡ cond (ltb (b % 8) 7) (whole Pop Word (Register (b % 8))) unlisted
-unfolding first
-pop-word = in-group _ 9 (refl, refl, refl, refl, refl, refl, refl, refl)
-
-pub pop-long : (b : ℕ) → b / 8 ≡ 11 → lookup firstRows b ≡ cond (ltb (b % 8) 7) (whole Pop Long (Register (b % 8))) unlisted
-unfolding first
-pop-long = in-group _ 11 (refl, refl, refl, refl, refl, refl, refl, refl)
-
-pub jump-short-0 : (b : ℕ) → b / 8 ≡ 12 → lookup firstRows b ≡ withConstant (Jr (b % 16)) Byte 1
-unfolding first
-jump-short-0 = in-group _ 12 (refl, refl, refl, refl, refl, refl, refl, refl)
-
-pub jump-short-1 : (b : ℕ) → b / 8 ≡ 13 → lookup firstRows b ≡ withConstant (Jr (b % 16)) Byte 1
-unfolding first
-jump-short-1 = in-group _ 13 (refl, refl, refl, refl, refl, refl, refl, refl)
-
-pub jump-long-0 : (b : ℕ) → b / 8 ≡ 14 → lookup firstRows b ≡ withConstant (Jrl (b % 16)) Byte 2
-unfolding first
-jump-long-0 = in-group _ 14 (refl, refl, refl, refl, refl, refl, refl, refl)
-
-pub jump-long-1 : (b : ℕ) → b / 8 ≡ 15 → lookup firstRows b ≡ withConstant (Jrl (b % 16)) Byte 2
-unfolding first
-jump-long-1 = in-group _ 15 (refl, refl, refl, refl, refl, refl, refl, refl)
-
-pub indirect-form : (b : ℕ) → OneOf (16 ∷ 18 ∷ 20 ∷ []) (b / 8) → lookup firstRows b ≡ byRows (indirectRows (sizeOf (8 + b / 16 % 4)) (b % 8))
+pub register-form : (b : ℕ) → OneOf register-groups (b / 8) → lookup firstRows b ≡ byRows (registerRows (sizeOf (8 + b / 16 % 4)) (Register (b % 8)))
 unfolding first sizeOf
-indirect-form = in-groups _ (16 ∷ 18 ∷ 20 ∷ []) ((refl, refl, refl, refl, refl, refl, refl, refl), ((refl, refl, refl, refl, refl, refl, refl, refl), ((refl, refl, refl, refl, refl, refl, refl, refl), tt)))
+register-form = in-arm _ _ register-groups refl
 
-pub displaced-form : (b : ℕ) → OneOf (17 ∷ 19 ∷ 21 ∷ 23 ∷ []) (b / 8) → lookup firstRows b ≡ formWith (Displaced (b % 8)) 1 (rowsAfter (eqb (b / 8) 23) (sizeOf (8 + b / 16 % 4)))
-unfolding first sizeOf
-displaced-form = in-groups _ (17 ∷ 19 ∷ 21 ∷ 23 ∷ []) ((refl, refl, refl, refl, refl, refl, refl, refl), ((refl, refl, refl, refl, refl, refl, refl, refl), ((refl, refl, refl, refl, refl, refl, refl, refl), ((refl, refl, refl, refl, refl, refl, refl, refl), tt))))
-
-pub indirect-store : (b : ℕ) → b / 8 ≡ 22 → lookup firstRows b ≡ byRows (storeRows (form (Indirect (b % 8)) 0))
+in-memory-arms : (b : ℕ) → b < 256 → Missed (register-groups ∷ Below 16) (b / 8) → lookup firstRows b ≡ lookup memoryFirstRows b
 unfolding first
-indirect-store = in-group _ 22 (refl, refl, refl, refl, refl, refl, refl, refl)
+in-memory-arms = in-no-arm _ _ (register-groups ∷ Below 16) 256 refl
 
-pub absolute-form : (b : ℕ) → OneOf (24 ∷ 26 ∷ 28 ∷ 30 ∷ []) (b / 8) → lookup firstRows b ≡ lookup (absoluteRows 0 (rowsAfter (eqb (b / 8) 30) (sizeOf (8 + b / 16 % 4)))) (b % 8)
-unfolding first sizeOf
-absolute-form = in-groups _ (24 ∷ 26 ∷ 28 ∷ 30 ∷ []) ((refl, refl, refl, refl, refl, refl, refl, refl), ((refl, refl, refl, refl, refl, refl, refl, refl), ((refl, refl, refl, refl, refl, refl, refl, refl), ((refl, refl, refl, refl, refl, refl, refl, refl), tt))))
+pub in-memory : (b : ℕ) → b < 256 → 0x80 ≤ b → (OneOf register-groups (b / 8) → ⊥) → lookup firstRows b ≡ lookup memoryFirstRows b
+in-memory b h k m = in-memory-arms b h (all-above 16 (b / 8) (omega arith), m)
 
-pub register-form : (b : ℕ) → OneOf (25 ∷ 27 ∷ 29 ∷ []) (b / 8) → lookup firstRows b ≡ byRows (registerRows (sizeOf (8 + b / 16 % 4)) (Register (b % 8)))
-unfolding first sizeOf
-register-form = in-groups _ (25 ∷ 27 ∷ 29 ∷ []) ((refl, refl, refl, refl, refl, refl, refl, refl), ((refl, refl, refl, refl, refl, refl, refl, refl), ((refl, refl, refl, refl, refl, refl, refl, refl), tt)))
-
--- the arms of the first byte's groups, last first
-abbrev pub arms : List (List ℕ)
-arms =
-    (25 ∷ 27 ∷ 29 ∷ [])
-    ∷ (24 ∷ 26 ∷ 28 ∷ 30 ∷ [])
-    ∷ (22 ∷ [])
-    ∷ (17 ∷ 19 ∷ 21 ∷ 23 ∷ [])
-    ∷ (16 ∷ 18 ∷ 20 ∷ [])
-    ∷ (15 ∷ [])
-    ∷ (14 ∷ [])
-    ∷ (13 ∷ [])
-    ∷ (12 ∷ [])
-    ∷ (11 ∷ [])
-    ∷ (9 ∷ [])
-    ∷ (8 ∷ [])
-    ∷ (7 ∷ [])
-    ∷ (6 ∷ [])
-    ∷ (5 ∷ [])
-    ∷ (4 ∷ [])
-    ∷ (3 ∷ [])
-    ∷ (2 ∷ [])
-    ∷ (1 ∷ [])
-    ∷ (0 ∷ [])
-    ∷ []
-
-pub no-first : (b : ℕ) → b < 256 → Missed arms (b / 8) → lookup firstRows b ≡ unlisted
+-- ---- 00 to 7F
+pub set-byte : (b : ℕ) → b / 8 ≡ 4 → lookup aloneRows b ≡ withConstant (Sets (b % 8)) Byte 1
 unfolding first
-no-first = in-others _ arms ((tt, (refl, refl, refl, refl, refl, refl, refl, refl)), (refl, refl, refl, refl, refl, refl, refl, refl))
+set-byte = in-arm _ _ (4 ∷ []) refl
 
--- ---- the groups whose bytes differ
-pub no-00 : (b : ℕ) → b < 16 → Missed ((0x0E ∷ []) ∷ (0x0D ∷ []) ∷ (0x0C ∷ []) ∷ (0x00 ∷ []) ∷ []) b → lookup firstRows b ≡ unlisted
+pub set-word : (b : ℕ) → b / 8 ≡ 6 → lookup aloneRows b ≡ withConstant (Sets (b % 8)) Word 2
 unfolding first
-no-00 = other _ ((0x0E ∷ []) ∷ (0x0D ∷ []) ∷ (0x0C ∷ []) ∷ (0x00 ∷ []) ∷ []) 16 ((((((((((((tt, refl), refl), refl), refl), refl), refl), refl), refl), refl), refl), refl), refl)
+set-word = in-arm _ _ (6 ∷ []) refl
 
-pub no-10 : (b : ℕ) → b / 8 ≡ 2 → Missed ((0x17 ∷ []) ∷ (0x16 ∷ []) ∷ (0x13 ∷ []) ∷ (0x12 ∷ []) ∷ (0x11 ∷ []) ∷ (0x10 ∷ []) ∷ []) b → lookup firstRows b ≡ unlisted
+pub set-long : (b : ℕ) → b / 8 ≡ 8 → lookup aloneRows b ≡ withConstant (Sets (b % 8)) Long 4
 unfolding first
-no-10 =
-    in-group _ 2
-    (λ m. absurd (m .0 .0 .0 .0 .0 .1 refl), λ m. absurd (m .0 .0 .0 .0 .1 refl), λ m. absurd (m .0 .0 .0 .1 refl), λ m. absurd (m .0 .0 .1 refl), λ m. refl, λ m. refl, λ m. absurd (m .0 .1 refl), λ m. absurd (m .1 refl))
+set-long = in-arm _ _ (8 ∷ []) refl
 
-pub no-18 : (b : ℕ) → b / 8 ≡ 3 → Missed ((0x1E ∷ []) ∷ (0x1D ∷ []) ∷ (0x1C ∷ []) ∷ (0x1B ∷ []) ∷ (0x1A ∷ []) ∷ (0x19 ∷ []) ∷ (0x18 ∷ []) ∷ []) b → lookup firstRows b ≡ unlisted
+pub push-word : (b : ℕ) → b / 8 ≡ 5 → lookup aloneRows b ≡ cond (ltb (b % 8) 7) (whole (Stacks Push) Word (Register (b % 8))) unlisted
 unfolding first
-no-18 =
-    in-group _ 3
-    (λ m. absurd (m .0 .0 .0 .0 .0 .0 .1 refl), λ m. absurd (m .0 .0 .0 .0 .0 .1 refl), λ m. absurd (m .0 .0 .0 .0 .1 refl), λ m. absurd (m .0 .0 .0 .1 refl), λ m. absurd (m .0 .0 .1 refl), λ m. absurd (m .0 .1 refl), λ m. absurd (m .1 refl), λ m. refl)
+push-word = in-arm _ _ (5 ∷ []) refl
+
+pub push-long : (b : ℕ) → b / 8 ≡ 7 → lookup aloneRows b ≡ cond (ltb (b % 8) 7) (whole (Stacks Push) Long (Register (b % 8))) unlisted
+unfolding first
+push-long = in-arm _ _ (7 ∷ []) refl
+
+pub pop-word : (b : ℕ) → b / 8 ≡ 9 → lookup aloneRows b ≡ cond (ltb (b % 8) 7) (whole (Stacks Pop) Word (Register (b % 8))) unlisted
+unfolding first
+pop-word = in-arm _ _ (9 ∷ []) refl
+
+pub pop-long : (b : ℕ) → b / 8 ≡ 11 → lookup aloneRows b ≡ cond (ltb (b % 8) 7) (whole (Stacks Pop) Long (Register (b % 8))) unlisted
+unfolding first
+pop-long = in-arm _ _ (11 ∷ []) refl
+
+jump-60 : (b : ℕ) → 0x60 ≤ b → b < 0x70 → lookup aloneRows b ≡ withConstant (Controls (Jr (b % 16))) Byte 1
+unfolding first
+jump-60 = in-run _ _ 0x60 0x10 refl
+
+pub jump-short : (b : ℕ) → 11 ≤ b / 8 → (b / 8 ≡ 11 → ⊥) → b / 8 < 14 → lookup aloneRows b ≡ withConstant (Controls (Jr (b % 16))) Byte 1
+jump-short b h m k = jump-60 b (omega arith) (omega arith)
+
+pub jump-long : (b : ℕ) → 0x70 ≤ b → b < 0x80 → lookup aloneRows b ≡ withConstant (Controls (Jrl (b % 16))) Byte 2
+unfolding first
+jump-long = in-run _ _ 0x70 0x10 refl
+
+-- the arms below 12 after 0 and 1, last first
+abbrev alone-arms : List (List ℕ)
+alone-arms = (11 ∷ []) ∷ (9 ∷ []) ∷ (8 ∷ []) ∷ (7 ∷ []) ∷ (6 ∷ []) ∷ (5 ∷ []) ∷ (4 ∷ []) ∷ (3 ∷ []) ∷ (2 ∷ []) ∷ []
+
+low-arms : (b : ℕ) → b < 0x58 → Missed ((1 ∷ []) ∷ (0 ∷ []) ∷ alone-arms) (b / 8) → lookup aloneRows b ≡ unlisted
+unfolding first
+low-arms = in-no-arm _ (λ b. unlisted) ((1 ∷ []) ∷ (0 ∷ []) ∷ alone-arms) 0x58 refl
+
+below-58 : (b : ℕ) → b / 8 < 11 → b < 0x58
+below-58 b h = omega arith
+
+pub no-low : (b : ℕ) → 2 ≤ b / 8 → b / 8 < 11 → Missed alone-arms (b / 8) → lookup aloneRows b ≡ unlisted
+no-low b l h m = let a = all-above 2 (b / 8) l in low-arms b (below-58 b h) ((m, a .0 .1), a .1)
+
+pub no-high : (b : ℕ) → 0x80 ≤ b → b < 0x100 → lookup aloneRows b ≡ unlisted
+unfolding first
+no-high = in-run _ (λ b. unlisted) 0x80 0x80 refl
+
+-- the groups whose bytes differ
+abbrev arms-00 : List (List ℕ)
+arms-00 = (0x0E ∷ []) ∷ (0x0D ∷ []) ∷ (0x0C ∷ []) ∷ (0x00 ∷ []) ∷ []
+
+abbrev arms-10 : List (List ℕ)
+arms-10 = (0x17 ∷ []) ∷ (0x16 ∷ []) ∷ (0x13 ∷ []) ∷ (0x12 ∷ []) ∷ (0x11 ∷ []) ∷ (0x10 ∷ []) ∷ []
+
+abbrev arms-18 : List (List ℕ)
+arms-18 = (0x1E ∷ []) ∷ (0x1D ∷ []) ∷ (0x1C ∷ []) ∷ (0x1B ∷ []) ∷ (0x1A ∷ []) ∷ (0x19 ∷ []) ∷ (0x18 ∷ []) ∷ []
+
+-- what no arm has, and unlisted for what an arm has
+abbrev left : List (List ℕ) → ℕ → Said
+left kss b = besides kss b (lookup aloneRows b) unlisted
+
+pub no-00 : (b : ℕ) → b < 16 → Missed arms-00 b → lookup aloneRows b ≡ unlisted
+unfolding first
+no-00 b h = no-arm arms-00 b _ _ (table (left arms-00) (λ b. unlisted) 16 refl b h)
+
+pub no-10 : (b : ℕ) → b / 8 ≡ 2 → Missed arms-10 b → lookup aloneRows b ≡ unlisted
+unfolding first
+no-10 b h = no-arm arms-10 b _ _ (in-arm (left arms-10) (λ b. unlisted) (2 ∷ []) refl b h)
+
+pub no-18 : (b : ℕ) → b / 8 ≡ 3 → Missed arms-18 b → lookup aloneRows b ≡ unlisted
+unfolding first
+no-18 b h = no-arm arms-18 b _ _ (in-arm (left arms-18) (λ b. unlisted) (3 ∷ []) refl b h)
+
+-- ---- memory forms, and the rows of the byte after each
+pub indirect-form : (b : ℕ) → OneOf (16 ∷ 18 ∷ 20 ∷ 22 ∷ []) (b / 8) → lookup memoryFirstRows b ≡ byRows (rowsBegun b (form (Indirect (b % 8)) 0))
+unfolding first sizeOf rowsBegun indirectRows
+indirect-form = in-arm _ _ (16 ∷ 18 ∷ 20 ∷ 22 ∷ []) refl
+
+pub displaced-form : (b : ℕ) → OneOf (17 ∷ 19 ∷ 21 ∷ 23 ∷ []) (b / 8) → lookup memoryFirstRows b ≡ formWith (Displaced (b % 8)) 1 (rowsBegun b)
+unfolding first sizeOf rowsBegun memoryRows
+displaced-form = in-arm _ _ (17 ∷ 19 ∷ 21 ∷ 23 ∷ []) refl
+
+pub absolute-form : (b : ℕ) → OneOf (24 ∷ 26 ∷ 28 ∷ 30 ∷ []) (b / 8) → lookup memoryFirstRows b ≡ lookup (absoluteRows 0 (rowsBegun b)) (b % 8)
+unfolding first sizeOf rowsBegun memoryRows
+absolute-form = in-arm _ _ (24 ∷ 26 ∷ 28 ∷ 30 ∷ []) refl
+
+-- an address of one, two or three bytes only
+pub no-absolute : (rows : Operand → List Row) (k : ℕ) → Missed (Below 3) k → lookup (absoluteRows 0 rows) k ≡ unlisted
+unfolding absoluteRows lookup
+no-absolute rows k m = rw (ne-eqb k 0 (m .0 .0 .1), ne-eqb k 1 (m .0 .1), ne-eqb k 2 (m .1))
+
+-- the arms, last first
+abbrev pub memory-arms : List (List ℕ)
+memory-arms = (24 ∷ 26 ∷ 28 ∷ 30 ∷ []) ∷ (17 ∷ 19 ∷ 21 ∷ 23 ∷ []) ∷ (16 ∷ 18 ∷ 20 ∷ 22 ∷ []) ∷ []
+
+pub no-memory : (b : ℕ) → b < 256 → Missed memory-arms (b / 8) → lookup memoryFirstRows b ≡ unlisted
+unfolding first
+no-memory = in-no-arm _ (λ b. unlisted) memory-arms 256 refl

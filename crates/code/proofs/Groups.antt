@@ -1,6 +1,6 @@
 -- Bytes in groups of eight: what is computed at each byte of a group holds of any byte in it.
 use Prim.Native.Nat.{ℕ, zero, suc, _+_, _*_, _/_, _%_, _≤_, _<_}
-use mathlib.Core.Path.{_≡_, refl, sym, subst}
+use mathlib.Core.Path.{_≡_, refl, subst}
 use mathlib.Core.Bool.{Bool, true, false, _||_}
 use mathlib.Core.List.{List, [], _∷_}
 use mathlib.Core.Logic.{_⊎_, inl, inr}
@@ -38,17 +38,6 @@ in-group P k e b h =
     let q : 8 * k + b % 8 ≡ b = omega arith in
     subst P q (place P k e (b % 8) (omega arith))
 
--- in one of several groups
-abbrev pub Groups : (ℕ → Type 0) → List ℕ → Type 0
-Groups P [] = Unit {0}
-Groups P (k ∷ ks) = Eight P k × Groups P ks
-
-pub in-groups : (P : ℕ → Type 0) (ks : List ℕ) → Groups P ks → (b : ℕ) → OneOf ks (b / 8) → P b
-in-groups P [] g b h = absurd h
-in-groups P (k ∷ []) g b h = in-group P k (g .0) b h
-in-groups P (k ∷ k′ ∷ ks) g b (inl h) = in-group P k (g .0) b h
-in-groups P (k ∷ k′ ∷ ks) g b (inr h) = in-groups P (k′ ∷ ks) (g .1) b h
-
 -- ---- the numbers that no arm of a `match` has; its arms are written last first
 abbrev pub Missed : List (List ℕ) → ℕ → Type 0
 Missed [] x = Unit {0}
@@ -58,20 +47,11 @@ abbrev pub matched : List (List ℕ) → ℕ → Bool
 matched [] x = false
 matched (ks ∷ kss) x = hasKey ks x || matched kss x
 
-abbrev pub besides : Bool → Type 0 → Type 0 → Type 0
-besides true o e = o
-besides false o e = o × e
-
--- at each number below n that no arm has
-abbrev pub Others : (ℕ → Type 0) → List (List ℕ) → ℕ → Type 0
-Others Q kss zero = Unit {0}
-Others Q kss (suc k) = besides (matched kss k) (Others Q kss k) (Q k)
-
 or-cases : (a b : Bool) → a || b ≡ true → (T a) ⊎ (b ≡ true)
 or-cases true b e = inl tt
 or-cases false b e = inr e
 
-not-both : (kss : List (List ℕ)) (x : ℕ) → Missed kss x → matched kss x ≡ true → ⊥
+pub not-both : (kss : List (List ℕ)) (x : ℕ) → Missed kss x → matched kss x ≡ true → ⊥
 not-both [] x m e = let z : _≡_ {A = ℕ} 0 1 = cc in omega arith
 not-both (ks ∷ kss) x m e = elim (or-cases (hasKey ks x) (matched kss x) e) [ inl t ↦ m .1 (hit ks x t) | inr f ↦ not-both kss x (m .0) f ]
 
@@ -82,21 +62,6 @@ same-or-not x y = go (eqb x y) refl
     go true e = inl (eqb-true x y e)
     go false e = inr (eqb-false x y e)
 
--- k is an arm's, or it is x, or x is below it
-one-more :
-    (Q : ℕ → Type 0) (kss : List (List ℕ)) (k x : ℕ) → Missed kss x → ((x ≡ k → ⊥) → Others Q kss k → Q x) →
-    (t : Bool) → matched kss k ≡ t → besides t (Others Q kss k) (Q k) → Q x
-one-more Q kss k x m below true e o = below (λ q. not-both kss k (subst (λ (y : ℕ). Missed kss y) q m) e) o
-one-more Q kss k x m below false e o = elim (same-or-not x k) [ inl q ↦ subst Q (sym q) (o .1) | inr d ↦ below d (o .0) ]
-
-pub other : (Q : ℕ → Type 0) (kss : List (List ℕ)) (n : ℕ) → Others Q kss n → (x : ℕ) → x < n → Missed kss x → Q x
-other Q kss zero o x h m = let z : ⊥ = omega arith in absurd z
-other Q kss (suc k) o x h m = one-more Q kss k x m (λ d below. other Q kss k below x (omega arith) m) (matched kss k) refl o
-
--- in a group that no arm has
-pub in-others : (P : ℕ → Type 0) (kss : List (List ℕ)) → Others (Eight P) kss 32 → (b : ℕ) → b < 256 → Missed kss (b / 8) → P b
-in-others P kss o b h m = in-group P (b / 8) (other (Eight P) kss 32 o (b / 8) (omega arith) m) b refl
-
 -- a `match` with the arms 0, 1 .. up to a number
 abbrev pub Below : ℕ → List (List ℕ)
 Below zero = []
@@ -105,3 +70,7 @@ Below (suc k) = (k ∷ []) ∷ Below k
 pub none-below : (k x : ℕ) → Missed (Below k) x → k ≤ x
 none-below zero x m = omega arith
 none-below (suc k) x m = let h : k ≤ x = none-below k x (m .0) in let d : x ≡ k → ⊥ = m .1 in omega arith
+
+pub all-above : (k x : ℕ) → k ≤ x → Missed (Below k) x
+all-above zero x h = tt
+all-above (suc k) x h = (all-above k x (omega arith), λ e. omega arith)

@@ -8,11 +8,11 @@ use borrow.Author.Tests.{ltb-true, eqb-true, lt-ltb, eq-eqb}
 use Rattle.code.specs.Range.{Range, never, always, _below_, _equals_, _and_, _or_, Holds, holds}
 
 -- ---- a test of two parts
-both-true : (a b : Bool) → a && b ≡ true → (a ≡ true) × (b ≡ true)
+pub both-true : (a b : Bool) → a && b ≡ true → (a ≡ true) × (b ≡ true)
 both-true true b e = (refl, e)
 both-true false b e = let z : _≡_ {A = ℕ} 0 1 = cc in let y : ⊥ = omega arith in absurd y
 
-either-true : (a b : Bool) → a || b ≡ true → (a ≡ true) ⊎ (b ≡ true)
+pub either-true : (a b : Bool) → a || b ≡ true → (a ≡ true) ⊎ (b ≡ true)
 either-true true b e = inl refl
 either-true false b e = inr e
 

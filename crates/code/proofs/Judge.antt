@@ -18,7 +18,7 @@ use Rattle.code.specs.declared.Found.{Found}
 use Rattle.code.specs.declared.Found.the-variants.{Value, Missing}
 use Rattle.code.specs.declared.Decoded.{Decoded}
 use Rattle.code.specs.declared.Decoded.the-variants.{Short, Unlisted}
-use Rattle.code.specs.Said.{Said, whole, next, number, judge, numberAt, withFound, foundOr0, wholeOf}
+use Rattle.code.specs.Said.{Said, whole, next, number, judge, numberAt, wholeOf}
 use Rattle.code.specs.Rows.{run, _⇒_, lookup, byRows}
 
 module _ (f : ℕ → Said) (s : List ℕ) (i : ℕ) where
@@ -80,18 +80,12 @@ bytes-bounds Byte n e = omega arith
 bytes-bounds Word n e = omega arith
 bytes-bounds Long n e = omega arith
 
-with-value : (f : Found) (k : ℕ → Decoded) → withFound f (λ v. k (foundOr0 f)) ≡ withFound f k
-with-value (Value v) k = refl
-with-value Missing k = refl
-
--- an instruction with a number in it, which was looked for and found or not
-pub with-number :
-    (op : ℕ → Op) (z : Size) (o : ℕ → Operand) (s : List ℕ) (i n v l : ℕ) (f : Found) (d : Decoded) →
-    f ≡ numberAt s i n → v ≡ foundOr0 f → l ≡ i + n → d ≡ withFound f (λ w. wholeOf (op v) z (o v) l) →
-    d ≡ judge (number n (λ w. whole (op w) z (o w))) s i
+-- an instruction with a number in it that was looked for and found
+pub number-whole :
+    (op : ℕ → Op) (z : Size) (o : ℕ → Operand) (s : List ℕ) (i n v : ℕ) (f : Found) (d : Decoded) →
+    f ≡ numberAt s i n → f ≡ Value v → d ≡ wholeOf (op v) z (o v) (i + n) → d ≡ judge (number n (λ w. whole (op w) z (o w))) s i
 unfolding judge
-with-number op z o s i n v l f d e g h k =
-    k ∙ rw (← e, g, h) (with-value f (λ w. wholeOf (op w) z (o w) (i + n)))
+number-whole op z o s i n v f d e g h = rw (← e, g) h
 
 -- what follows a number that was looked for
 module _ (k : ℕ → Said) (s : List ℕ) (i n : ℕ) where
@@ -102,10 +96,3 @@ module _ (k : ℕ → Said) (s : List ℕ) (i n : ℕ) where
   pub number-short : (f : Found) → f ≡ numberAt s i n → f ≡ Missing → Short ≡ judge (number n k) s i
   unfolding judge
   number-short f e g = rw (← e, g)
-
-  -- the same of a number whose bytes are known to be there or not
-  pub number-read : (v : ℕ) (d : Decoded) → i + n ≤ length s → v ≡ valueOf (take n (drop i s)) → d ≡ judge (k v) s (i + n) → d ≡ judge (number n k) s i
-  number-read v d h e q = number-then v (Value v) d (number-there s i n v h e) refl q
-
-  pub number-lacks : length s < i + n → Short ≡ judge (number n k) s i
-  number-lacks h = number-short Missing (number-missing s i n h) refl

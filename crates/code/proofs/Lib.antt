@@ -1,4 +1,5 @@
 pub mod Groups
+pub mod Tables
 pub mod Judge
 pub mod FirstRows
 pub mod RegisterRows
@@ -6,13 +7,11 @@ pub mod MemoryRows
 pub mod BlockRows
 pub mod Prefix
 pub mod AllRows
-pub mod Every
-pub mod Ranges
+pub mod RowBytes
+pub mod Walk
+pub mod Walked
 pub mod Begins
-pub mod Keeps
-pub mod Kept
 pub mod Holds
-pub mod Tables
 pub mod Says
 pub mod EachByte
 pub mod ReadsBack

@@ -12,7 +12,15 @@ use Rattle.little.specs.declared.Size.{Size}
 use Rattle.little.specs.declared.Size.the-variants.{Byte, Word, Long}
 use Rattle.code.specs.declared.Form.{Form}
 use Rattle.code.specs.declared.Op.{Op}
-use Rattle.code.specs.declared.Op.the-variants.{Nop, Incf, Decf, Ldf, Rcf, Scf, Ccf, Zcf, Exf, PushF, PopF, Set, Push, Pop, Jp16, Jp24, Call16, Call24, Calr, Ret, Jr, Jrl, LoadConstant, Load, Into, Compute, ComputeInto, ComputeConstant, Inc, Dec, Shifted, Extz, Exts, Store, Block}
+use Rattle.code.specs.declared.Op.the-variants.{Controls, Stacks, Puts, Sets, Blocks}
+use Rattle.code.specs.declared.Control.{Control}
+use Rattle.code.specs.declared.Control.the-variants.{Nop, Incf, Decf, Ldf, Rcf, Scf, Ccf, Zcf, Exf, Jp16, Jp24, Jr, Jrl}
+use Rattle.code.specs.declared.Stack.{Stack}
+use Rattle.code.specs.declared.Stack.the-variants.{PushF, PopF, Push, Pop, Call16, Call24, Calr, Ret}
+use Rattle.code.specs.declared.Use.{Use}
+use Rattle.code.specs.declared.Use.the-variants.{Number, From, Load, Compute, Inc, Dec, Shifted, Extz, Exts}
+use Rattle.code.specs.declared.Side.{Side}
+use Rattle.code.specs.declared.Side.the-variants.{First, Second, With}
 use Rattle.code.specs.declared.Base.{Base}
 use Rattle.code.specs.declared.Base.the-variants.{Indirect, Displaced, Absolute8, Absolute16, Absolute24}
 use Rattle.code.specs.declared.Operand.{Operand}
@@ -22,8 +30,9 @@ use Rattle.code.specs.Rows.{Row, byRows}
 use Rattle.code.specs.Registers.{registerRows, placesRows}
 use Rattle.code.specs.Memory.{form, memoryRows, storeRows}
 use Rattle.code.specs.Listed.{alone, withConstant, bankNumberRows, firstRows}
-use Rattle.code.specs.Range.{Holds, InRange, onlyByte, noLong, aloneRange, pointerRange, constantBelow, registerBelow, baseRange, memoryRange, placeRange, blockRange}
-use Rattle.code.specs.Written.{codeOf, placeCode, baseCode, sizeStep, arithNumber, shiftNumber, blockCode, constantIn, registerIn}
+use Rattle.alu.specs.declared.Arith.{Arith}
+use Rattle.code.specs.Range.{Holds, InRange, controlRange, stackRange, sideRange, useRange, onlyByte, noLong, aloneRange, pointerRange, constantBelow, registerBelow, baseRange, memoryRange, placeRange, blockRange}
+use Rattle.code.specs.Written.{codeOf, controlCode, stackCode, sideCode, useCode, placeCode, baseCode, sizeStep, arithNumber, shiftNumber, blockCode, constantIn, registerIn}
 use Rattle.code.proofs.FirstRows.{first}
 use Rattle.code.proofs.Says.{Says, Lists, byte, value, next}
 use Rattle.code.proofs.EachByte.{set, push, pop, short-jump, long-jump, bank-number, register-form, load-constant, load, into, compute, compute-constant, inc, dec, shift, places, extz, exts, moreRows, rowsOf, indirect, displaced, absolute-8, absolute-16, absolute-24, load-memory, compute-memory, compute-into, indirect-store, displaced-store, absolute-store, store, block-byte}
@@ -60,13 +69,13 @@ on-byte P n f Long o h = absurd (h .0)
 is-alone : (op : Op) (b : ℕ) → Lists firstRows b (alone op) → (z : Size) (o : Operand) → Holds (aloneRange z o) → Is (b ∷ []) op z o
 is-alone op b e = on-byte _ 1 (λ v h. let q : v ≡ 0 = omega arith in rw q (byte firstRows b e))
 
-is-bank : Lists firstRows 0x17 (byRows bankNumberRows) → (z : Size) (o : Operand) → Holds (onlyByte z) × Holds (constantBelow 4 o) → Is (0x17 ∷ constantIn o ∷ []) Ldf z o
+is-bank : Lists firstRows 0x17 (byRows bankNumberRows) → (z : Size) (o : Operand) → Holds (onlyByte z) × Holds (constantBelow 4 o) → Is (0x17 ∷ constantIn o ∷ []) (Controls Ldf) z o
 is-bank e = on-byte _ 4 (λ n h. next (byte firstRows 0x17 e) (byte bankNumberRows n (bank-number n h)))
 
 is-jump : (op : Op) (b n : ℕ) → Lists firstRows b (withConstant op Byte n) → (z : Size) (o : Operand) → Holds (onlyByte z) × Holds (constantBelow (256 ^ n) o) → Is (b ∷ bytesFrom n (constantIn o)) op z o
 is-jump op b n e = on-byte _ (256 ^ n) (λ v h. next (byte firstRows b e) (value n v h))
 
-is-set : (r : ℕ) → r < 8 → (z : Size) (o : Operand) → Holds (constantBelow (256 ^ bytesOf z) o) → Is ((0x20 + sizeStep z + r) ∷ bytesFrom (bytesOf z) (constantIn o)) (Set r) z o
+is-set : (r : ℕ) → r < 8 → (z : Size) (o : Operand) → Holds (constantBelow (256 ^ bytesOf z) o) → Is ((0x20 + sizeStep z + r) ∷ bytesFrom (bytesOf z) (constantIn o)) (Sets r) z o
 is-set r l z = on-constant _ (256 ^ bytesOf z) (λ v h. next (byte firstRows (0x20 + sizeStep z + r) (set z r l)) (value (bytesOf z) v h))
 
 is-pushed : (op : Op) (z : Size) (c : ℕ) → ((r : ℕ) → r < 7 → Lists firstRows (c + r) (whole op z (Register r))) → (o : Operand) → Holds (registerBelow 7 o) → Is ((c + registerIn o) ∷ []) op z o
@@ -136,7 +145,7 @@ pointer-below true to from (inl p) = omega arith
 pointer-below true to from (inr p) = omega arith
 pointer-below false to from p = omega arith
 
-is-block : (f : Form) (z : Size) (base : Base) (v : ℕ) → Holds (blockRange f z (form base v)) → Is (baseCode (sizeStep z) base v ++ (blockCode (f .copies) (f .up) (f .again) ∷ [])) (Block f) z (form base v)
+is-block : (f : Form) (z : Size) (base : Base) (v : ℕ) → Holds (blockRange f z (form base v)) → Is ((0x80 + sizeStep z + f .from) ∷ blockCode (f .copies) (f .up) (f .again) ∷ []) (Blocks f) z (form base v)
 is-block f z (Indirect r) v h =
     let e : f .size ≡ z = sym (size-back (f .size)) ∙ (ap size-of-bytes (h .1 .1 .0) ∙ size-back z) in
     let l : Holds (noLong (f .size)) = subst (λ (y : Size). Holds (noLong y)) (sym e) (h .1 .0) in
@@ -149,45 +158,60 @@ is-block f z Absolute8 v h = absurd (h .1 .1 .1 .0)
 is-block f z Absolute16 v h = absurd (h .1 .1 .1 .0)
 is-block f z Absolute24 v h = absurd (h .1 .1 .1 .0)
 
--- ---- every operation
+-- ---- every operation, by the kind of work
+of-control : (what : Control) (z : Size) (o : Operand) → Holds (controlRange what z o) → Is (controlCode what o) (Controls what) z o
+unfolding first
+of-control Nop z o h = is-alone (Controls Nop) 0x00 refl z o h
+of-control Incf z o h = is-alone (Controls Incf) 0x0C refl z o h
+of-control Decf z o h = is-alone (Controls Decf) 0x0D refl z o h
+of-control Ldf z o h = is-bank refl z o h
+of-control Rcf z o h = is-alone (Controls Rcf) 0x10 refl z o h
+of-control Scf z o h = is-alone (Controls Scf) 0x11 refl z o h
+of-control Ccf z o h = is-alone (Controls Ccf) 0x12 refl z o h
+of-control Zcf z o h = is-alone (Controls Zcf) 0x13 refl z o h
+of-control Exf z o h = is-alone (Controls Exf) 0x16 refl z o h
+of-control Jp16 z o h = is-jump (Controls Jp16) 0x1A 2 refl z o h
+of-control Jp24 z o h = is-jump (Controls Jp24) 0x1B 3 refl z o h
+of-control (Jr cc) z o h = is-jump (Controls (Jr cc)) (0x60 + cc) 1 (short-jump cc (h .0)) z o (h .1)
+of-control (Jrl cc) z o h = is-jump (Controls (Jrl cc)) (0x70 + cc) 2 (long-jump cc (h .0)) z o (h .1)
+
+of-stack : (what : Stack) (z : Size) (o : Operand) → Holds (stackRange what z o) → Is (stackCode what z o) (Stacks what) z o
+unfolding first
+of-stack PushF z o h = is-alone (Stacks PushF) 0x18 refl z o h
+of-stack PopF z o h = is-alone (Stacks PopF) 0x19 refl z o h
+of-stack Push z o h = is-pushed (Stacks Push) z (0x18 + sizeStep z) (push z (h .0)) o (h .1)
+of-stack Pop z o h = is-pushed (Stacks Pop) z (0x38 + sizeStep z) (pop z (h .0)) o (h .1)
+of-stack Call16 z o h = is-jump (Stacks Call16) 0x1C 2 refl z o h
+of-stack Call24 z o h = is-jump (Stacks Call24) 0x1D 3 refl z o h
+of-stack Calr z o h = is-jump (Stacks Calr) 0x1E 2 refl z o h
+of-stack Ret z o h = is-alone (Stacks Ret) 0x0E refl z o h
+
+of-side : (a : Arith) (other : Side) (z : Size) (o : Operand) → Holds (sideRange other z o) → Is (placeCode (sizeStep z) o ++ sideCode a other z) (Puts (Compute a other)) z o
+of-side a (First r) z o h = place-byte z o (0x80 + 16 * arithNumber a + r) (h .1) (compute z o a r (h .0)) (λ more. compute-memory z o more a r (h .0))
+of-side a (Second r) z o h = memory-byte z o (0x88 + 16 * arithNumber a + r) (h .1) (λ more. compute-into z o more a r (h .0))
+of-side a (With n) z o h = register-constant z o (0xC8 + arithNumber a) n (h .1) (h .0) (compute-constant z o a)
+
+of-use : (how : Use) (z : Size) (o : Operand) → Holds (useRange how z o) → Is (useCode how z o) (Puts how) z o
+of-use (Number n) z o h = register-constant z o 0x03 n (h .1) (h .0) (load-constant z o)
+of-use (From r) z (Register n) h = register-byte z (Register n) (0x98 + r) (h .1) (into z (Register n) r (h .0))
+of-use (From r) z (Constant v) h = absurd (h .1)
+of-use (From r) z (Memory m) h = after-store (Memory m) (h .1) (byte (storeRows (Memory m)) (0x40 + sizeStep z + r) (store (Memory m) z r (h .0)))
+of-use (Load r) z (Register n) h = register-byte z (Register n) (0x88 + r) (h .1) (load z (Register n) r (h .0))
+of-use (Load r) z (Constant v) h = absurd (h .1)
+of-use (Load r) z (Memory m) h = memory-byte z (Memory m) (0x20 + r) (h .1) (λ more. load-memory z (Memory m) more r (h .0))
+of-use (Compute a other) z o h = of-side a other z o h
+of-use (Inc n) z o h = register-byte z o (0x60 + n) (h .1) (inc z o n (h .0))
+of-use (Dec n) z o h = register-byte z o (0x68 + n) (h .1) (dec z o n (h .0))
+of-use (Shifted t n) z o h = after-register z o (h .1) (next (byte (registerRows z o) (0xEC + shiftNumber t) (shift z o t)) (byte (placesRows z o t) n (places z o t n (h .0))))
+of-use Extz z o h = register-byte z o 0x12 (h .1) (extz z o (h .0))
+of-use Exts z o h = register-byte z o 0x13 (h .1) (exts z o (h .0))
+
 pub reads : (op : Op) (z : Size) (o : Operand) → InRange op z o → Is (codeOf op z o) op z o
-unfolding first codeOf
-reads Nop z o h = is-alone Nop 0x00 refl z o h
-reads Incf z o h = is-alone Incf 0x0C refl z o h
-reads Decf z o h = is-alone Decf 0x0D refl z o h
-reads Ldf z o h = is-bank refl z o h
-reads Rcf z o h = is-alone Rcf 0x10 refl z o h
-reads Scf z o h = is-alone Scf 0x11 refl z o h
-reads Ccf z o h = is-alone Ccf 0x12 refl z o h
-reads Zcf z o h = is-alone Zcf 0x13 refl z o h
-reads Exf z o h = is-alone Exf 0x16 refl z o h
-reads PushF z o h = is-alone PushF 0x18 refl z o h
-reads PopF z o h = is-alone PopF 0x19 refl z o h
-reads (Set r) z o h = is-set r (h .0) z o (h .1)
-reads Push z o h = is-pushed Push z (0x18 + sizeStep z) (push z (h .0)) o (h .1)
-reads Pop z o h = is-pushed Pop z (0x38 + sizeStep z) (pop z (h .0)) o (h .1)
-reads Jp16 z o h = is-jump Jp16 0x1A 2 refl z o h
-reads Jp24 z o h = is-jump Jp24 0x1B 3 refl z o h
-reads Call16 z o h = is-jump Call16 0x1C 2 refl z o h
-reads Call24 z o h = is-jump Call24 0x1D 3 refl z o h
-reads Calr z o h = is-jump Calr 0x1E 2 refl z o h
-reads Ret z o h = is-alone Ret 0x0E refl z o h
-reads (Jr cc) z o h = is-jump (Jr cc) (0x60 + cc) 1 (short-jump cc (h .0)) z o (h .1)
-reads (Jrl cc) z o h = is-jump (Jrl cc) (0x70 + cc) 2 (long-jump cc (h .0)) z o (h .1)
-reads (LoadConstant n) z o h = register-constant z o 0x03 n (h .1) (h .0) (load-constant z o)
-reads (Load r) z (Register n) h = register-byte z (Register n) (0x88 + r) (h .1) (load z (Register n) r (h .0))
-reads (Load r) z (Constant v) h = absurd (h .1)
-reads (Load r) z (Memory m) h = memory-byte z (Memory m) (0x20 + r) (h .1) (λ more. load-memory z (Memory m) more r (h .0))
-reads (Into r) z o h = register-byte z o (0x98 + r) (h .1) (into z o r (h .0))
-reads (Compute a r) z o h = place-byte z o (0x80 + 16 * arithNumber a + r) (h .1) (compute z o a r (h .0)) (λ more. compute-memory z o more a r (h .0))
-reads (ComputeInto a r) z o h = memory-byte z o (0x88 + 16 * arithNumber a + r) (h .1) (λ more. compute-into z o more a r (h .0))
-reads (ComputeConstant a n) z o h = register-constant z o (0xC8 + arithNumber a) n (h .1) (h .0) (compute-constant z o a)
-reads (Inc n) z o h = register-byte z o (0x60 + n) (h .1) (inc z o n (h .0))
-reads (Dec n) z o h = register-byte z o (0x68 + n) (h .1) (dec z o n (h .0))
-reads (Shifted t n) z o h = after-register z o (h .1) (next (byte (registerRows z o) (0xEC + shiftNumber t) (shift z o t)) (byte (placesRows z o t) n (places z o t n (h .0))))
-reads Extz z o h = register-byte z o 0x12 (h .1) (extz z o (h .0))
-reads Exts z o h = register-byte z o 0x13 (h .1) (exts z o (h .0))
-reads (Store r) z o h = after-store o (h .1) (byte (storeRows o) (0x40 + sizeStep z + r) (store o z r (h .0)))
-reads (Block f) z (Register r) h = absurd (h .1 .1 .1)
-reads (Block f) z (Constant v) h = absurd (h .1 .1 .1)
-reads (Block f) z (Memory m) h = is-block f z (m .base) (m .number) h
+unfolding codeOf
+reads (Controls what) z o h = of-control what z o h
+reads (Stacks what) z o h = of-stack what z o h
+reads (Puts how) z o h = of-use how z o h
+reads (Sets r) z o h = is-set r (h .0) z o (h .1)
+reads (Blocks f) z (Register r) h = absurd (h .1 .1 .1)
+reads (Blocks f) z (Constant v) h = absurd (h .1 .1 .1)
+reads (Blocks f) z (Memory m) h = is-block f z (m .base) (m .number) h

@@ -5,41 +5,41 @@ use native.Mathlib.Omega.{arith}
 use mathlib.Core.List.{List, [], _∷_}
 use types.Run.{OneOf}
 use Rattle.little.specs.declared.Size.{Size}
-use Rattle.little.specs.declared.Size.the-variants.{Word, Long}
-use Rattle.code.specs.declared.Op.the-variants.{Load, Into, Compute, ComputeConstant, Inc, Dec}
-use Rattle.code.specs.declared.Op.{Op}
+use Rattle.code.specs.declared.Op.the-variants.{Puts}
+use Rattle.code.specs.declared.Use.the-variants.{From, Load, Compute, Inc, Dec}
+use Rattle.code.specs.declared.Side.the-variants.{First, With}
 use Rattle.code.specs.declared.Operand.{Operand}
-use Rattle.code.specs.declared.Decoded.{Decoded}
-use Rattle.code.specs.Said.{whole, unlisted, number, judge, wholeOf}
+use Rattle.code.specs.Said.{whole, unlisted, number}
 use Rattle.code.specs.Rows.{lookup, byRows}
-use Rattle.code.specs.Registers.{registerRows, placesRows, arithOf, shiftKind, notByte}
+use Rattle.code.specs.Registers.{registerRows, placesRows, arithOf, shiftKind}
 use Rattle.little.specs.Width.{bytesOf}
-use Rattle.code.proofs.Groups.{in-group, in-groups, in-others, Missed}
+use Rattle.code.proofs.Groups.{in-group, Missed}
+use Rattle.code.proofs.Tables.{in-arm, in-no-arm}
 
 module _ (z : Size) (o : Operand) where
-  pub inc : (b : ℕ) → b / 8 ≡ 12 → lookup (registerRows z o) b ≡ whole (Inc (b % 8)) z o
+  pub inc : (b : ℕ) → b / 8 ≡ 12 → lookup (registerRows z o) b ≡ whole (Puts (Inc (b % 8))) z o
   unfolding registerRows lookup
-  inc = in-group _ 12 (refl, refl, refl, refl, refl, refl, refl, refl)
+  inc = in-arm _ _ (12 ∷ []) refl
 
-  pub dec : (b : ℕ) → b / 8 ≡ 13 → lookup (registerRows z o) b ≡ whole (Dec (b % 8)) z o
+  pub dec : (b : ℕ) → b / 8 ≡ 13 → lookup (registerRows z o) b ≡ whole (Puts (Dec (b % 8))) z o
   unfolding registerRows lookup
-  dec = in-group _ 13 (refl, refl, refl, refl, refl, refl, refl, refl)
+  dec = in-arm _ _ (13 ∷ []) refl
 
-  pub load : (b : ℕ) → b / 8 ≡ 17 → lookup (registerRows z o) b ≡ whole (Load (b % 8)) z o
+  pub load : (b : ℕ) → b / 8 ≡ 17 → lookup (registerRows z o) b ≡ whole (Puts (Load (b % 8))) z o
   unfolding registerRows lookup
-  load = in-group _ 17 (refl, refl, refl, refl, refl, refl, refl, refl)
+  load = in-arm _ _ (17 ∷ []) refl
 
-  pub into : (b : ℕ) → b / 8 ≡ 19 → lookup (registerRows z o) b ≡ whole (Into (b % 8)) z o
+  pub into : (b : ℕ) → b / 8 ≡ 19 → lookup (registerRows z o) b ≡ whole (Puts (From (b % 8))) z o
   unfolding registerRows lookup
-  into = in-group _ 19 (refl, refl, refl, refl, refl, refl, refl, refl)
+  into = in-arm _ _ (19 ∷ []) refl
 
-  pub compute-constant : (b : ℕ) → b / 8 ≡ 25 → lookup (registerRows z o) b ≡ number (bytesOf z) (λ n. whole (ComputeConstant (arithOf (b % 8)) n) z o)
+  pub compute-constant : (b : ℕ) → b / 8 ≡ 25 → lookup (registerRows z o) b ≡ number (bytesOf z) (λ n. whole (Puts (Compute (arithOf (b % 8)) (With n))) z o)
   unfolding registerRows lookup
-  compute-constant = in-group _ 25 (refl, refl, refl, refl, refl, refl, refl, refl)
+  compute-constant = in-arm _ _ (25 ∷ []) refl
 
-  pub compute : (b : ℕ) → OneOf (16 ∷ 18 ∷ 20 ∷ 22 ∷ 24 ∷ 26 ∷ 28 ∷ 30 ∷ []) (b / 8) → lookup (registerRows z o) b ≡ whole (Compute (arithOf (b / 16 % 8)) (b % 8)) z o
+  pub compute : (b : ℕ) → OneOf (16 ∷ 18 ∷ 20 ∷ 22 ∷ 24 ∷ 26 ∷ 28 ∷ 30 ∷ []) (b / 8) → lookup (registerRows z o) b ≡ whole (Puts (Compute (arithOf (b / 16 % 8)) (First (b % 8)))) z o
   unfolding registerRows lookup
-  compute = in-groups _ (16 ∷ 18 ∷ 20 ∷ 22 ∷ 24 ∷ 26 ∷ 28 ∷ 30 ∷ []) ((refl, refl, refl, refl, refl, refl, refl, refl), ((refl, refl, refl, refl, refl, refl, refl, refl), ((refl, refl, refl, refl, refl, refl, refl, refl), ((refl, refl, refl, refl, refl, refl, refl, refl), ((refl, refl, refl, refl, refl, refl, refl, refl), ((refl, refl, refl, refl, refl, refl, refl, refl), ((refl, refl, refl, refl, refl, refl, refl, refl), ((refl, refl, refl, refl, refl, refl, refl, refl), tt))))))))
+  compute = in-arm _ _ (16 ∷ 18 ∷ 20 ∷ 22 ∷ 24 ∷ 26 ∷ 28 ∷ 30 ∷ []) refl
 
   pub no-load : (b : ℕ) → b / 8 ≡ 0 → (b ≡ 3 → ⊥) → lookup (registerRows z o) b ≡ unlisted
   unfolding registerRows lookup
@@ -63,14 +63,4 @@ module _ (z : Size) (o : Operand) where
 
   pub no-register : (b : ℕ) → b < 256 → Missed register-arms (b / 8) → lookup (registerRows z o) b ≡ unlisted
   unfolding registerRows lookup
-  no-register = in-others _ register-arms ((((((((((((((((tt, (refl, refl, refl, refl, refl, refl, refl, refl)), (refl, refl, refl, refl, refl, refl, refl, refl)), (refl, refl, refl, refl, refl, refl, refl, refl)), (refl, refl, refl, refl, refl, refl, refl, refl)), (refl, refl, refl, refl, refl, refl, refl, refl)), (refl, refl, refl, refl, refl, refl, refl, refl)), (refl, refl, refl, refl, refl, refl, refl, refl)), (refl, refl, refl, refl, refl, refl, refl, refl)), (refl, refl, refl, refl, refl, refl, refl, refl)), (refl, refl, refl, refl, refl, refl, refl, refl)), (refl, refl, refl, refl, refl, refl, refl, refl)), (refl, refl, refl, refl, refl, refl, refl, refl)), (refl, refl, refl, refl, refl, refl, refl, refl)), (refl, refl, refl, refl, refl, refl, refl, refl)), (refl, refl, refl, refl, refl, refl, refl, refl)), (refl, refl, refl, refl, refl, refl, refl, refl))
-
--- an extension of a word or a long
-module _ (op : Op) (z : Size) (o : Operand) (s : List ℕ) (i : ℕ) (d : Decoded) (h : d ≡ wholeOf op z o i) where
-  pub extends-word : z ≡ Word → d ≡ judge (notByte z (whole op z o)) s i
-  unfolding judge
-  extends-word e = rw e (rw e at h)
-
-  pub extends-long : z ≡ Long → d ≡ judge (notByte z (whole op z o)) s i
-  unfolding judge
-  extends-long e = rw e (rw e at h)
+  no-register = in-no-arm _ (λ b. unlisted) register-arms 256 refl

@@ -1,17 +1,18 @@
 -- Two functions that compute to the same at each element of a list are the same there.
-use Prim.Native.Nat.{ℕ, zero, suc, _<_}
+use Prim.Native.Nat.{ℕ, zero, suc, _+_, _-_, _*_, _/_, _≤_, _<_}
 use mathlib.Core.Path.{_≡_, refl, sym, _∙_, ap}
-use mathlib.Core.Bool.{Bool, true, false}
+use mathlib.Core.Bool.{Bool, true, false, cond}
 use mathlib.Core.List.{List, [], _∷_, map}
 use mathlib.Core.Logic.{_⊎_, inl, inr}
 use native.Mathlib.Omega.{arith}
+use types.Run.{OneOf}
 use Rattle.little.specs.declared.Size.{Size}
 use Rattle.little.specs.declared.Size.the-variants.{Byte, Word, Long}
 use Rattle.alu.specs.declared.Arith.{Arith}
 use Rattle.alu.specs.declared.Arith.the-variants.{Add, Adc, Sub, Sbc, And, Xor, Or, Cp}
 use Rattle.alu.specs.declared.Shift.{Shift}
 use Rattle.alu.specs.declared.Shift.the-variants.{Sla, Sra, Sll, Srl}
-use Rattle.code.proofs.Groups.{same-or-not}
+use Rattle.code.proofs.Groups.{in-group, same-or-not, Missed, matched, not-both}
 
 abbrev pub Among : {A : Type 0} → List A → A → Type 0
 Among [] a = ⊥
@@ -103,3 +104,46 @@ module _ {B : Type 0} where
       (f g : ℕ → Bool → Bool → B) (n : ℕ) → map (λ r. Four (f r)) (under n) ≡ map (λ r. Four (g r)) (under n) →
       (r : ℕ) → r < n → (t u : Bool) → f r t u ≡ g r t u
   by-test f g n e r h = each-test (f r) (g r) (table (λ r. Four (f r)) (λ r. Four (g r)) n e r h)
+
+-- ---- bytes in groups of eight, as the arms of a `match` on b / 8 have them
+abbrev pub eights : List ℕ → List ℕ
+eights [] = []
+eights (k ∷ ks) = (8 * k + 0) ∷ (8 * k + 1) ∷ (8 * k + 2) ∷ (8 * k + 3) ∷ (8 * k + 4) ∷ (8 * k + 5) ∷ (8 * k + 6) ∷ (8 * k + 7) ∷ eights ks
+
+in-eight : (k : ℕ) (ks : List ℕ) (b : ℕ) → b / 8 ≡ k → Among (eights (k ∷ ks)) b
+in-eight k ks = in-group (Among (eights (k ∷ ks))) k (inl refl, inr (inl refl), inr (inr (inl refl)), inr (inr (inr (inl refl))), inr (inr (inr (inr (inl refl)))), inr (inr (inr (inr (inr (inl refl))))), inr (inr (inr (inr (inr (inr (inl refl)))))), inr (inr (inr (inr (inr (inr (inr (inl refl))))))))
+
+in-eights : (ks : List ℕ) (b : ℕ) → OneOf ks (b / 8) → Among (eights ks) b
+in-eights [] b h = absurd h
+in-eights (k ∷ []) b h = in-eight k [] b h
+in-eights (k ∷ k′ ∷ ks) b (inl h) = in-eight k (k′ ∷ ks) b h
+in-eights (k ∷ k′ ∷ ks) b (inr h) = inr (inr (inr (inr (inr (inr (inr (inr (in-eights (k′ ∷ ks) b h))))))))
+
+module _ {B : Type 0} where
+  -- the first where no arm has the number, and the second where one has
+  abbrev pub besides : List (List ℕ) → ℕ → B → B → B
+  besides kss k x y = cond (matched kss k) y x
+
+  pub no-arm : (kss : List (List ℕ)) (k : ℕ) (x y : B) → besides kss k x y ≡ y → Missed kss k → x ≡ y
+  no-arm kss k x y e m = go (matched kss k) refl e
+    where
+      go : (t : Bool) → matched kss k ≡ t → cond t y x ≡ y → x ≡ y
+      go true q d = absurd (not-both kss k m q)
+      go false q d = d
+
+module _ {B : Type 0} (f g : ℕ → B) where
+  -- in the groups of an arm
+  pub in-arm : (ks : List ℕ) → map f (eights ks) ≡ map g (eights ks) → (b : ℕ) → OneOf ks (b / 8) → f b ≡ g b
+  in-arm ks e b h = at f g (eights ks) e b (in-eights ks b h)
+
+  -- from lo on, n bytes
+  pub in-run : (lo n : ℕ) → map (λ k. f (lo + k)) (under n) ≡ map (λ k. g (lo + k)) (under n) → (b : ℕ) → lo ≤ b → b < lo + n → f b ≡ g b
+  in-run lo n e b h k =
+      let q : lo + (b - lo) ≡ b = omega arith in
+      rw q at (table (λ k. f (lo + k)) (λ k. g (lo + k)) n e (b - lo) (omega arith))
+
+  -- in the groups of no arm
+  pub in-no-arm :
+      (kss : List (List ℕ)) (n : ℕ) → map (λ b. besides kss (b / 8) (f b) (g b)) (under n) ≡ map g (under n) →
+      (b : ℕ) → b < n → Missed kss (b / 8) → f b ≡ g b
+  in-no-arm kss n e b h = no-arm kss (b / 8) (f b) (g b) (table (λ b. besides kss (b / 8) (f b) (g b)) g n e b h)

@@ -8,14 +8,14 @@ use lib.ListN.{length, take}
 use Rattle.little.specs.declared.Size.{Size}
 use Rattle.code.specs.declared.Form.{Form}
 use Rattle.code.specs.declared.Op.{Op}
-use Rattle.code.specs.declared.Op.the-variants.{Block}
+use Rattle.code.specs.declared.Op.the-variants.{Blocks}
 use Rattle.code.specs.declared.Operand.{Operand}
 use Rattle.code.specs.declared.Instruction.{Instruction}
 use Rattle.code.specs.declared.Decoded.the-variants.{Whole, Short, Unlisted}
 use Rattle.little.specs.Bytes.{Bytes}
 use Rattle.code.specs.Listed.{decodeOf}
 use Rattle.code.specs.Said.{wholeOf}
-use Rattle.code.specs.Range.{inRange, InRange, lengthOf}
+use Rattle.code.specs.Range.{inRange, InRange}
 use Rattle.code.specs.Written.{codeOf}
 
 -- an instruction has 1 to 6 bytes, and they are all there
@@ -60,9 +60,9 @@ RangeExact =
     (op : Op) (z : Size) (o : Operand) →
     (inRange op z o ≡ true) ↔ ((s : List ℕ) × (n : ℕ) × (Bytes s) × (decodeOf s ≡ wholeOf op z o n))
 
--- the length is that of the operation and its operand
+-- its length is that of its written bytes
 abbrev pub LengthIs : Type 0
-LengthIs = (s : List ℕ) (i : Instruction) → decodeOf s ≡ Whole i → i .length ≡ lengthOf (i .op) (i .size) (i .operand)
+LengthIs = (s : List ℕ) (i : Instruction) → decodeOf s ≡ Whole i → i .length ≡ length (codeOf (i .op) (i .size) (i .operand))
 
 -- an instruction keeps all that its bytes said
 abbrev pub KeepsBytes : Type 0
@@ -80,9 +80,9 @@ ReadsBack =
     (op : Op) (z : Size) (o : Operand) (t : List ℕ) → inRange op z o ≡ true →
     decodeOf (codeOf op z o ++ t) ≡ wholeOf op z o (length (codeOf op z o))
 
--- they are bytes, as many as its length
+-- they are bytes
 abbrev pub CodeFits : Type 0
-CodeFits = (op : Op) (z : Size) (o : Operand) → inRange op z o ≡ true → (Bytes (codeOf op z o)) × (length (codeOf op z o) ≡ lengthOf op z o)
+CodeFits = (op : Op) (z : Size) (o : Operand) → inRange op z o ≡ true → Bytes (codeOf op z o)
 
 -- no instruction's bytes begin another's, and no two instructions have the same bytes
 abbrev pub NoneBegins : Type 0
@@ -92,7 +92,7 @@ NoneBegins =
 
 -- a copy or a compare has two bytes
 abbrev pub BlockLength : Type 0
-BlockLength = (s : List ℕ) (i : Instruction) (f : Form) → decodeOf s ≡ Whole i → i .op ≡ Block f → i .length ≡ 2
+BlockLength = (s : List ℕ) (i : Instruction) (f : Form) → decodeOf s ≡ Whole i → i .op ≡ Blocks f → i .length ≡ 2
 
 -- an instruction of two bytes is known by them
 abbrev pub TwoBytes : Type 0

@@ -1,12 +1,14 @@
 -- The listed codes, bullet by bullet, and the decoder.
-use Prim.Native.Nat.{ℕ, _+_, _%_}
+use Prim.Native.Nat.{ℕ, _+_, _/_, _%_}
 use mathlib.Core.Bool.{cond, _||_}
 use mathlib.Core.List.{List, [], _∷_, _++_}
 use lib.Dec.{eqb}
 use Rattle.little.specs.declared.Size.{Size}
 use Rattle.little.specs.declared.Size.the-variants.{Byte, Word, Long}
 use Rattle.code.specs.declared.Op.{Op}
-use Rattle.code.specs.declared.Op.the-variants.{Nop, Incf, Decf, Ldf, Rcf, Scf, Ccf, Zcf, Exf, PushF, PopF, Set, Push, Pop, Jp16, Jp24, Call16, Call24, Calr, Ret, Jr, Jrl}
+use Rattle.code.specs.declared.Op.the-variants.{Controls, Stacks, Sets}
+use Rattle.code.specs.declared.Control.the-variants.{Nop, Incf, Decf, Ldf, Rcf, Scf, Ccf, Zcf, Exf, Jp16, Jp24, Jr, Jrl}
+use Rattle.code.specs.declared.Stack.the-variants.{PushF, PopF, Push, Pop, Call16, Call24, Calr, Ret}
 use Rattle.code.specs.declared.Base.{Base}
 use Rattle.code.specs.declared.Base.the-variants.{Indirect, Displaced, Absolute8, Absolute16, Absolute24}
 use Rattle.code.specs.declared.Operand.{Operand}
@@ -15,7 +17,7 @@ use Rattle.code.specs.declared.Decoded.{Decoded}
 use Rattle.code.specs.Said.{Said, whole, number, judge}
 use Rattle.code.specs.Rows.{one, run, Row, _⇒_, byRows}
 use Rattle.code.specs.Registers.{registerRows}
-use Rattle.code.specs.Memory.{form, memoryRows, storeRows, indirectRows}
+use Rattle.code.specs.Memory.{form, memoryRows, storeRows, blockRows, indirectRows}
 
 -- an operation that is said by one byte alone
 abbrev pub alone : Op → Said
@@ -31,62 +33,62 @@ sizeOf d = cond (eqb d 0x9 || eqb d 0xD) Word (cond (eqb d 0xA || eqb d 0xE) Lon
 
 -- a byte 00 to 03
 unfoldable pub bankNumberRows : List Row
-bankNumberRows = (run 0x00 0x03 ⇒ λ n. whole Ldf Byte (Constant n)) ∷ []
+bankNumberRows = (run 0x00 0x03 ⇒ λ n. whole (Controls Ldf) Byte (Constant n)) ∷ []
 
 -- 00 NOP. 0C INCF, 0D DECF. 17 n LDF, n 00 to 03
 unfoldable pub bankRows : List Row
 bankRows =
-    (one 0x00 ⇒ λ b. alone Nop)
-    ∷ (one 0x0C ⇒ λ b. alone Incf)
-    ∷ (one 0x0D ⇒ λ b. alone Decf)
+    (one 0x00 ⇒ λ b. alone (Controls Nop))
+    ∷ (one 0x0C ⇒ λ b. alone (Controls Incf))
+    ∷ (one 0x0D ⇒ λ b. alone (Controls Decf))
     ∷ (one 0x17 ⇒ λ b. byRows bankNumberRows)
     ∷ []
 
 -- 10 RCF, 11 SCF, 12 CCF, 13 ZCF. 16 EX F,F'. 18 PUSH F, 19 POP F
 unfoldable pub flagRows : List Row
 flagRows =
-    (one 0x10 ⇒ λ b. alone Rcf)
-    ∷ (one 0x11 ⇒ λ b. alone Scf)
-    ∷ (one 0x12 ⇒ λ b. alone Ccf)
-    ∷ (one 0x13 ⇒ λ b. alone Zcf)
-    ∷ (one 0x16 ⇒ λ b. alone Exf)
-    ∷ (one 0x18 ⇒ λ b. alone PushF)
-    ∷ (one 0x19 ⇒ λ b. alone PopF)
+    (one 0x10 ⇒ λ b. alone (Controls Rcf))
+    ∷ (one 0x11 ⇒ λ b. alone (Controls Scf))
+    ∷ (one 0x12 ⇒ λ b. alone (Controls Ccf))
+    ∷ (one 0x13 ⇒ λ b. alone (Controls Zcf))
+    ∷ (one 0x16 ⇒ λ b. alone (Controls Exf))
+    ∷ (one 0x18 ⇒ λ b. alone (Stacks PushF))
+    ∷ (one 0x19 ⇒ λ b. alone (Stacks PopF))
     ∷ []
 
 -- 20+R n8, 30+R n16, 40+R n32: load a constant
 unfoldable pub constantRows : List Row
 constantRows =
-    (run 0x20 0x27 ⇒ λ b. withConstant (Set (b % 8)) Byte 1)
-    ∷ (run 0x30 0x37 ⇒ λ b. withConstant (Set (b % 8)) Word 2)
-    ∷ (run 0x40 0x47 ⇒ λ b. withConstant (Set (b % 8)) Long 4)
+    (run 0x20 0x27 ⇒ λ b. withConstant (Sets (b % 8)) Byte 1)
+    ∷ (run 0x30 0x37 ⇒ λ b. withConstant (Sets (b % 8)) Word 2)
+    ∷ (run 0x40 0x47 ⇒ λ b. withConstant (Sets (b % 8)) Long 4)
     ∷ []
 
 -- 28+R, 38+R push word, long; 48+R, 58+R pop. R = 7 is not listed
 unfoldable pub stackRows : List Row
 stackRows =
-    (run 0x28 0x2E ⇒ λ b. whole Push Word (Register (b % 8)))
-    ∷ (run 0x38 0x3E ⇒ λ b. whole Push Long (Register (b % 8)))
-    ∷ (run 0x48 0x4E ⇒ λ b. whole Pop Word (Register (b % 8)))
-    ∷ (run 0x58 0x5E ⇒ λ b. whole Pop Long (Register (b % 8)))
+    (run 0x28 0x2E ⇒ λ b. whole (Stacks Push) Word (Register (b % 8)))
+    ∷ (run 0x38 0x3E ⇒ λ b. whole (Stacks Push) Long (Register (b % 8)))
+    ∷ (run 0x48 0x4E ⇒ λ b. whole (Stacks Pop) Word (Register (b % 8)))
+    ∷ (run 0x58 0x5E ⇒ λ b. whole (Stacks Pop) Long (Register (b % 8)))
     ∷ []
 
 -- 1A n16, 1B n24 JP; 1C n16, 1D n24 CALL; 1E d16 CALR; 0E RET
 unfoldable pub jumpRows : List Row
 jumpRows =
-    (one 0x1A ⇒ λ b. withConstant Jp16 Byte 2)
-    ∷ (one 0x1B ⇒ λ b. withConstant Jp24 Byte 3)
-    ∷ (one 0x1C ⇒ λ b. withConstant Call16 Byte 2)
-    ∷ (one 0x1D ⇒ λ b. withConstant Call24 Byte 3)
-    ∷ (one 0x1E ⇒ λ b. withConstant Calr Byte 2)
-    ∷ (one 0x0E ⇒ λ b. alone Ret)
+    (one 0x1A ⇒ λ b. withConstant (Controls Jp16) Byte 2)
+    ∷ (one 0x1B ⇒ λ b. withConstant (Controls Jp24) Byte 3)
+    ∷ (one 0x1C ⇒ λ b. withConstant (Stacks Call16) Byte 2)
+    ∷ (one 0x1D ⇒ λ b. withConstant (Stacks Call24) Byte 3)
+    ∷ (one 0x1E ⇒ λ b. withConstant (Stacks Calr) Byte 2)
+    ∷ (one 0x0E ⇒ λ b. alone (Stacks Ret))
     ∷ []
 
 -- 60+cc d8 JR, 70+cc d16 JRL
 unfoldable pub relativeRows : List Row
 relativeRows =
-    (run 0x60 0x6F ⇒ λ b. withConstant (Jr (b % 16)) Byte 1)
-    ∷ (run 0x70 0x7F ⇒ λ b. withConstant (Jrl (b % 16)) Byte 2)
+    (run 0x60 0x6F ⇒ λ b. withConstant (Controls (Jr (b % 16))) Byte 1)
+    ∷ (run 0x70 0x7F ⇒ λ b. withConstant (Controls (Jrl (b % 16))) Byte 2)
     ∷ []
 
 -- C8+r byte, D8+r word, E8+r long, then the byte of a register form
@@ -131,19 +133,25 @@ storeFormRows =
     ∷ (run 0xB8 0xBF ⇒ λ b. formWith (Displaced (b % 8)) 1 storeRows)
     ∷ absoluteRows 0xF0 storeRows
 
--- the first byte: all bullets; a new list stands at the end
+-- the first byte: 00 to 7F, which no operand's form begins with
+unfoldable pub aloneRows : List Row
+aloneRows = bankRows ++ (flagRows ++ (constantRows ++ (stackRows ++ (jumpRows ++ relativeRows))))
+
+-- a memory form's
+unfoldable pub memoryFirstRows : List Row
+memoryFirstRows = memoryFormRows ++ (memoryAtRows ++ storeFormRows)
+
+-- the byte after the form that the first byte b begins: a store's, or any other's with the copies and compares after (R)
+unfoldable pub rowsBegun : ℕ → Operand → List Row
+rowsBegun b o =
+    let k = b / 8 in
+    let z = sizeOf (8 + b / 16 % 4) in
+    cond (eqb k 22 || eqb k 23 || eqb k 30) (storeRows o)
+    (memoryRows z o ++ cond (eqb k 16 || eqb k 18 || eqb k 20) (blockRows z (b % 8)) [])
+
+-- all bullets
 unfoldable pub firstRows : List Row
-firstRows =
-    bankRows
-    ++ (flagRows
-    ++ (constantRows
-    ++ (stackRows
-    ++ (jumpRows
-    ++ (relativeRows
-    ++ (registerFormRows
-    ++ (memoryFormRows
-    ++ (memoryAtRows
-    ++ storeFormRows))))))))
+firstRows = aloneRows ++ (registerFormRows ++ memoryFirstRows)
 
 -- the instruction that the code begins with
 unfoldable pub decodeOf : List ℕ → Decoded

@@ -6,7 +6,9 @@ use lib.Dec.{leb, eqb}
 use Rattle.little.specs.declared.Size.{Size}
 use Rattle.little.specs.declared.Size.the-variants.{Byte, Word, Long}
 use Rattle.code.specs.declared.Form.{Form}
-use Rattle.code.specs.declared.Op.the-variants.{Load, Compute, ComputeInto, Store, Block}
+use Rattle.code.specs.declared.Op.the-variants.{Puts, Blocks}
+use Rattle.code.specs.declared.Use.the-variants.{From, Load, Compute}
+use Rattle.code.specs.declared.Side.the-variants.{First, Second}
 use Rattle.code.specs.declared.Base.{Base}
 use Rattle.code.specs.declared.Base.the-variants.{Indirect}
 use Rattle.code.specs.declared.Operand.{Operand}
@@ -18,17 +20,17 @@ use Rattle.code.specs.Registers.{arithOf}
 -- 20+R load; 80, 90 .. F0 +R: ADD .. CP of R with memory; 88, 98 .. F8 +R the same, memory with R
 unfoldable pub memoryRows : Size → Operand → List Row
 memoryRows z o =
-    (run 0x20 0x27 ⇒ λ b. whole (Load (b % 8)) z o)
-    ∷ (columns 0x80 ⇒ λ b. whole (Compute (arithOf (b / 16 % 8)) (b % 8)) z o)
-    ∷ (columns 0x88 ⇒ λ b. whole (ComputeInto (arithOf (b / 16 % 8)) (b % 8)) z o)
+    (run 0x20 0x27 ⇒ λ b. whole (Puts (Load (b % 8))) z o)
+    ∷ (columns 0x80 ⇒ λ b. whole (Puts (Compute (arithOf (b / 16 % 8)) (First (b % 8)))) z o)
+    ∷ (columns 0x88 ⇒ λ b. whole (Puts (Compute (arithOf (b / 16 % 8)) (Second (b % 8)))) z o)
     ∷ []
 
 -- 40+R byte, 50+R word, 60+R long
 unfoldable pub storeRows : Operand → List Row
 storeRows o =
-    (run 0x40 0x47 ⇒ λ b. whole (Store (b % 8)) Byte o)
-    ∷ (run 0x50 0x57 ⇒ λ b. whole (Store (b % 8)) Word o)
-    ∷ (run 0x60 0x67 ⇒ λ b. whole (Store (b % 8)) Long o)
+    (run 0x40 0x47 ⇒ λ b. whole (Puts (From (b % 8))) Byte o)
+    ∷ (run 0x50 0x57 ⇒ λ b. whole (Puts (From (b % 8))) Word o)
+    ∷ (run 0x60 0x67 ⇒ λ b. whole (Puts (From (b % 8))) Long o)
     ∷ []
 
 -- a memory form: where the address comes from, and the number in the code
@@ -37,7 +39,7 @@ form base v = Memory (record { base = base; number = v })
 
 -- a copy or a compare stands after the form (R) of the pointer that is read
 abbrev pub block : Form → Said
-block f = whole (Block f) (f .size) (form (Indirect (f .from)) 0)
+block f = whole (Blocks f) (f .size) (form (Indirect (f .from)) 0)
 
 -- LDI, LDIR, LDD, LDDR: to where `to` points, from where `from` points
 abbrev pub copy : Size → Bool → Bool → ℕ → ℕ → Said
@@ -80,8 +82,3 @@ blockRows Long r = []
 -- the byte after the form (R)
 unfoldable pub indirectRows : Size → ℕ → List Row
 indirectRows z r = memoryRows z (form (Indirect r) 0) ++ blockRows z r
-
--- the byte after any other form, of a store or not
-abbrev pub rowsAfter : Bool → Size → Operand → List Row
-rowsAfter true z o = storeRows o
-rowsAfter false z o = memoryRows z o

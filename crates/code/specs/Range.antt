@@ -1,5 +1,5 @@
--- What a whole instruction can hold: each code and number within its range, its size and each operand of its kind; and its length.
-use Prim.Native.Nat.{ℕ, _+_, _<_, _^_}
+-- What a whole instruction can hold: each code and number within its range, its size and its operand of its kind.
+use Prim.Native.Nat.{ℕ, _<_, _^_}
 use mathlib.Core.Path.{_≡_}
 use mathlib.Core.Bool.{Bool, true, false, _&&_, _||_}
 use mathlib.Core.Logic.{_⊎_}
@@ -9,7 +9,15 @@ use Rattle.little.specs.declared.Size.{Size}
 use Rattle.little.specs.declared.Size.the-variants.{Byte, Word, Long}
 use Rattle.code.specs.declared.Form.{Form}
 use Rattle.code.specs.declared.Op.{Op}
-use Rattle.code.specs.declared.Op.the-variants.{Nop, Incf, Decf, Ldf, Rcf, Scf, Ccf, Zcf, Exf, PushF, PopF, Set, Push, Pop, Jp16, Jp24, Call16, Call24, Calr, Ret, Jr, Jrl, LoadConstant, Load, Into, Compute, ComputeInto, ComputeConstant, Inc, Dec, Shifted, Extz, Exts, Store, Block}
+use Rattle.code.specs.declared.Op.the-variants.{Controls, Stacks, Puts, Sets, Blocks}
+use Rattle.code.specs.declared.Control.{Control}
+use Rattle.code.specs.declared.Control.the-variants.{Nop, Incf, Decf, Ldf, Rcf, Scf, Ccf, Zcf, Exf, Jp16, Jp24, Jr, Jrl}
+use Rattle.code.specs.declared.Stack.{Stack}
+use Rattle.code.specs.declared.Stack.the-variants.{PushF, PopF, Push, Pop, Call16, Call24, Calr, Ret}
+use Rattle.code.specs.declared.Use.{Use}
+use Rattle.code.specs.declared.Use.the-variants.{Number, From, Load, Compute, Inc, Dec, Shifted, Extz, Exts}
+use Rattle.code.specs.declared.Side.{Side}
+use Rattle.code.specs.declared.Side.the-variants.{First, Second, With}
 use Rattle.code.specs.declared.Base.{Base}
 use Rattle.code.specs.declared.Base.the-variants.{Indirect, Displaced, Absolute8, Absolute16, Absolute24}
 use Rattle.code.specs.declared.Operand.{Operand}
@@ -122,43 +130,58 @@ blockRange f z o = pointerRange (f .copies) (f .to) (f .from) and noLong z and b
 abbrev pub aloneRange : Size → Operand → Range
 aloneRange z o = onlyByte z and constantBelow 1 o
 
--- what the operand, the size and the numbers of each operation can be
+-- an operation that has a constant of n bytes and no size of its own
+abbrev pub constantRange : ℕ → Size → Operand → Range
+constantRange n z o = onlyByte z and constantBelow (256 ^ n) o
+
+-- what the numbers, the size and the operand of each operation can be, by the kind of work
+abbrev pub controlRange : Control → Size → Operand → Range
+controlRange Nop z o = aloneRange z o
+controlRange Incf z o = aloneRange z o
+controlRange Decf z o = aloneRange z o
+controlRange Ldf z o = onlyByte z and constantBelow 4 o
+controlRange Rcf z o = aloneRange z o
+controlRange Scf z o = aloneRange z o
+controlRange Ccf z o = aloneRange z o
+controlRange Zcf z o = aloneRange z o
+controlRange Exf z o = aloneRange z o
+controlRange Jp16 z o = constantRange 2 z o
+controlRange Jp24 z o = constantRange 3 z o
+controlRange (Jr cc) z o = cc below 16 and constantRange 1 z o
+controlRange (Jrl cc) z o = cc below 16 and constantRange 2 z o
+
+abbrev pub stackRange : Stack → Size → Operand → Range
+stackRange PushF z o = aloneRange z o
+stackRange PopF z o = aloneRange z o
+stackRange Push z o = noByte z and registerBelow 7 o
+stackRange Pop z o = noByte z and registerBelow 7 o
+stackRange Call16 z o = constantRange 2 z o
+stackRange Call24 z o = constantRange 3 z o
+stackRange Calr z o = constantRange 2 z o
+stackRange Ret z o = aloneRange z o
+
+abbrev pub sideRange : Side → Size → Operand → Range
+sideRange (First r) z o = r below 8 and placeRange o
+sideRange (Second r) z o = r below 8 and memoryRange o
+sideRange (With n) z o = n below 256 ^ bytesOf z and registerBelow 8 o
+
+abbrev pub useRange : Use → Size → Operand → Range
+useRange (Number n) z o = n below 256 ^ bytesOf z and registerBelow 8 o
+useRange (From r) z o = r below 8 and placeRange o
+useRange (Load r) z o = r below 8 and placeRange o
+useRange (Compute a other) z o = sideRange other z o
+useRange (Inc n) z o = n below 8 and registerBelow 8 o
+useRange (Dec n) z o = n below 8 and registerBelow 8 o
+useRange (Shifted t n) z o = n below 16 and registerBelow 8 o
+useRange Extz z o = noByte z and registerBelow 8 o
+useRange Exts z o = noByte z and registerBelow 8 o
+
 abbrev pub rangeOf : Op → Size → Operand → Range
-rangeOf Nop z o = aloneRange z o
-rangeOf Incf z o = aloneRange z o
-rangeOf Decf z o = aloneRange z o
-rangeOf Ldf z o = onlyByte z and constantBelow 4 o
-rangeOf Rcf z o = aloneRange z o
-rangeOf Scf z o = aloneRange z o
-rangeOf Ccf z o = aloneRange z o
-rangeOf Zcf z o = aloneRange z o
-rangeOf Exf z o = aloneRange z o
-rangeOf PushF z o = aloneRange z o
-rangeOf PopF z o = aloneRange z o
-rangeOf (Set r) z o = r below 8 and constantBelow (256 ^ bytesOf z) o
-rangeOf Push z o = noByte z and registerBelow 7 o
-rangeOf Pop z o = noByte z and registerBelow 7 o
-rangeOf Jp16 z o = onlyByte z and constantBelow (256 ^ 2) o
-rangeOf Jp24 z o = onlyByte z and constantBelow (256 ^ 3) o
-rangeOf Call16 z o = onlyByte z and constantBelow (256 ^ 2) o
-rangeOf Call24 z o = onlyByte z and constantBelow (256 ^ 3) o
-rangeOf Calr z o = onlyByte z and constantBelow (256 ^ 2) o
-rangeOf Ret z o = aloneRange z o
-rangeOf (Jr cc) z o = cc below 16 and onlyByte z and constantBelow (256 ^ 1) o
-rangeOf (Jrl cc) z o = cc below 16 and onlyByte z and constantBelow (256 ^ 2) o
-rangeOf (LoadConstant n) z o = n below 256 ^ bytesOf z and registerBelow 8 o
-rangeOf (Load r) z o = r below 8 and placeRange o
-rangeOf (Into r) z o = r below 8 and registerBelow 8 o
-rangeOf (Compute a r) z o = r below 8 and placeRange o
-rangeOf (ComputeInto a r) z o = r below 8 and memoryRange o
-rangeOf (ComputeConstant a n) z o = n below 256 ^ bytesOf z and registerBelow 8 o
-rangeOf (Inc n) z o = n below 8 and registerBelow 8 o
-rangeOf (Dec n) z o = n below 8 and registerBelow 8 o
-rangeOf (Shifted t n) z o = n below 16 and registerBelow 8 o
-rangeOf Extz z o = noByte z and registerBelow 8 o
-rangeOf Exts z o = noByte z and registerBelow 8 o
-rangeOf (Store r) z o = r below 8 and memoryRange o
-rangeOf (Block f) z o = blockRange f z o
+rangeOf (Controls what) z o = controlRange what z o
+rangeOf (Stacks what) z o = stackRange what z o
+rangeOf (Puts how) z o = useRange how z o
+rangeOf (Sets r) z o = r below 8 and constantBelow (256 ^ bytesOf z) o
+rangeOf (Blocks f) z o = blockRange f z o
 
 -- whether some listed code is this instruction
 abbrev pub inRange : Op → Size → Operand → Bool
@@ -167,63 +190,3 @@ inRange op z o = holds (rangeOf op z o)
 -- the same as a statement
 abbrev pub InRange : Op → Size → Operand → Type 0
 InRange op z o = Holds (rangeOf op z o)
-
--- the pointers of a copy or a compare
-abbrev pub PointersIn : Bool → ℕ → ℕ → Type 0
-PointersIn copies to from = Holds (pointerRange copies to from)
-
--- a size that is not a long
-abbrev pub NotLong : Size → Type 0
-NotLong z = Holds (noLong z)
-
--- how many bytes say a memory form
-abbrev pub baseBytes : Base → ℕ
-baseBytes (Indirect r) = 1
-baseBytes (Displaced r) = 2
-baseBytes Absolute8 = 2
-baseBytes Absolute16 = 3
-baseBytes Absolute24 = 4
-
--- how many bytes say a register or a memory form
-abbrev pub placeBytes : Operand → ℕ
-placeBytes (Register r) = 1
-placeBytes (Constant v) = 0
-placeBytes (Memory m) = baseBytes (m .base)
-
--- how many bytes an instruction has
-abbrev pub lengthOf : Op → Size → Operand → ℕ
-lengthOf Nop z o = 1
-lengthOf Incf z o = 1
-lengthOf Decf z o = 1
-lengthOf Ldf z o = 2
-lengthOf Rcf z o = 1
-lengthOf Scf z o = 1
-lengthOf Ccf z o = 1
-lengthOf Zcf z o = 1
-lengthOf Exf z o = 1
-lengthOf PushF z o = 1
-lengthOf PopF z o = 1
-lengthOf (Set r) z o = 1 + bytesOf z
-lengthOf Push z o = 1
-lengthOf Pop z o = 1
-lengthOf Jp16 z o = 3
-lengthOf Jp24 z o = 4
-lengthOf Call16 z o = 3
-lengthOf Call24 z o = 4
-lengthOf Calr z o = 3
-lengthOf Ret z o = 1
-lengthOf (Jr cc) z o = 2
-lengthOf (Jrl cc) z o = 3
-lengthOf (LoadConstant n) z o = 2 + bytesOf z
-lengthOf (Load r) z o = placeBytes o + 1
-lengthOf (Into r) z o = 2
-lengthOf (Compute a r) z o = placeBytes o + 1
-lengthOf (ComputeInto a r) z o = placeBytes o + 1
-lengthOf (ComputeConstant a n) z o = 2 + bytesOf z
-lengthOf (Inc n) z o = 2
-lengthOf (Dec n) z o = 2
-lengthOf (Shifted t n) z o = 3
-lengthOf Extz z o = 2
-lengthOf Exts z o = 2
-lengthOf (Store r) z o = placeBytes o + 1
-lengthOf (Block f) z o = 2

@@ -8,7 +8,9 @@ use Rattle.alu.specs.declared.Arith.{Arith}
 use Rattle.alu.specs.declared.Arith.the-variants.{Add, Adc, Sub, Sbc, And, Xor, Or, Cp}
 use Rattle.alu.specs.declared.Shift.{Shift}
 use Rattle.alu.specs.declared.Shift.the-variants.{Sla, Sra, Sll, Srl}
-use Rattle.code.specs.declared.Op.the-variants.{LoadConstant, Load, Into, Compute, ComputeConstant, Inc, Dec, Shifted, Extz, Exts}
+use Rattle.code.specs.declared.Op.the-variants.{Puts}
+use Rattle.code.specs.declared.Use.the-variants.{Number, From, Load, Compute, Inc, Dec, Shifted, Extz, Exts}
+use Rattle.code.specs.declared.Side.the-variants.{First, With}
 use Rattle.code.specs.declared.Operand.{Operand}
 use Rattle.code.specs.Said.{Said, whole, unlisted, number}
 use Rattle.code.specs.Rows.{one, run, columns, Row, _⇒_, byRows}
@@ -33,7 +35,7 @@ shiftKind (suc (suc (suc n))) = Srl
 
 -- a byte 00 to 0F
 unfoldable pub placesRows : Size → Operand → Shift → List Row
-placesRows z o shift = (run 0x00 0x0F ⇒ λ n. whole (Shifted shift n) z o) ∷ []
+placesRows z o shift = (run 0x00 0x0F ⇒ λ n. whole (Puts (Shifted shift n)) z o) ∷ []
 
 -- words and longs only
 abbrev pub notByte : Size → Said → Said
@@ -45,14 +47,14 @@ notByte Long d = d
 -- ADD .. CP of r; 60+n INC, 68+n DEC; EC SLA, ED SRA, EE SLL, EF SRL and a byte 00 to 0F; 12 EXTZ, 13 EXTS (word and long only)
 unfoldable pub registerRows : Size → Operand → List Row
 registerRows z o =
-    (one 0x03 ⇒ λ b. number (bytesOf z) (λ n. whole (LoadConstant n) z o))
-    ∷ (run 0x88 0x8F ⇒ λ b. whole (Load (b % 8)) z o)
-    ∷ (run 0x98 0x9F ⇒ λ b. whole (Into (b % 8)) z o)
-    ∷ (columns 0x80 ⇒ λ b. whole (Compute (arithOf (b / 16 % 8)) (b % 8)) z o)
-    ∷ (run 0xC8 0xCF ⇒ λ b. number (bytesOf z) (λ n. whole (ComputeConstant (arithOf (b % 8)) n) z o))
-    ∷ (run 0x60 0x67 ⇒ λ b. whole (Inc (b % 8)) z o)
-    ∷ (run 0x68 0x6F ⇒ λ b. whole (Dec (b % 8)) z o)
+    (one 0x03 ⇒ λ b. number (bytesOf z) (λ n. whole (Puts (Number n)) z o))
+    ∷ (run 0x88 0x8F ⇒ λ b. whole (Puts (Load (b % 8))) z o)
+    ∷ (run 0x98 0x9F ⇒ λ b. whole (Puts (From (b % 8))) z o)
+    ∷ (columns 0x80 ⇒ λ b. whole (Puts (Compute (arithOf (b / 16 % 8)) (First (b % 8)))) z o)
+    ∷ (run 0xC8 0xCF ⇒ λ b. number (bytesOf z) (λ n. whole (Puts (Compute (arithOf (b % 8)) (With n))) z o))
+    ∷ (run 0x60 0x67 ⇒ λ b. whole (Puts (Inc (b % 8))) z o)
+    ∷ (run 0x68 0x6F ⇒ λ b. whole (Puts (Dec (b % 8))) z o)
     ∷ (run 0xEC 0xEF ⇒ λ b. byRows (placesRows z o (shiftKind (b % 4))))
-    ∷ (one 0x12 ⇒ λ b. notByte z (whole Extz z o))
-    ∷ (one 0x13 ⇒ λ b. notByte z (whole Exts z o))
+    ∷ (one 0x12 ⇒ λ b. notByte z (whole (Puts Extz) z o))
+    ∷ (one 0x13 ⇒ λ b. notByte z (whole (Puts Exts) z o))
     ∷ []

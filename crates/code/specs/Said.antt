@@ -29,11 +29,6 @@ abbrev pub withFound : Found → (ℕ → Decoded) → Decoded
 withFound (Value v) k = k v
 withFound Missing k = Short
 
--- the number found, and 0 where it is missing
-abbrev pub foundOr0 : Found → ℕ
-foundOr0 (Value v) = v
-foundOr0 Missing = 0
-
 -- a whole instruction from its parts
 abbrev pub wholeOf : Op → Size → Operand → ℕ → Decoded
 wholeOf op size operand length = Whole (record { op = op; size = size; operand = operand; length = length })

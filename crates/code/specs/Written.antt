@@ -11,7 +11,15 @@ use Rattle.alu.specs.declared.Arith.the-variants.{Add, Adc, Sub, Sbc, And, Xor,
 use Rattle.alu.specs.declared.Shift.{Shift}
 use Rattle.alu.specs.declared.Shift.the-variants.{Sla, Sra, Sll, Srl}
 use Rattle.code.specs.declared.Op.{Op}
-use Rattle.code.specs.declared.Op.the-variants.{Nop, Incf, Decf, Ldf, Rcf, Scf, Ccf, Zcf, Exf, PushF, PopF, Set, Push, Pop, Jp16, Jp24, Call16, Call24, Calr, Ret, Jr, Jrl, LoadConstant, Load, Into, Compute, ComputeInto, ComputeConstant, Inc, Dec, Shifted, Extz, Exts, Store, Block}
+use Rattle.code.specs.declared.Op.the-variants.{Controls, Stacks, Puts, Sets, Blocks}
+use Rattle.code.specs.declared.Control.{Control}
+use Rattle.code.specs.declared.Control.the-variants.{Nop, Incf, Decf, Ldf, Rcf, Scf, Ccf, Zcf, Exf, Jp16, Jp24, Jr, Jrl}
+use Rattle.code.specs.declared.Stack.{Stack}
+use Rattle.code.specs.declared.Stack.the-variants.{PushF, PopF, Push, Pop, Call16, Call24, Calr, Ret}
+use Rattle.code.specs.declared.Use.{Use}
+use Rattle.code.specs.declared.Use.the-variants.{Number, From, Load, Compute, Inc, Dec, Shifted, Extz, Exts}
+use Rattle.code.specs.declared.Side.{Side}
+use Rattle.code.specs.declared.Side.the-variants.{First, Second, With}
 use Rattle.code.specs.declared.Base.{Base}
 use Rattle.code.specs.declared.Base.the-variants.{Indirect, Displaced, Absolute8, Absolute16, Absolute24}
 use Rattle.code.specs.declared.Operand.{Operand}
@@ -77,40 +85,58 @@ loadCode (Memory m) = 0x20
 abbrev pub blockCode : Bool → Bool → Bool → ℕ
 blockCode copies up again = 0x10 + cond copies 0 4 + cond up 0 2 + cond again 1 0
 
--- the bytes of an instruction
+-- an operation on two operands, after the operand's bytes: 80, 90 .. F0 +R, 88, 98 .. F8 +R, or C8 to CF and a constant
+abbrev pub sideCode : Arith → Side → Size → List ℕ
+sideCode a (First r) z = (0x80 + 16 * arithNumber a + r) ∷ []
+sideCode a (Second r) z = (0x88 + 16 * arithNumber a + r) ∷ []
+sideCode a (With n) z = (0xC8 + arithNumber a) ∷ bytesFrom (bytesOf z) n
+
+-- a register into the operand: 98+R after a register; 40+R, 50+R, 60+R after a memory form in the row of the stores
+abbrev pub fromCode : ℕ → Size → Operand → List ℕ
+fromCode r z (Register n) = placeCode (sizeStep z) (Register n) ++ ((0x98 + r) ∷ [])
+fromCode r z (Constant v) = []
+fromCode r z (Memory m) = placeCode 48 (Memory m) ++ ((0x40 + sizeStep z + r) ∷ [])
+
+-- the bytes of an instruction, by the kind of work
+abbrev pub controlCode : Control → Operand → List ℕ
+controlCode Nop o = 0x00 ∷ []
+controlCode Incf o = 0x0C ∷ []
+controlCode Decf o = 0x0D ∷ []
+controlCode Ldf o = 0x17 ∷ constantIn o ∷ []
+controlCode Rcf o = 0x10 ∷ []
+controlCode Scf o = 0x11 ∷ []
+controlCode Ccf o = 0x12 ∷ []
+controlCode Zcf o = 0x13 ∷ []
+controlCode Exf o = 0x16 ∷ []
+controlCode Jp16 o = 0x1A ∷ bytesFrom 2 (constantIn o)
+controlCode Jp24 o = 0x1B ∷ bytesFrom 3 (constantIn o)
+controlCode (Jr cc) o = (0x60 + cc) ∷ bytesFrom 1 (constantIn o)
+controlCode (Jrl cc) o = (0x70 + cc) ∷ bytesFrom 2 (constantIn o)
+
+abbrev pub stackCode : Stack → Size → Operand → List ℕ
+stackCode PushF z o = 0x18 ∷ []
+stackCode PopF z o = 0x19 ∷ []
+stackCode Push z o = (0x18 + sizeStep z + registerIn o) ∷ []
+stackCode Pop z o = (0x38 + sizeStep z + registerIn o) ∷ []
+stackCode Call16 z o = 0x1C ∷ bytesFrom 2 (constantIn o)
+stackCode Call24 z o = 0x1D ∷ bytesFrom 3 (constantIn o)
+stackCode Calr z o = 0x1E ∷ bytesFrom 2 (constantIn o)
+stackCode Ret z o = 0x0E ∷ []
+
+abbrev pub useCode : Use → Size → Operand → List ℕ
+useCode (Number n) z o = placeCode (sizeStep z) o ++ (0x03 ∷ bytesFrom (bytesOf z) n)
+useCode (From r) z o = fromCode r z o
+useCode (Load r) z o = placeCode (sizeStep z) o ++ ((loadCode o + r) ∷ [])
+useCode (Compute a other) z o = placeCode (sizeStep z) o ++ sideCode a other z
+useCode (Inc n) z o = placeCode (sizeStep z) o ++ ((0x60 + n) ∷ [])
+useCode (Dec n) z o = placeCode (sizeStep z) o ++ ((0x68 + n) ∷ [])
+useCode (Shifted t n) z o = placeCode (sizeStep z) o ++ ((0xEC + shiftNumber t) ∷ n ∷ [])
+useCode Extz z o = placeCode (sizeStep z) o ++ (0x12 ∷ [])
+useCode Exts z o = placeCode (sizeStep z) o ++ (0x13 ∷ [])
+
 unfoldable pub codeOf : Op → Size → Operand → List ℕ
-codeOf Nop z o = 0x00 ∷ []
-codeOf Incf z o = 0x0C ∷ []
-codeOf Decf z o = 0x0D ∷ []
-codeOf Ldf z o = 0x17 ∷ constantIn o ∷ []
-codeOf Rcf z o = 0x10 ∷ []
-codeOf Scf z o = 0x11 ∷ []
-codeOf Ccf z o = 0x12 ∷ []
-codeOf Zcf z o = 0x13 ∷ []
-codeOf Exf z o = 0x16 ∷ []
-codeOf PushF z o = 0x18 ∷ []
-codeOf PopF z o = 0x19 ∷ []
-codeOf (Set r) z o = (0x20 + sizeStep z + r) ∷ bytesFrom (bytesOf z) (constantIn o)
-codeOf Push z o = (0x18 + sizeStep z + registerIn o) ∷ []
-codeOf Pop z o = (0x38 + sizeStep z + registerIn o) ∷ []
-codeOf Jp16 z o = 0x1A ∷ bytesFrom 2 (constantIn o)
-codeOf Jp24 z o = 0x1B ∷ bytesFrom 3 (constantIn o)
-codeOf Call16 z o = 0x1C ∷ bytesFrom 2 (constantIn o)
-codeOf Call24 z o = 0x1D ∷ bytesFrom 3 (constantIn o)
-codeOf Calr z o = 0x1E ∷ bytesFrom 2 (constantIn o)
-codeOf Ret z o = 0x0E ∷ []
-codeOf (Jr cc) z o = (0x60 + cc) ∷ bytesFrom 1 (constantIn o)
-codeOf (Jrl cc) z o = (0x70 + cc) ∷ bytesFrom 2 (constantIn o)
-codeOf (LoadConstant n) z o = placeCode (sizeStep z) o ++ (0x03 ∷ bytesFrom (bytesOf z) n)
-codeOf (Load r) z o = placeCode (sizeStep z) o ++ ((loadCode o + r) ∷ [])
-codeOf (Into r) z o = placeCode (sizeStep z) o ++ ((0x98 + r) ∷ [])
-codeOf (Compute a r) z o = placeCode (sizeStep z) o ++ ((0x80 + 16 * arithNumber a + r) ∷ [])
-codeOf (ComputeInto a r) z o = placeCode (sizeStep z) o ++ ((0x88 + 16 * arithNumber a + r) ∷ [])
-codeOf (ComputeConstant a n) z o = placeCode (sizeStep z) o ++ ((0xC8 + arithNumber a) ∷ bytesFrom (bytesOf z) n)
-codeOf (Inc n) z o = placeCode (sizeStep z) o ++ ((0x60 + n) ∷ [])
-codeOf (Dec n) z o = placeCode (sizeStep z) o ++ ((0x68 + n) ∷ [])
-codeOf (Shifted t n) z o = placeCode (sizeStep z) o ++ ((0xEC + shiftNumber t) ∷ n ∷ [])
-codeOf Extz z o = placeCode (sizeStep z) o ++ (0x12 ∷ [])
-codeOf Exts z o = placeCode (sizeStep z) o ++ (0x13 ∷ [])
-codeOf (Store r) z o = placeCode 48 o ++ ((0x40 + sizeStep z + r) ∷ [])
-codeOf (Block f) z o = placeCode (sizeStep z) o ++ (blockCode (f .copies) (f .up) (f .again) ∷ [])
+codeOf (Controls what) z o = controlCode what o
+codeOf (Stacks what) z o = stackCode what z o
+codeOf (Puts how) z o = useCode how z o
+codeOf (Sets r) z o = (0x20 + sizeStep z + r) ∷ bytesFrom (bytesOf z) (constantIn o)
+codeOf (Blocks f) z o = (0x80 + sizeStep z + f .from) ∷ blockCode (f .copies) (f .up) (f .again) ∷ []

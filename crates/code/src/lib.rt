@@ -3,14 +3,16 @@ ghost use mathlib.Core.Path.{_≡_};
 ghost use Prim.Native.Nat.{_+_, _*_, _<_, _≤_};
 ghost use lib.ListN.{length, getD, take, drop};
 ghost use Rattle.little.specs.Bytes.{valueOf};
-ghost use Rattle.code.specs.Said.{numberAt, withFound, foundOr0, wholeOf};
-ghost use Rattle.code.specs.Listed.{decodeOf};
+ghost use Rattle.code.specs.Said.{numberAt, wholeOf, judge};
+ghost use Rattle.code.specs.Rows.{lookup};
+ghost use Rattle.code.specs.Parts.{aloneAs, countAs, extendAs, registerAs, memoryAs};
+ghost use Rattle.code.specs.Listed.{memoryFirstRows, decodeOf};
 use alu::Arith;
 use alu::Shift;
 use little::Size;
 
 pub mod first;
-mod memory;
+pub mod memory;
 pub mod registers;
 
 // Where a memory form's address comes from: a register, a register and a displacement, or the code alone.
@@ -45,8 +47,8 @@ pub struct Form {
     pub from: u8,
 }
 
-// What is done. A code or a number here stood after the operand's bytes.
-pub enum Op {
+// What changes the counter, the bank and the flags alone. JR and JRL have their condition.
+pub enum Control {
     Nop,
     Incf,
     Decf,
@@ -56,32 +58,51 @@ pub enum Op {
     Ccf,
     Zcf,
     Exf,
-    PushF,
-    PopF,
-    Set(u8),
-    Push,
-    Pop,
     Jp16,
     Jp24,
+    Jr(u8),
+    Jrl(u8),
+}
+
+// What is done with the stack.
+pub enum Stack {
+    PushF,
+    PopF,
+    Push,
+    Pop,
     Call16,
     Call24,
     Calr,
     Ret,
-    Jr(u8),
-    Jrl(u8),
-    LoadConstant(u32),
-    Load(u8),
-    Into(u8),
-    Compute(Arith, u8),
-    ComputeInto(Arith, u8),
-    ComputeConstant(Arith, u32),
+}
+
+// The other operand of an operation on two, and where the result goes.
+pub enum Side {
+    First(u8), // the register of a code is the first, and gets the result
+    Second(u8), // the register of a code is the second, and the operand gets the result
+    With(u32), // a number is the second, and the operand gets the result
+}
+
+// What is put; where nothing else is said, into the operand.
+pub enum Use {
+    Number(u32),
+    From(u8), // the register of a code
+    Load(u8), // the operand's value, into the register of a code
+    Compute(Arith, Side),
     Inc(u8),
     Dec(u8),
     Shifted(Shift, u8),
     Extz,
     Exts,
-    Store(u8),
-    Block(Form),
+}
+
+// What is done, by the kind of work. A code or a number in it stood after the operand's bytes.
+pub enum Op {
+    Controls(Control),
+    Stacks(Stack),
+    Puts(Use),
+    Sets(u8), // the register of a code to the operand's number
+    Blocks(Form),
 }
 
 pub struct Instruction {
@@ -94,6 +115,48 @@ pub struct Instruction {
 // Short: the bytes begin a listed instruction and are not the whole of it. Unlisted: they begin none.
 pub enum Decoded {
     Whole(Instruction),
+    Short,
+    Unlisted,
+}
+
+// What a code says whose first byte is 00 to 7F: with its number, or its size and operand, and how many bytes it has.
+pub enum Alone {
+    Controls(Control, u32, usize),
+    Stacks(Stack, Size, Operand, usize),
+    Sets(u8, Size, u32, usize),
+    Short,
+    Unlisted,
+}
+
+// What a register form says of its register, and how many bytes it has. The fields lie side by side, and not in a `Use`: an enum
+// in an enum was measured to be slower.
+pub enum OfRegister {
+    Number(u32, usize),
+    From(u8, usize),
+    Load(u8, usize),
+    Compute(Arith, u8, usize), // with the register of a code, which is the first and gets the result
+    With(Arith, u32, usize),
+    Count(bool, u8, usize), // INC or DEC
+    Shifted(Shift, u8, usize),
+    Extend(bool, usize), // EXTS or EXTZ
+    Short,
+    Unlisted,
+}
+
+// A memory form, and how many bytes it has.
+pub enum Begun {
+    Form(Base, u32, usize),
+    Short,
+    Unlisted,
+}
+
+// What the byte after a memory form says.
+pub enum OfMemory {
+    Load(u8, Size, usize),
+    From(u8, Size, usize),
+    Compute(Arith, u8, Size, usize), // with the register of a code, which is the first and gets the result
+    ComputeInto(Arith, u8, Size, usize), // the register is the second, and memory gets the result
+    Blocks(Form, usize),
     Short,
     Unlisted,
 }
@@ -118,17 +181,6 @@ fn word(code: &[u8], at: usize) -> u32
     ensures { λ r. ⌜ (r ≡ getD (now (code .entry)) at 0 + 256 * getD (now (code .entry)) (at + 1) 0) × (r < 65536) ⌝ }
 {
     byte(code, at) + 256 * byte(code, at + 1)
-}
-
-fn whole(op: Op, size: Size, operand: Operand, length: usize) -> Decoded
-    ensures { λ r. ⌜ r ≡ wholeOf op size operand length ⌝ }
-{
-    Decoded::Whole(Instruction {
-        op: op,
-        size: size,
-        operand: operand,
-        length: length,
-    })
 }
 
 // The number in n bytes from `at`, low byte first.
@@ -157,23 +209,116 @@ fn number(code: &[u8], at: usize, n: usize) -> Found
     Found::Missing
 }
 
-// The number found, or 0.
-fn value(found: Found) -> u32
-    ensures { λ r. ⌜ r ≡ foundOr0 found ⌝ }
+fn whole(op: Op, size: Size, operand: Operand, length: usize) -> Decoded
+    ensures { λ r. ⌜ r ≡ wholeOf op size operand length ⌝ }
 {
-    match found {
-        Found::Value(v) => v,
-        Found::Missing => 0,
+    Decoded::Whole(Instruction {
+        op: op,
+        size: size,
+        operand: operand,
+        length: length,
+    })
+}
+
+fn puts(how: Use, size: Size, operand: Operand, length: usize) -> Decoded
+    ensures { λ r. ⌜ r ≡ wholeOf (Op.Puts how) size operand length ⌝ }
+{
+    whole(Op::Puts(how), size, operand, length)
+}
+
+fn count(up: bool, n: u8) -> Use
+    ensures { λ r. ⌜ r ≡ countAs up n ⌝ }
+{
+    if up { Use::Inc(n) } else { Use::Dec(n) }
+}
+
+fn extension(signed: bool) -> Use
+    ensures { λ r. ⌜ r ≡ extendAs signed ⌝ }
+{
+    if signed { Use::Exts } else { Use::Extz }
+}
+
+// What was read, as an instruction.
+fn whole_alone(read: Alone) -> Decoded
+    ensures { λ r. ⌜ r ≡ aloneAs read ⌝ }
+{
+    match read {
+        Alone::Controls(what, v, n) => whole(
+            Op::Controls(what),
+            Size::Byte,
+            Operand::Constant(v),
+            n,
+        ),
+        Alone::Stacks(what, size, operand, n) => whole(Op::Stacks(what), size, operand, n),
+        Alone::Sets(r, size, v, n) => whole(Op::Sets(r), size, Operand::Constant(v), n),
+        Alone::Short => Decoded::Short,
+        Alone::Unlisted => Decoded::Unlisted,
     }
 }
 
-// The whole instruction, where the number in it was found.
-fn when_found(found: Found, op: Op, size: Size, operand: Operand, length: usize) -> Decoded
-    ensures { λ r. ⌜ r ≡ withFound found (λ v. wholeOf op size operand length) ⌝ }
+fn whole_of_register(read: OfRegister, size: Size, operand: Operand) -> Decoded
+    ensures { λ r. ⌜ r ≡ registerAs read size operand ⌝ }
 {
-    match found {
-        Found::Value(_) => whole(op, size, operand, length),
-        Found::Missing => Decoded::Short,
+    match read {
+        OfRegister::Number(v, n) => puts(Use::Number(v), size, operand, n),
+        OfRegister::From(r, n) => puts(Use::From(r), size, operand, n),
+        OfRegister::Load(r, n) => puts(Use::Load(r), size, operand, n),
+        OfRegister::Compute(op, r, n) => puts(Use::Compute(op, Side::First(r)), size, operand, n),
+        OfRegister::With(op, v, n) => puts(Use::Compute(op, Side::With(v)), size, operand, n),
+        OfRegister::Count(up, k, n) => puts(count(up, k), size, operand, n),
+        OfRegister::Shifted(shift, k, n) => puts(Use::Shifted(shift, k), size, operand, n),
+        OfRegister::Extend(signed, n) => puts(extension(signed), size, operand, n),
+        OfRegister::Short => Decoded::Short,
+        OfRegister::Unlisted => Decoded::Unlisted,
+    }
+}
+
+fn whole_of_memory(read: OfMemory, m: MemoryForm) -> Decoded
+    ensures { λ r. ⌜ r ≡ memoryAs read m ⌝ }
+{
+    let operand = Operand::Memory(m);
+    match read {
+        OfMemory::Load(r, size, n) => puts(Use::Load(r), size, operand, n),
+        OfMemory::From(r, size, n) => puts(Use::From(r), size, operand, n),
+        OfMemory::Compute(op, r, size, n) => puts(
+            Use::Compute(op, Side::First(r)),
+            size,
+            operand,
+            n,
+        ),
+        OfMemory::ComputeInto(op, r, size, n) => puts(
+            Use::Compute(op, Side::Second(r)),
+            size,
+            operand,
+            n,
+        ),
+        OfMemory::Blocks(f, n) => {
+            let size = f.size;
+            let pointer = MemoryForm {
+                base: Base::Indirect(f.from),
+                number: 0,
+            };
+            whole(Op::Blocks(f), size, Operand::Memory(pointer), n)
+        }
+        OfMemory::Short => Decoded::Short,
+        OfMemory::Unlisted => Decoded::Unlisted,
+    }
+}
+
+// A memory form from its first byte on, as an instruction.
+fn whole_begun(code: &[u8], b: u8) -> Decoded
+    ensures { λ r. ⌜ r ≡ judge (lookup memoryFirstRows b) (now (code .entry)) 1 ⌝ }
+{
+    match memory::begin(code, b) {
+        Begun::Form(base, v, n) => {
+            let m = MemoryForm {
+                base: base,
+                number: v,
+            };
+            whole_of_memory(memory::after(code, b, n), m)
+        }
+        Begun::Short => Decoded::Short,
+        Begun::Unlisted => Decoded::Unlisted,
     }
 }
 
@@ -184,5 +329,15 @@ pub fn decode(code: &[u8]) -> Decoded
     if code.len() == 0 {
         return Decoded::Short;
     }
-    first::first_case(code, code[0])
+    let b = code[0];
+    if b < 0x80 {
+        return whole_alone(first::read(code, b));
+    }
+    match b / 8 {
+        25 | 27 | 29 => {
+            let size = first::size_of(b / 16);
+            whole_of_register(registers::read(code, size), size, Operand::Register(b % 8))
+        }
+        _ => whole_begun(code, b),
+    }
 }

@@ -1,27 +1,31 @@
-// The memory forms: what the byte after the address says.
+// The memory forms: where the address comes from, and what the byte after it says.
 ghost use mathlib.Core.Path.{_≡_};
 ghost use mathlib.Core.List.{List, _++_};
 ghost use Prim.Native.Nat.{ℕ, _/_, _%_, _≤_};
 ghost use lib.Dec.{eqb};
-ghost use Rattle.code.specs.Said.{judge, wholeOf};
+ghost use Rattle.code.specs.Said.{Said, judge, wholeOf};
 ghost use Rattle.code.specs.Rows.{lookup, byRows};
-ghost use Rattle.code.specs.Memory.{memoryRows, storeRows, blocks, indirectRows, rowsAfter, form};
-ghost use Rattle.code.specs.Listed.{formWith, absoluteRows};
+ghost use Rattle.code.specs.Memory.{memoryRows, storeRows, blocks, form};
+ghost use Rattle.code.specs.Listed.{memoryFirstRows, rowsBegun};
+ghost use Rattle.code.specs.Parts.{memoryAs, begunAs};
 use crate::Base;
-use crate::Decoded;
+use crate::Begun;
 use crate::Form;
 use crate::Found;
 use crate::MemoryForm;
+use crate::OfMemory;
 use crate::Op;
 use crate::Operand;
+use crate::first::size_of;
 use little::Size;
 
 // A copy or a compare by the byte c, 10 to 17: up in 10, 11, 14, 15, and again where c is odd.
-fn block(copies: bool, size: Size, to: u8, from: u8, c: u8) -> Decoded
-    ensures { λ r. ⌜ r ≡ wholeOf (Op.Block (record { copies = copies; size = size; up = eqb (c / 2 % 2) 0; again = eqb (c % 2) 1; to = to; from = from }))
-        size (form (Base.Indirect from) 0) 2 ⌝ }
+fn block(copies: bool, size: Size, to: u8, from: u8, c: u8, at: usize) -> OfMemory
+    ensures { λ r. ⌜ ((m : MemoryForm) → memoryAs r m
+        ≡ wholeOf (Op.Blocks (record { copies = copies; size = size; up = eqb (c / 2 % 2) 0; again = eqb (c % 2) 1; to = to; from = from }))
+        size (form (Base.Indirect from) 0) at) ⌝ }
 {
-    let form = Form {
+    let f = Form {
         copies: copies,
         size: size,
         up: c / 2 % 2 == 0,
@@ -29,155 +33,104 @@ fn block(copies: bool, size: Size, to: u8, from: u8, c: u8) -> Decoded
         to: to,
         from: from,
     };
-    let operand = Operand::Memory(MemoryForm {
-        base: Base::Indirect(from),
-        number: 0,
-    });
-    crate::whole(Op::Block(form), size, operand, 2)
+    OfMemory::Blocks(f, at)
 }
 
 // The copies and compares of the pointer r.
-fn block_case(size: Size, r: u8, c: u8) -> Decoded
+fn block_case(size: Size, r: u8, c: u8, at: usize) -> OfMemory
     requires { ⌜ c / 8 ≡ 2 ⌝ }
-    ensures { λ d. ⌜ ((s : List ℕ) → d ≡ judge (lookup (memoryRows size (form (Base.Indirect r) 0) ++ blocks size r) c) s 2) ⌝ }
+    ensures { λ d. ⌜ ((m : MemoryForm) (s : List ℕ) → memoryAs d m ≡ judge (lookup (memoryRows size (Operand.Memory m) ++ blocks size r) c) s at) ⌝ }
 {
     if c < 0x14 {
         if r == 3 {
-            return block(true, size, 2, 3, c);
+            return block(true, size, 2, 3, c, at);
         }
         if r == 5 {
-            return block(true, size, 4, 5, c);
+            return block(true, size, 4, 5, c, at);
         }
-        return Decoded::Unlisted;
+        return OfMemory::Unlisted;
     }
     if r < 2 {
-        return Decoded::Unlisted;
+        return OfMemory::Unlisted;
     }
-    block(false, size, r, r, c)
+    block(false, size, r, r, c, at)
 }
 
-// What the byte c says of memory, with `at` bytes read.
-fn memory_case(at: usize, size: Size, operand: Operand, c: u8) -> Decoded
-    ensures { λ r. ⌜ ((s : List ℕ) → r ≡ judge (lookup (memoryRows size operand) c) s at) ⌝ }
+// What the byte c says of memory, with `at` bytes read. It is no copy's or compare's.
+fn memory_case(at: usize, size: Size, c: u8) -> OfMemory
+    ensures { λ r. ⌜ ((m : MemoryForm) (s : List ℕ) → memoryAs r m ≡ judge (lookup (memoryRows size (Operand.Memory m)) c) s at) ⌝ }
 {
-    let n = c % 8;
-    let arith = crate::registers::arith_of(c / 16 % 8);
-    match c / 8 {
-        4 => crate::whole(Op::Load(n), size, operand, at),
-        16 | 18 | 20 | 22 | 24 | 26 | 28 | 30 => crate::whole(
-            Op::Compute(arith, n),
-            size,
-            operand,
-            at,
-        ),
-        17 | 19 | 21 | 23 | 25 | 27 | 29 | 31 => crate::whole(
-            Op::ComputeInto(arith, n),
-            size,
-            operand,
-            at,
-        ),
-        _ => Decoded::Unlisted,
+    if 0x80 <= c {
+        let op = crate::registers::arith_of(c / 16 % 8);
+        if c / 8 % 2 == 1 {
+            return OfMemory::ComputeInto(op, c % 8, size, at);
+        }
+        return OfMemory::Compute(op, c % 8, size, at);
     }
+    if c / 8 == 4 {
+        return OfMemory::Load(c % 8, size, at);
+    }
+    OfMemory::Unlisted
 }
 
 // What the byte c says of a store.
-fn store_case(at: usize, operand: Operand, c: u8) -> Decoded
-    ensures { λ r. ⌜ ((s : List ℕ) → r ≡ judge (lookup (storeRows operand) c) s at) ⌝ }
+fn store_case(at: usize, c: u8) -> OfMemory
+    ensures { λ r. ⌜ ((m : MemoryForm) (s : List ℕ) → memoryAs r m ≡ judge (lookup (storeRows (Operand.Memory m)) c) s at) ⌝ }
 {
-    let op = Op::Store(c % 8);
+    let r = c % 8;
     match c / 8 {
-        8 => crate::whole(op, Size::Byte, operand, at),
-        10 => crate::whole(op, Size::Word, operand, at),
-        12 => crate::whole(op, Size::Long, operand, at),
-        _ => Decoded::Unlisted,
+        8 => OfMemory::From(r, Size::Byte, at),
+        10 => OfMemory::From(r, Size::Word, at),
+        12 => OfMemory::From(r, Size::Long, at),
+        _ => OfMemory::Unlisted,
     }
-}
-
-// The byte after an address, of a store or of another form.
-fn after_address(code: &[u8], at: usize, size: Size, operand: Operand, store: bool) -> Decoded
-    ensures { λ r. ⌜ r ≡ judge (byRows (rowsAfter store size operand)) (now (code .entry)) at ⌝ }
-{
-    if code.len() <= at {
-        return Decoded::Short;
-    }
-    let c = code[at];
-    if store {
-        return store_case(at + 1, operand, c);
-    }
-    memory_case(at + 1, size, operand, c)
 }
 
 // A form whose number has n bytes.
-fn form_with(code: &[u8], base: Base, n: usize, size: Size, store: bool) -> Decoded
+fn with_number(code: &[u8], base: Base, n: usize) -> Begun
     requires { ⌜ (1 ≤ n) × (n ≤ 4) ⌝ }
-    ensures { λ r. ⌜ r ≡ judge (formWith base n (rowsAfter store size)) (now (code .entry)) 1 ⌝ }
+    ensures { λ r. ⌜ ((b : ℕ) → begunAs r b (now (code .entry))
+        ≡ judge (Said.number n (λ v. byRows (rowsBegun b (form base v)))) (now (code .entry)) 1) ⌝ }
 {
     match crate::number(code, 1, n) {
-        Found::Value(v) => {
-            let form = MemoryForm {
-                base: base,
-                number: v,
-            };
-            after_address(code, 1 + n, size, Operand::Memory(form), store)
-        }
-        Found::Missing => Decoded::Short,
+        Found::Value(v) => Begun::Form(base, v, 1 + n),
+        Found::Missing => Begun::Short,
     }
 }
 
-// A form (R+d8).
-pub fn displaced(code: &[u8], r: u8, size: Size, store: bool) -> Decoded
-    ensures { λ d. ⌜ d ≡ judge (formWith (Base.Displaced r) 1 (rowsAfter store size)) (now (code .entry)) 1 ⌝ }
+// The form, by the group of eight that the first byte is in; none of 00 to 7F is listed here, nor a register form's.
+pub fn begin(code: &[u8], b: u8) -> Begun
+    ensures { λ r. ⌜ begunAs r b (now (code .entry)) ≡ judge (lookup memoryFirstRows b) (now (code .entry)) 1 ⌝ }
 {
-    form_with(code, Base::Displaced(r), 1, size, store)
-}
-
-// A form n8, n16 or n24, by the low bits of the first byte.
-pub fn absolute(code: &[u8], k: u8, size: Size, store: bool) -> Decoded
-    ensures { λ r. ⌜ r ≡ judge (lookup (absoluteRows 0 (rowsAfter store size)) k) (now (code .entry)) 1 ⌝ }
-{
-    match k {
-        0 => form_with(code, Base::Absolute8, 1, size, store),
-        1 => form_with(code, Base::Absolute16, 2, size, store),
-        2 => form_with(code, Base::Absolute24, 3, size, store),
-        _ => Decoded::Unlisted,
+    let r = b % 8;
+    match b / 8 {
+        16 | 18 | 20 | 22 => Begun::Form(Base::Indirect(r), 0, 1),
+        17 | 19 | 21 | 23 => with_number(code, Base::Displaced(r), 1),
+        24 | 26 | 28 | 30 => match r {
+            0 => with_number(code, Base::Absolute8, 1),
+            1 => with_number(code, Base::Absolute16, 2),
+            2 => with_number(code, Base::Absolute24, 3),
+            _ => Begun::Unlisted,
+        },
+        _ => Begun::Unlisted,
     }
 }
 
-// What the byte c after a form (R) says.
-fn indirect_case(size: Size, r: u8, c: u8) -> Decoded
-    ensures { λ d. ⌜ ((s : List ℕ) → d ≡ judge (lookup (indirectRows size r) c) s 2) ⌝ }
+// The byte after the form, which is at an index; the first byte b says whether it is a store's, or may be a copy's.
+pub fn after(code: &[u8], b: u8, at: usize) -> OfMemory
+    ensures { λ r. ⌜ ((m : MemoryForm) → memoryAs r m ≡ judge (byRows (rowsBegun b (Operand.Memory m))) (now (code .entry)) at) ⌝ }
 {
-    if c / 8 == 2 {
-        return match size {
-            Size::Byte => block_case(size, r, c),
-            Size::Word => block_case(size, r, c),
-            Size::Long => Decoded::Unlisted,
-        };
+    if code.len() <= at {
+        return OfMemory::Short;
     }
-    let operand = Operand::Memory(MemoryForm {
-        base: Base::Indirect(r),
-        number: 0,
-    });
-    memory_case(2, size, operand, c)
-}
-
-// A form (R) that is no store's.
-pub fn indirect(code: &[u8], r: u8, size: Size) -> Decoded
-    ensures { λ d. ⌜ d ≡ judge (byRows (indirectRows size r)) (now (code .entry)) 1 ⌝ }
-{
-    if code.len() <= 1 {
-        return Decoded::Short;
+    let c = code[at];
+    let k = b / 8;
+    if (k == 22) | (k == 23) | (k == 30) {
+        return store_case(at + 1, c);
     }
-    indirect_case(size, r, code[1])
-}
-
-// A form (R) of a store.
-pub fn indirect_store(code: &[u8], r: u8) -> Decoded
-    ensures { λ d. ⌜ d ≡ judge (byRows (storeRows (form (Base.Indirect r) 0))) (now (code .entry)) 1 ⌝ }
-{
-    let operand = Operand::Memory(MemoryForm {
-        base: Base::Indirect(r),
-        number: 0,
-    });
-    after_address(code, 1, Size::Byte, operand, true)
+    let size = size_of(b / 16);
+    if (c / 8 == 2) & ((k == 16) | (k == 18)) {
+        return block_case(size, b % 8, c, at + 1);
+    }
+    memory_case(at + 1, size, c)
 }

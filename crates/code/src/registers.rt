@@ -3,10 +3,12 @@ ghost use mathlib.Core.Path.{_≡_};
 ghost use mathlib.Core.List.{List};
 ghost use Prim.Native.Nat.{ℕ, _/_, _<_, _≤_};
 ghost use lib.ListN.{length};
-ghost use Rattle.code.specs.Said.{Said, judge, wholeOf};
+ghost use Rattle.code.specs.Said.{Said, judge};
 ghost use Rattle.code.specs.Rows.{lookup, byRows};
 ghost use Rattle.code.specs.Registers.{registerRows, placesRows, arithOf, shiftKind, notByte};
-use crate::Decoded;
+ghost use Rattle.code.specs.Parts.{extendAs, registerAs};
+use crate::Found;
+use crate::OfRegister;
 use crate::Op;
 use crate::Operand;
 use alu::Arith;
@@ -40,123 +42,107 @@ pub fn shift_of(n: u8) -> Shift
     }
 }
 
-// The whole instruction on the register r.
-fn on(r: u8, op: Op, size: Size, length: usize) -> Decoded
-    ensures { λ d. ⌜ d ≡ wholeOf op size (Operand.Register r) length ⌝ }
-{
-    crate::whole(op, size, Operand::Register(r), length)
-}
-
 // 03 and a constant, and nothing else from 00 to 07.
-fn load_constant(code: &[u8], at: usize, size: Size, r: u8, c: u8) -> Decoded
-    requires { ⌜ (at ≤ length (now code)) × (c < 8) ⌝ }
-    ensures { λ d. ⌜ d ≡ judge (lookup (registerRows size (Operand.Register r)) c) (now (code .entry)) at ⌝ }
+fn load_constant(code: &[u8], size: Size, c: u8) -> OfRegister
+    requires { ⌜ (2 ≤ length (now code)) × (c < 8) ⌝ }
+    ensures { λ d. ⌜ ((o : Operand) → registerAs d size o ≡ judge (lookup (registerRows size o) c) (now (code .entry)) 2) ⌝ }
 {
     if c == 3 {
         let n = little::bytes(size);
-        let found = crate::number(code, at, n);
-        crate::when_found(
-            found,
-            Op::LoadConstant(crate::value(found)),
-            size,
-            Operand::Register(r),
-            at + n,
-        )
-    } else {
-        Decoded::Unlisted
+        return match crate::number(code, 2, n) {
+            Found::Value(v) => OfRegister::Number(v, 2 + n),
+            Found::Missing => OfRegister::Short,
+        };
     }
+    OfRegister::Unlisted
 }
 
 // C8 to CF and a constant.
-fn compute_constant(code: &[u8], at: usize, size: Size, r: u8, c: u8) -> Decoded
-    requires { ⌜ (at ≤ length (now code)) × (c / 8 ≡ 25) ⌝ }
-    ensures { λ d. ⌜ d ≡ judge (lookup (registerRows size (Operand.Register r)) c) (now (code .entry)) at ⌝ }
+fn compute_constant(code: &[u8], size: Size, c: u8) -> OfRegister
+    requires { ⌜ (2 ≤ length (now code)) × (c / 8 ≡ 25) ⌝ }
+    ensures { λ d. ⌜ ((o : Operand) → registerAs d size o ≡ judge (lookup (registerRows size o) c) (now (code .entry)) 2) ⌝ }
 {
     let n = little::bytes(size);
-    let found = crate::number(code, at, n);
-    let op = Op::ComputeConstant(arith_of(c % 8), crate::value(found));
-    crate::when_found(found, op, size, Operand::Register(r), at + n)
+    match crate::number(code, 2, n) {
+        Found::Value(v) => OfRegister::With(arith_of(c % 8), v, 2 + n),
+        Found::Missing => OfRegister::Short,
+    }
 }
 
 // An extension: of words and longs only.
-fn extended(op: Op, size: Size, r: u8, at: usize) -> Decoded
-    ensures { λ d. ⌜ ((s : List ℕ) → d ≡ judge (notByte size (Said.whole op size (Operand.Register r))) s at) ⌝ }
+fn extended(signed: bool, size: Size) -> OfRegister
+    ensures { λ d. ⌜ ((o : Operand) (s : List ℕ) → registerAs d size o ≡ judge (notByte size (Said.whole (Op.Puts (extendAs signed)) size o)) s 2) ⌝ }
 {
     match size {
-        Size::Byte => Decoded::Unlisted,
-        Size::Word => on(r, op, size, at),
-        Size::Long => on(r, op, size, at),
+        Size::Byte => OfRegister::Unlisted,
+        Size::Word => OfRegister::Extend(signed, 2),
+        Size::Long => OfRegister::Extend(signed, 2),
     }
 }
 
 // 12 EXTZ, 13 EXTS, and nothing else from 10 to 17.
-fn extension(at: usize, size: Size, r: u8, c: u8) -> Decoded
+fn extension(size: Size, c: u8) -> OfRegister
     requires { ⌜ c / 8 ≡ 2 ⌝ }
-    ensures { λ d. ⌜ ((s : List ℕ) → d ≡ judge (lookup (registerRows size (Operand.Register r)) c) s at) ⌝ }
+    ensures { λ d. ⌜ ((o : Operand) (s : List ℕ) → registerAs d size o ≡ judge (lookup (registerRows size o) c) s 2) ⌝ }
 {
     match c {
-        0x12 => extended(Op::Extz, size, r, at),
-        0x13 => extended(Op::Exts, size, r, at),
-        _ => Decoded::Unlisted,
+        0x12 => extended(false, size),
+        0x13 => extended(true, size),
+        _ => OfRegister::Unlisted,
     }
 }
 
 // A shift, by the byte of its places.
-fn shifted(code: &[u8], at: usize, size: Size, r: u8, shift: Shift) -> Decoded
-    ensures { λ d. ⌜ d ≡ judge (byRows (placesRows size (Operand.Register r) shift)) (now (code .entry)) at ⌝ }
+fn shifted(code: &[u8], size: Size, shift: Shift) -> OfRegister
+    ensures { λ d. ⌜ ((o : Operand) → registerAs d size o ≡ judge (byRows (placesRows size o shift)) (now (code .entry)) 2) ⌝ }
 {
-    if code.len() <= at {
-        return Decoded::Short;
+    if code.len() <= 2 {
+        return OfRegister::Short;
     }
-    let places = code[at];
+    let places = code[2];
     if 15 < places {
-        return Decoded::Unlisted;
+        return OfRegister::Unlisted;
     }
-    on(r, Op::Shifted(shift, places), size, at + 1)
+    OfRegister::Shifted(shift, places, 3)
 }
 
 // EC SLA, ED SRA, EE SLL, EF SRL, and nothing else from E8 to EF.
-fn shift_case(code: &[u8], at: usize, size: Size, r: u8, c: u8) -> Decoded
+fn shift_case(code: &[u8], size: Size, c: u8) -> OfRegister
     requires { ⌜ c / 8 ≡ 29 ⌝ }
-    ensures { λ d. ⌜ d ≡ judge (lookup (registerRows size (Operand.Register r)) c) (now (code .entry)) at ⌝ }
+    ensures { λ d. ⌜ ((o : Operand) → registerAs d size o ≡ judge (lookup (registerRows size o) c) (now (code .entry)) 2) ⌝ }
 {
     if c < 0xEC {
-        return Decoded::Unlisted;
+        return OfRegister::Unlisted;
     }
-    shifted(code, at, size, r, shift_of(c % 4))
+    shifted(code, size, shift_of(c % 4))
 }
 
-// What the byte c says, with `at` bytes read.
-fn register_case(code: &[u8], at: usize, size: Size, r: u8, c: u8) -> Decoded
-    requires { ⌜ at ≤ length (now code) ⌝ }
-    ensures { λ d. ⌜ d ≡ judge (lookup (registerRows size (Operand.Register r)) c) (now (code .entry)) at ⌝ }
+// What the second byte c says.
+fn second(code: &[u8], size: Size, c: u8) -> OfRegister
+    requires { ⌜ 2 ≤ length (now code) ⌝ }
+    ensures { λ d. ⌜ ((o : Operand) → registerAs d size o ≡ judge (lookup (registerRows size o) c) (now (code .entry)) 2) ⌝ }
 {
     let n = c % 8;
     match c / 8 {
-        0 => load_constant(code, at, size, r, c),
-        2 => extension(at, size, r, c),
-        12 => on(r, Op::Inc(n), size, at),
-        13 => on(r, Op::Dec(n), size, at),
-        17 => on(r, Op::Load(n), size, at),
-        19 => on(r, Op::Into(n), size, at),
-        16 | 18 | 20 | 22 | 24 | 26 | 28 | 30 => on(
-            r,
-            Op::Compute(arith_of(c / 16 % 8), n),
-            size,
-            at,
-        ),
-        25 => compute_constant(code, at, size, r, c),
-        29 => shift_case(code, at, size, r, c),
-        _ => Decoded::Unlisted,
+        0 => load_constant(code, size, c),
+        2 => extension(size, c),
+        12 => OfRegister::Count(true, n, 2),
+        13 => OfRegister::Count(false, n, 2),
+        17 => OfRegister::Load(n, 2),
+        19 => OfRegister::From(n, 2),
+        16 | 18 | 20 | 22 | 24 | 26 | 28 | 30 => OfRegister::Compute(arith_of(c / 16 % 8), n, 2),
+        25 => compute_constant(code, size, c),
+        29 => shift_case(code, size, c),
+        _ => OfRegister::Unlisted,
     }
 }
 
-// The form of the register r, from the byte after it on.
-pub fn register_form(code: &[u8], at: usize, size: Size, r: u8) -> Decoded
-    ensures { λ d. ⌜ d ≡ judge (byRows (registerRows size (Operand.Register r))) (now (code .entry)) at ⌝ }
+// A register form of a size, whatever its register.
+pub fn read(code: &[u8], size: Size) -> OfRegister
+    ensures { λ d. ⌜ ((o : Operand) → registerAs d size o ≡ judge (byRows (registerRows size o)) (now (code .entry)) 1) ⌝ }
 {
-    if code.len() <= at {
-        return Decoded::Short;
+    if code.len() <= 1 {
+        return OfRegister::Short;
     }
-    register_case(code, at + 1, size, r, code[at])
+    second(code, size, code[1])
 }

@@ -1,2 +1,1 @@
 pub mod Compute
-pub mod Put

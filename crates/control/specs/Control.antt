@@ -1,29 +1,33 @@
 -- Banks, flags and jumps: what changes the counter, the bank and the flags alone.
 use Prim.Native.Nat.{ℕ, _+_}
 use mathlib.Core.Bool.{cond}
+use mathlib.Core.List.{List}
 use Rattle.alu.specs.Condition.{holdsOf}
+use Rattle.alu.specs.Flag.{rcfOf, scfOf, ccfOf, zcfOf}
 use Rattle.state.specs.State.{withBank, withCounter}
 use Rattle.state.specs.declared.State.{State}
+use Rattle.code.specs.declared.Control.{Control}
+use Rattle.code.specs.declared.Control.the-variants.{Nop, Incf, Decf, Ldf, Rcf, Scf, Ccf, Zcf, Exf, Jp16, Jp24, Jr, Jrl}
+use Rattle.operand.specs.Try.{Try, did}
 use Rattle.operand.specs.Flag.{flagsIn, flagged, exchanged}
-use Rattle.little.specs.Width.{bitsOf}
-use Rattle.alu.specs.Flag.{rcfOf, scfOf, ccfOf, zcfOf}
 use Rattle.operand.specs.Operand.{displaced}
-use Rattle.control.specs.declared.kind.Control.{Control}
-use Rattle.control.specs.declared.kind.Control.the-variants as control
 
 -- the counter is `to` where the condition cc holds; else it stays past the jump
-unfoldable pub jumpOf : State → ℕ → ℕ → State
-jumpOf s cc to = cond (holdsOf (flagsIn s) cc) (withCounter s to) s
+unfoldable pub jumpOf : State → List ℕ → ℕ → ℕ → Try
+jumpOf s ram cc to = did (cond (holdsOf (flagsIn s) cc) (withCounter s to) s) ram
 
--- how the code divides the work, with the operand's number n
-abbrev pub controlOf : Control → ℕ → State → State
-controlOf control.Nop n s = s
-controlOf (control.BankOn b) n s = withBank s (s .bank .0 + b)
-controlOf control.BankIs n s = withBank s n
-controlOf control.Rcf n s = flagged s (rcfOf (flagsIn s))
-controlOf control.Scf n s = flagged s (scfOf (flagsIn s))
-controlOf control.Ccf n s = flagged s (ccfOf (flagsIn s))
-controlOf control.Zcf n s = flagged s (zcfOf (flagsIn s))
-controlOf control.Exf n s = exchanged s
-controlOf control.Jump n s = withCounter s n
-controlOf (control.JumpIf cc z) n s = jumpOf s cc (displaced (bitsOf z) (s .counter) n)
+-- what each does, with the number n that is its operand; the state is past the instruction
+unfoldable pub controlOf : Control → ℕ → State → List ℕ → Try
+controlOf Nop n s ram = did s ram
+controlOf Incf n s ram = did (withBank s (s .bank .0 + 1)) ram
+controlOf Decf n s ram = did (withBank s (s .bank .0 + 3)) ram
+controlOf Ldf n s ram = did (withBank s n) ram
+controlOf Rcf n s ram = did (flagged s (rcfOf (flagsIn s))) ram
+controlOf Scf n s ram = did (flagged s (scfOf (flagsIn s))) ram
+controlOf Ccf n s ram = did (flagged s (ccfOf (flagsIn s))) ram
+controlOf Zcf n s ram = did (flagged s (zcfOf (flagsIn s))) ram
+controlOf Exf n s ram = did (exchanged s) ram
+controlOf Jp16 n s ram = did (withCounter s n) ram
+controlOf Jp24 n s ram = did (withCounter s n) ram
+controlOf (Jr cc) n s ram = jumpOf s ram cc (displaced 8 (s .counter) n)
+controlOf (Jrl cc) n s ram = jumpOf s ram cc (displaced 16 (s .counter) n)

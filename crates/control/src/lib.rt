@@ -1,26 +1,19 @@
 // Banks, flags and jumps: what changes the counter, the bank and the flags alone.
 ghost use mathlib.Core.Path.{_≡_};
-ghost use Prim.Native.Nat.{_+_, _%_, _^_};
+ghost use mathlib.Core.List.{List};
+ghost use Prim.Native.Nat.{ℕ, _+_, _%_, _^_};
 ghost use Rattle.little.specs.Width.{bitsOf};
+ghost use Rattle.alu.specs.Flag.{byteOf};
 ghost use Rattle.state.specs.declared.State.{State};
 ghost use Rattle.state.specs.State.{controlled, flaggedAt};
+ghost use Rattle.operand.specs.Try.{Does};
 ghost use Rattle.operand.specs.Operand.{displaced};
 ghost use Rattle.control.specs.Control.{jumpOf, controlOf};
-use crate::kind::Control;
+use alu::Flags;
+use answer::Answer;
+use code::Control;
 use little::Size;
 use operand::displace;
-
-pub mod kind;
-
-// The counter after a jump of a displacement of a size, where its condition holds.
-pub fn jump(flags: u8, counter: u32, cc: u8, size: Size, d: u32) -> u32
-    ensures { λ r. ⌜ ((s : State) → flaggedAt s r flags ≡ jumpOf (flaggedAt s counter flags) cc (displaced (bitsOf size) counter d)) ⌝ }
-{
-    if alu::holds(alu::unpack(flags), cc) {
-        return displace(size, counter, d);
-    }
-    counter
-}
 
 // The counter past an instruction of n bytes.
 pub fn past(counter: &mut u32, n: usize)
@@ -30,6 +23,49 @@ pub fn past(counter: &mut u32, n: usize)
     *counter = std::num::wrapping_add_u32(*counter, m) % 16777216;
 }
 
+// A jump by a displacement of a size, where its condition holds.
+pub fn jump(flags: u8, counter: &mut u32, cc: u8, size: Size, d: u32) -> Answer
+    ensures { λ a. ⌜ ((s : State) (ram : List ℕ) → Does (λ t m. jumpOf t m cc (displaced (bitsOf size) (t .counter) d))
+        (flaggedAt s (now (counter .entry)) flags) ram
+        a (flaggedAt s (now (counter .exit)) flags) ram) ⌝ }
+{
+    if alu::holds(alu::unpack(flags), cc) {
+        *counter = displace(size, *counter, d);
+    }
+    Answer::Done
+}
+
+// To an address.
+fn go(counter: &mut u32, to: u32) -> Answer
+    ensures { λ a. ⌜ (a ≡ Answer.Done) × (now (counter .exit) ≡ to % 2 ^ 24) ⌝ }
+{
+    *counter = to % 16777216;
+    Answer::Done
+}
+
+fn select(bank: &mut u8, n: u32) -> Answer
+    ensures { λ a. ⌜ (a ≡ Answer.Done) × (now (bank .exit) ≡ n % 4) ⌝ }
+{
+    *bank = (n % 4) as u8;
+    Answer::Done
+}
+
+fn set(flags: &mut u8, new: Flags) -> Answer
+    ensures { λ a. ⌜ (a ≡ Answer.Done) × (now (flags .exit) ≡ byteOf new) ⌝ }
+{
+    *flags = alu::pack(new);
+    Answer::Done
+}
+
+fn exchange(flags: &mut u8, spare: &mut u8) -> Answer
+    ensures { λ a. ⌜ (a ≡ Answer.Done) × ((now (flags .exit) ≡ now (spare .entry)) × (now (spare .exit) ≡ now (flags .entry))) ⌝ }
+{
+    let f = *flags;
+    *flags = *spare;
+    *spare = f;
+    Answer::Done
+}
+
 pub fn control(
     what: Control,
     number: u32,
@@ -37,40 +73,26 @@ pub fn control(
     bank: &mut u8,
     flags: &mut u8,
     spare: &mut u8,
-)
-    ensures { λ _. ⌜ ((s : State) → controlled s (now (counter .exit)) (now (bank .exit)) (now (flags .exit)) (now (spare .exit))
-        ≡ controlOf what number (controlled s (now (counter .entry)) (now (bank .entry)) (now (flags .entry)) (now (spare .entry)))) ⌝ }
+) -> Answer
+    ensures { λ a. ⌜ ((s : State) (ram : List ℕ) → Does (controlOf what number)
+        (controlled s (now (counter .entry)) (now (bank .entry)) (now (flags .entry)) (now (spare .entry))) ram
+        a (controlled s (now (counter .exit)) (now (bank .exit)) (now (flags .exit)) (now (spare .exit))) ram) ⌝ }
 {
-    let f = *flags;
+    let f = alu::unpack(*flags);
+    let b = *bank as u32;
     match what {
-        Control::Nop => {}
-        Control::BankOn(n) => {
-            *bank = (*bank % 4 + n % 4) % 4;
-        }
-        Control::BankIs => {
-            *bank = (number % 4) as u8;
-        }
-        Control::Rcf => {
-            *flags = alu::pack(alu::rcf(alu::unpack(f)));
-        }
-        Control::Scf => {
-            *flags = alu::pack(alu::scf(alu::unpack(f)));
-        }
-        Control::Ccf => {
-            *flags = alu::pack(alu::ccf(alu::unpack(f)));
-        }
-        Control::Zcf => {
-            *flags = alu::pack(alu::zcf(alu::unpack(f)));
-        }
-        Control::Exf => {
-            *flags = *spare;
-            *spare = f;
-        }
-        Control::Jump => {
-            *counter = number % 16777216;
-        }
-        Control::JumpIf(cc, size) => {
-            *counter = jump(f, *counter, cc, size, number);
-        }
+        Control::Nop => Answer::Done,
+        Control::Incf => select(bank, b + 1),
+        Control::Decf => select(bank, b + 3),
+        Control::Ldf => select(bank, number),
+        Control::Rcf => set(flags, alu::rcf(f)),
+        Control::Scf => set(flags, alu::scf(f)),
+        Control::Ccf => set(flags, alu::ccf(f)),
+        Control::Zcf => set(flags, alu::zcf(f)),
+        Control::Exf => exchange(flags, spare),
+        Control::Jp16 => go(counter, number),
+        Control::Jp24 => go(counter, number),
+        Control::Jr(cc) => jump(*flags, counter, cc, Size::Byte, number),
+        Control::Jrl(cc) => jump(*flags, counter, cc, Size::Word, number),
     }
 }

@@ -18,7 +18,7 @@ use Rattle.answer.specs.Number.{whyNumber, numberOf}
 use Rattle.little.specs.declared.Size.the-variants.{Long}
 use Rattle.state.specs.declared.State.{State}
 use Rattle.state.specs.Register.{getRegister}
-use Rattle.saved.specs.Sr.{srOf}
+use Rattle.state.specs.Sr.{srOf}
 use Rattle.step.specs.declared.Stepped.{Stepped}
 use Rattle.step.specs.Reset.{resetOf}
 use Rattle.step.specs.declared.turn.Ran.{Ran}

@@ -8,10 +8,13 @@ use Rattle.state.specs.State.{zeroState, resetState, validOf, longOf, withLong,
 use Rattle.alu.specs.Flag.{byteOf, flagsOf}
 use Rattle.alu.specs.Operation.{operated}
 use Rattle.alu.specs.Sums.{computedOf, sumOf}
-use Rattle.code.specs.Listed.{bankNumberRows, bankRows, flagRows, constantRows, stackRows, jumpRows, relativeRows, registerFormRows, absoluteRows, memoryFormRows, memoryAtRows, storeFormRows, firstRows, decodeOf}
+use Rattle.code.specs.Listed.{bankNumberRows, bankRows, flagRows, constantRows, stackRows, jumpRows, relativeRows, registerFormRows, absoluteRows, memoryFormRows, memoryAtRows, storeFormRows, aloneRows, memoryFirstRows, firstRows, decodeOf}
 use Rattle.code.specs.Registers.{placesRows, registerRows}
 use Rattle.code.specs.Rows.{lookup}
 use Rattle.code.specs.Said.{numberAt, judge}
+use Rattle.control.specs.Control.{controlOf}
+use Rattle.stack.specs.Stack.{stackOf}
+use Rattle.compute.specs.Compute.{putsOf}
 use Rattle.step.specs.Exec.{pastOf, effectOf, executedOf}
 use Rattle.operand.specs.Flag.{flagged}
 use Rattle.operand.specs.Operand.{valueIn, storing}
@@ -26,5 +29,5 @@ pub settled : Settled
 settled image r r' e f = e .0 ∙ sym (f .0)
 
 pub example-line : ExampleLine
-unfolding valueOf loadOf codeAt placeOf getBits setBits slotIn setSlot slotOf registerAt setRegister zeroState resetState validOf longOf withLong withCounter withBothFlags withFlags byteOf flagsOf operated computedOf sumOf bankNumberRows bankRows flagRows constantRows stackRows jumpRows relativeRows registerFormRows absoluteRows memoryFormRows memoryAtRows storeFormRows firstRows decodeOf placesRows registerRows lookup numberAt judge pastOf effectOf executedOf flagged valueIn storing resetOf guarded onceOf tryOf goOf runOf ranLine lineFor hexOf decimalIn
+unfolding valueOf loadOf codeAt placeOf getBits setBits slotIn setSlot slotOf registerAt setRegister zeroState resetState validOf longOf withLong withCounter withBothFlags withFlags byteOf flagsOf operated computedOf sumOf bankNumberRows bankRows flagRows constantRows stackRows jumpRows relativeRows registerFormRows absoluteRows memoryFormRows memoryAtRows storeFormRows aloneRows memoryFirstRows firstRows decodeOf placesRows registerRows lookup numberAt judge pastOf controlOf stackOf putsOf effectOf executedOf flagged valueIn storing resetOf guarded onceOf tryOf goOf runOf ranLine lineFor hexOf decimalIn
 example-line = refl

@@ -13,7 +13,7 @@ use Rattle.answer.specs.Number.{whyNumber, numberOf}
 use Rattle.little.specs.declared.Size.the-variants.{Long}
 use Rattle.state.specs.declared.State.{State}
 use Rattle.state.specs.Register.{getRegister}
-use Rattle.saved.specs.Sr.{srOf}
+use Rattle.state.specs.Sr.{srOf}
 use Rattle.step.specs.Reset.{resetOf}
 use Rattle.step.specs.Many.{Result}
 use Rattle.run.specs.Run.{runOf}

@@ -8,6 +8,7 @@ use answer::Answer;
 use answer::Why;
 use little::Size;
 use state::State;
+use state::status::sr;
 use step::turn::Ran;
 
 // A text that grows at its end. 128 bytes are more than the longest line has; past them nothing is added.
@@ -88,7 +89,7 @@ fn counted(done: u32, number: u8) -> Line
 fn placed(l: Line, s: State) -> Line
     ensures { λ r. ⌜ r ≡ grown l (following (whereOf s)) ⌝ }
 {
-    hex(add(hex(add(l, b' '), s.counter, 6), b' '), saved::sr(s), 4)
+    hex(add(hex(add(l, b' '), s.counter, 6), b' '), sr(s), 4)
 }
 
 fn register(l: Line, s: State, code: u8) -> Line

@@ -14,7 +14,7 @@ use Rattle.little.specs.declared.Size.{Size}
 use Rattle.little.specs.declared.Size.the-variants.{Byte, Word, Long}
 use Rattle.little.specs.Width.{bytesOf}
 use Rattle.little.specs.Bytes.{bytesFrom, replaced}
-use Rattle.little.proofs.Laws.{length-bytes, written, replaced-length, replaced-below, replaced-above}
+use Rattle.little.proofs.Laws.{length-bytes, replaced-length, replaced-below, replaced-above}
 use Rattle.memory.specs.Place.{placeOf}
 use Rattle.memory.specs.Access.{loadOf, loadFrom, storeOf, storeTo, ramAfter, ramWith, codeAt, codeFrom, operandAt}
 use Rattle.memory.specs.declared.Place.{Place}
@@ -92,7 +92,7 @@ bytes-le Byte = omega arith
 bytes-le Word = omega arith
 bytes-le Long = omega arith
 
--- ---- each definition at a known place
+-- ---- a fetch and a load at a known place
 pub code-in : (ram rom : List ℕ) (a : ℕ) {p : Place} → placeOf (length ram) (length rom) a 1 ≡ p → codeAt ram rom a ≡ codeFrom p ram rom
 unfolding codeAt
 code-in ram rom a e = ap (λ (p : Place). codeFrom p ram rom) e
@@ -101,25 +101,6 @@ module _ (ram rom : List ℕ) (a : ℕ) (z : Size) (n : ℕ) (size : n ≡ bytes
   pub load-in : {p : Place} → placeOf (length ram) (length rom) a n ≡ p → loadOf ram rom a z ≡ loadFrom p ram rom n
   unfolding loadOf
   load-in e = rw (← size) (ap (λ (p : Place). loadFrom p ram rom n) e)
-
-  pub store-in : {p : Place} → placeOf (length ram) (length rom) a n ≡ p → storeOf ram rom a z ≡ storeTo p
-  unfolding storeOf
-  store-in e = rw (← size) (ap storeTo e)
-
-  pub ram-in : {p : Place} (v : ℕ) → placeOf (length ram) (length rom) a n ≡ p → ramAfter ram rom a z v ≡ ramWith p ram n v
-  unfolding ramAfter
-  ram-in v e = rw (← size) (ap (λ (p : Place). ramWith p ram n v) e)
-
--- ---- a store in RAM, in the arm of a size of m bytes, from what the calls say
-module _ (ram rom : List ℕ) (a : ℕ) (z : Size) (n o m : ℕ) (size : n ≡ bytesOf z) (arm : bytesOf z ≡ m) (place : placeOf (length ram) (length rom) a n ≡ Ram o) where
-  pub arm-fits : o + m ≤ length ram
-  arm-fits = rw (← arm, ← size) (ram-fits (length ram) (length rom) a n o place .1)
-
-  pub arm-stores :
-      (v : ℕ) (ys : List ℕ) → ys ≡ bytesFrom (length (take (o + m - o) (drop o ram))) v →
-      (answer.Done ≡ storeOf ram rom a z) × (take o ram ++ (ys ++ drop (o + m - o) (drop o ram)) ≡ ramAfter ram rom a z v)
-  arm-stores v ys w =
-      (sym (store-in ram rom a z n size place), written o m v ram ys arm-fits w ∙ ap (λ (k : ℕ). replaced o (bytesFrom k v) ram) (sym (size ∙ arm)) ∙ sym (ram-in ram rom a z n size v place))
 
 -- ---- what a store leaves of RAM
 module _ (ram rom : List ℕ) (a : ℕ) (z : Size) (v : ℕ) where

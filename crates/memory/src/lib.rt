@@ -3,7 +3,8 @@ ghost use mathlib.Core.Path.{_≡_};
 ghost use lib.ListN.{length};
 ghost use denote.Ref.{ptr};
 ghost use Rattle.memory.specs.Place.{placeOf};
-ghost use Rattle.memory.specs.Access.{loadOf, storeOf, ramAfter, codeAt, standsAt};
+ghost use Prim.Native.Nat.{_≤_};
+ghost use Rattle.memory.specs.Access.{loadFrom, loadOf, storeTo, storeOf, ramWith, ramAfter, codeAt, standsAt};
 use answer::Answer;
 use answer::Why;
 use little::Size;
@@ -41,11 +42,11 @@ pub enum Loaded {
     Refused(Why),
 }
 
-// The value at an address.
-pub fn load(ram: &[u8], rom: &[u8], address: u32, size: Size) -> Loaded
-    ensures { λ r. ⌜ r ≡ loadOf (now (ram .entry)) (now (rom .entry)) address size ⌝ }
+// The value of n bytes at an address.
+fn load_bytes(ram: &[u8], rom: &[u8], address: u32, n: usize) -> Loaded
+    requires { ⌜ n ≤ 4 ⌝ }
+    ensures { λ r. ⌜ r ≡ loadFrom (placeOf (length (now (ram .entry))) (length (now (rom .entry))) address n) (now (ram .entry)) (now (rom .entry)) n ⌝ }
 {
-    let n = little::bytes(size);
     match find(ram.len(), rom.len(), address, n) {
         Place::Ram(o) => {
             let e = o + n;
@@ -59,33 +60,42 @@ pub fn load(ram: &[u8], rom: &[u8], address: u32, size: Size) -> Loaded
     }
 }
 
-// Stores a value at an address: the part of RAM that it goes to is lent to the writer. Its length is written out for each size,
-// so that the compiler makes one store of the writer's loop.
+// The value at an address. The length is written out for each size, so that the compiler makes one load of the reader's bytes.
+pub fn load(ram: &[u8], rom: &[u8], address: u32, size: Size) -> Loaded
+    ensures { λ r. ⌜ r ≡ loadOf (now (ram .entry)) (now (rom .entry)) address size ⌝ }
+{
+    match size {
+        Size::Byte => load_bytes(ram, rom, address, 1),
+        Size::Word => load_bytes(ram, rom, address, 2),
+        Size::Long => load_bytes(ram, rom, address, 4),
+    }
+}
+
+// Stores the n low bytes of a value at an address: the part of RAM that they go to is lent to the writer.
+fn store_bytes(ram: &mut [u8], rom: &[u8], address: u32, n: usize, v: u32) -> Answer
+    ensures { λ r. ⌜ r ≡ storeTo (placeOf (length (now (ram .entry))) (length (now (rom .entry))) address n) ⌝ }
+    ensures { λ _. ⌜ now (ram .exit) ≡ ramWith (placeOf (length (now (ram .entry))) (length (now (rom .entry))) address n) (now (ram .entry)) n v ⌝ }
+{
+    match find(ram.len(), rom.len(), address, n) {
+        Place::Ram(o) => {
+            let e = o + n;
+            little::write(&mut ram[o..e], v);
+            Answer::Done
+        }
+        Place::Rom(_) => Answer::Refused(Why::ToRom),
+        Place::Missing => Answer::Refused(Why::Missing),
+    }
+}
+
+// Stores a value at an address. The length is written out for each size, so that the compiler makes one store of the writer's loop.
 pub fn store(ram: &mut [u8], rom: &[u8], address: u32, size: Size, v: u32) -> Answer
     ensures { λ r. ⌜ r ≡ storeOf (now (ram .entry)) (now (rom .entry)) address size ⌝ }
     ensures { λ _. ⌜ now (ram .exit) ≡ ramAfter (now (ram .entry)) (now (rom .entry)) address size v ⌝ }
 {
-    let n = little::bytes(size);
-    match find(ram.len(), rom.len(), address, n) {
-        Place::Ram(o) => match size {
-            Size::Byte => {
-                let e = o + 1;
-                little::write(&mut ram[o..e], v);
-                Answer::Done
-            }
-            Size::Word => {
-                let e = o + 2;
-                little::write(&mut ram[o..e], v);
-                Answer::Done
-            }
-            Size::Long => {
-                let e = o + 4;
-                little::write(&mut ram[o..e], v);
-                Answer::Done
-            }
-        },
-        Place::Rom(_) => Answer::Refused(Why::ToRom),
-        Place::Missing => Answer::Refused(Why::Missing),
+    match size {
+        Size::Byte => store_bytes(ram, rom, address, 1, v),
+        Size::Word => store_bytes(ram, rom, address, 2, v),
+        Size::Long => store_bytes(ram, rom, address, 4, v),
     }
 }
 

@@ -11,6 +11,7 @@ use Rattle.memory.specs.Access.{loadOf, storeOf, ramAfter}
 use Rattle.memory.specs.declared.Loaded.{Loaded}
 use Rattle.memory.specs.declared.Loaded.the-variants.{Value}
 use Rattle.state.specs.Register.{registerAt, setRegister}
+use Rattle.state.specs.declared.Bank.{Bank}
 use Rattle.state.specs.declared.State.{State}
 use Rattle.code.specs.declared.Base.{Base}
 use Rattle.code.specs.declared.Base.the-variants.{Indirect, Displaced, Absolute8, Absolute16, Absolute24}
@@ -24,14 +25,14 @@ abbrev pub displaced : ℕ → ℕ → ℕ → ℕ
 displaced k x d = (x + d + cond (negative k d) (2 ^ 24 - 2 ^ k) 0) % 2 ^ 24
 
 -- the address that a long register holds, by the registers and the bank alone, and of a state
-abbrev pub pointerIn : List ℕ → ℕ → ℕ → ℕ
+abbrev pub pointerIn : List ℕ → Bank → ℕ → ℕ
 pointerIn registers bank r = registerAt registers bank Long r % 2 ^ 24
 
 abbrev pub pointerOf : State → ℕ → ℕ
-pointerOf s r = pointerIn (s .registers) (s .bank .0) r
+pointerOf s r = pointerIn (s .registers) (s .bank) r
 
 -- (R), (R+d8), and n8, n16, n24, whose missing high bits are 0
-abbrev pub addressFrom : List ℕ → ℕ → Base → ℕ → ℕ
+abbrev pub addressFrom : List ℕ → Bank → Base → ℕ → ℕ
 addressFrom registers bank (Indirect r) n = pointerIn registers bank r
 addressFrom registers bank (Displaced r) d = displaced 8 (registerAt registers bank Long r) d
 addressFrom registers bank Absolute8 n = n % 2 ^ 24
@@ -39,20 +40,20 @@ addressFrom registers bank Absolute16 n = n % 2 ^ 24
 addressFrom registers bank Absolute24 n = n % 2 ^ 24
 
 -- the address of a memory form
-unfoldable pub addressIn : List ℕ → ℕ → MemoryForm → ℕ
+unfoldable pub addressIn : List ℕ → Bank → MemoryForm → ℕ
 addressIn registers bank m = addressFrom registers bank (m .base) (m .number)
 
 abbrev pub addressOf : State → MemoryForm → ℕ
-addressOf s m = addressIn (s .registers) (s .bank .0) m
+addressOf s m = addressIn (s .registers) (s .bank) m
 
 -- the operand's value
-unfoldable pub valueIn : List ℕ → ℕ → List ℕ → List ℕ → Size → Operand → Loaded
+unfoldable pub valueIn : List ℕ → Bank → List ℕ → List ℕ → Size → Operand → Loaded
 valueIn registers bank ram rom z (Register r) = Value (registerAt registers bank z r)
 valueIn registers bank ram rom z (Constant n) = Value n
 valueIn registers bank ram rom z (Memory m) = loadOf ram rom (addressIn registers bank m) z
 
 abbrev pub valueAt : State → List ℕ → List ℕ → Size → Operand → Loaded
-valueAt s ram rom z o = valueIn (s .registers) (s .bank .0) ram rom z o
+valueAt s ram rom z o = valueIn (s .registers) (s .bank) ram rom z o
 
 -- a store at an address, and the state t where it is done
 abbrev pub storedBy : Answer → State → List ℕ → Try

@@ -35,7 +35,7 @@ use Rattle.state.specs.declared.State.{State}
 use Rattle.state.proofs.Valid.{Valid}
 use Rattle.state.proofs.Laws.{register-lt}
 use Rattle.code.specs.declared.Form.{Form}
-use Rattle.code.specs.Range.{PointersIn}
+use Rattle.code.specs.Range.{Holds, pointerRange}
 use Rattle.operand.specs.Try.{did, no}
 use Rattle.operand.specs.Operand.{pointerOf, storing, storedBy}
 use Rattle.operand.specs.Round.{less}
@@ -55,10 +55,10 @@ pub record Pointers (f : Form) : Type 0 where
   pub toHigh : f .to < 8
   pub differ : f .copies ≡ true → f .to ≢ f .from
 
-pub pointers : (f : Form) → PointersIn (f .copies) (f .to) (f .from) → Pointers f
+pub pointers : (f : Form) → Holds (pointerRange (f .copies) (f .to) (f .from)) → Pointers f
 pointers f p = go (f .copies) refl p
   where
-    go : (b : Bool) → f .copies ≡ b → PointersIn b (f .to) (f .from) → Pointers f
+    go : (b : Bool) → f .copies ≡ b → Holds (pointerRange b (f .to) (f .from)) → Pointers f
     go true e (inl q) =
         record {
           fromLow = omega arith;

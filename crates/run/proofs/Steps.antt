@@ -37,11 +37,14 @@ use Rattle.code.specs.declared.Decoded.{Decoded}
 use Rattle.code.specs.declared.Decoded.the-variants.{Whole}
 use Rattle.code.specs.Range.{InRange}
 use Rattle.code.proofs.Prefix.{same-start}
-use Rattle.code.proofs.Ranges.{length-fits, block-length, ranges}
+use Rattle.code.proofs.Walked.{length-fits, block-length, ranges}
 use Rattle.operand.specs.Try.{Try, did, no, andThen}
 use Rattle.operand.specs.Operand.{pointerOf, storing, storedBy}
 use Rattle.operand.specs.Flag.{flagsIn, flagged}
 use Rattle.block.specs.Block.{moreIn, counted, moved, accumulator, copied, compared, roundOf, goesOn, endsAt}
+use Rattle.control.specs.Control.{controlOf}
+use Rattle.stack.specs.Stack.{stackOf}
+use Rattle.compute.specs.Compute.{putsOf}
 use Rattle.step.specs.Exec.{pastOf, effectOf, executedOf}
 use Rattle.step.specs.Step.{tooLong, done, onceOf, tryOf}
 use Rattle.run.specs.Repeat.{At}
@@ -195,7 +198,7 @@ module _ (f : Form) (s : State) (ram rom : List ℕ) (a : At f s ram rom) where
 
   -- the step is the round on a state past the form, and then the counter back where it goes on
   step-is : tryOf s ram rom ≡ andThen (roundOf f (pastOf 2 s) ram rom) (endsAt f (s .counter))
-  unfolding onceOf executedOf effectOf
+  unfolding onceOf executedOf controlOf stackOf putsOf effectOf
   step-is =
       try-once s ram rom within (a .valid)
       ∙ ap (λ (d : Decoded). done d s ram rom) (a .here)

@@ -23,7 +23,7 @@ use Rattle.state.specs.declared.State.{State}
 use Rattle.code.specs.Listed.{decodeOf}
 use Rattle.code.specs.declared.Form.{Form}
 use Rattle.code.specs.declared.Instruction.{Instruction}
-use Rattle.code.specs.declared.Op.the-variants.{Block}
+use Rattle.code.specs.declared.Op.the-variants.{Blocks}
 use Rattle.code.specs.declared.Decoded.the-variants.{Whole}
 use Rattle.operand.specs.Try.{Try, did, no}
 use Rattle.block.specs.Block.{countIn, accumulator, roundOf}
@@ -71,7 +71,7 @@ pub record At (f : Form) (s : State) (ram rom : List ℕ) : Type 0 where
   pub romFits : length rom ≤ 2 ^ 16
   pub instruction : Instruction
   pub here : decodeOf (codeAt ram rom (s .counter)) ≡ Whole instruction
-  pub form : instruction .op ≡ Block f
+  pub form : instruction .op ≡ Blocks f
   pub repeats : f .again ≡ true
 
 -- of the first n elements: every element is there

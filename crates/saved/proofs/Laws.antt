@@ -1,5 +1,5 @@
 -- What `save` and `load` come to, case by case.
-use Prim.Native.Nat.{ℕ, _+_, _-_, _*_, _/_, _%_, _^_}
+use Prim.Native.Nat.{ℕ}
 use mathlib.Core.Path.{_≡_, refl, ap, sym, _∙_}
 use mathlib.Core.List.{List, [], _∷_, _++_, append-assoc}
 use mathlib.Core.Bool.{Bool, true, false}
@@ -12,7 +12,7 @@ use Rattle.answer.specs.declared.Why.the-variants.{Invalid}
 use Rattle.little.specs.Bytes.{valueOf, bytesFrom}
 use Rattle.state.specs.State.{validOf}
 use Rattle.state.specs.declared.State.{State}
-use Rattle.saved.specs.Sr.{srOf, fIn, bankIn, levelIn}
+use Rattle.state.specs.Sr.{srOf, fIn, bankIn, levelIn}
 use Rattle.saved.specs.Record.{longsBytes, longsAt, recordOf, saveAnswer, saveBytes, srAt, stateAt, fixedAt, restoredOf, refusedRecord}
 use Rattle.saved.proofs.Numbers.{lent-length, lent-take, read-part}
 
@@ -67,9 +67,9 @@ pub state-made :
     (record {
       registers = rs;
       counter = c;
-      bank = record { 0 = sr / 256 % 8 };
-      level = record { 0 = sr / 4096 % 8 };
-      flags = sr % 256;
+      bank = bankIn sr;
+      level = levelIn sr;
+      flags = fIn sr;
       spare = getD l 86 0;
     })
     (stateAt l)

@@ -1,11 +1,9 @@
 -- A state that is saved and read is the same, and a record that is read and saved is the same.
-use Prim.Native.Nat.{ℕ, zero, suc, _+_, _-_, _*_, _/_, _%_, _^_, _<_, _≤_}
-use mathlib.Core.Path.{_≡_, refl, ap, sym, _∙_}
-use mathlib.Core.Bool.{Bool, true, false, _&&_}
+use Prim.Native.Nat.{ℕ, _^_, _<_}
+use mathlib.Core.Path.{_≡_, ap, sym, _∙_}
+use mathlib.Core.Bool.{true}
 use mathlib.Core.List.{List, [], _∷_, _++_}
 use native.Mathlib.Omega.{arith}
-use native.Mathlib.Nat.{div-add-mod'}
-use lib.Pow.{shr-shr}
 use lib.ListN.{length, getD, take, drop, length-append, length-drop, take-append-drop, drop-of-length-le}
 use lib.Dec.{eqb}
 use lib.Seq.{take-at, drop-at, drop-drop, getD-drop, drop-cons}
@@ -17,7 +15,8 @@ use Rattle.state.specs.State.{validOf}
 use Rattle.state.specs.Sound.{Sound}
 use Rattle.state.specs.declared.State.{State}
 use Rattle.state.proofs.Valid.{Valid, valid-says, and-true}
-use Rattle.saved.specs.Sr.{srOf, fIn, bankIn, levelIn, onesIn}
+use Rattle.state.specs.Sr.{srOf, onesIn}
+use Rattle.state.proofs.Sr.{sr-lt, sr-back, sr-ones, sr-whole}
 use Rattle.saved.specs.Record.{longsBytes, longsAt, recordOf, srAt, stateAt, fixedAt, isRecord, restoredOf}
 use Rattle.saved.specs.Statements.{SavedReadsBack, ReadSavesBack, RecordsAreOfStates}
 use Rattle.saved.proofs.Numbers.{longs-length, longs-back, bytes-drop, part-bytes, bytes-longs}
@@ -25,9 +24,6 @@ use Rattle.saved.proofs.Laws.{load-good}
 
 -- ---- saved, then read
 module _ (s : State) (ok : Sound s) (v : Valid s) where
-  sr-lt : srOf s < 256 ^ 2
-  sr-lt = omega (arith, ok .flags-fit, v .bank, v .level)
-
   abbrev tail : List ℕ
   tail = bytesFrom 4 (s .counter) ++ (bytesFrom 2 (srOf s) ++ (s .spare ∷ 0 ∷ []))
 
@@ -45,7 +41,7 @@ module _ (s : State) (ok : Sound s) (v : Valid s) where
   sr-is =
       ap (λ (l : List ℕ). valueOf (take 2 l)) at-84
       ∙ ap valueOf (take-at (bytesFrom 2 (srOf s)) _ 2 (length-bytes 2 (srOf s)))
-      ∙ value-bytes 2 (srOf s) sr-lt
+      ∙ value-bytes 2 (srOf s) (sr-lt s ok v)
 
   spare-is : getD (recordOf s) 86 0 ≡ s .spare
   unfolding bytesFrom
@@ -68,24 +64,14 @@ module _ (s : State) (ok : Sound s) (v : Valid s) where
       rw (at-80, take-at (bytesFrom 4 (s .counter)) _ 4 (length-bytes 4 (s .counter)))
       (value-bytes 4 (s .counter) (omega (arith, v .counter)))
 
-  -- SR and back
-  sr-back : (bankIn (srOf s) ≡ s .bank .0) × (levelIn (srOf s) ≡ s .level .0) × (fIn (srOf s) ≡ s .flags)
-  sr-back =
-      let b : srOf s / 0x100 ≡ s .bank .0 + 8 * (17 + 2 * s .level .0) = omega (arith, ok .flags-fit) in
-      let l : srOf s / 0x1000 ≡ s .level .0 + 8 = omega (arith, ok .flags-fit, v .bank) in
-      (rw b (omega (arith, v .bank)), rw l (omega (arith, v .level)), omega (arith, ok .flags-fit))
-
   pub state-back : stateAt (recordOf s) ≡ s
   unfolding stateAt
-  state-back = rw (registers-are, counter-is, sr-is, sr-back .0, sr-back .1, sr-back .2, spare-is)
+  state-back =
+      let back = sr-back s ok v in
+      rw (registers-are, counter-is, sr-is, back .0, back .1, back .2, spare-is)
 
   fixed-are : fixedAt (recordOf s) ≡ true
-  fixed-are =
-      let a1 : srOf s / 0x800 ≡ 1 + 2 * (s .level .0 + 8) = omega (arith, ok .flags-fit, v .bank) in
-      let a : srOf s / 0x800 % 2 ≡ 1 = rw a1 (omega arith) in
-      let b1 : srOf s / 0x8000 ≡ 1 = omega (arith, ok .flags-fit, v .bank, v .level) in
-      let b : srOf s / 0x8000 % 2 ≡ 1 = rw b1 in
-      simp (sr-is, last-is, eq-eqb (srOf s / 0x800 % 2) 1 a, eq-eqb (srOf s / 0x8000 % 2) 1 b)
+  fixed-are = simp (sr-is, last-is, sr-ones s ok v)
 
   valid-again : validOf s ≡ true → isRecord (recordOf s) ≡ true
   valid-again e = simp (eq-eqb _ _ record-length, ap validOf state-back ∙ e, fixed-are)
@@ -103,36 +89,13 @@ value-two [] h = omega arith
 value-two (a ∷ []) h = omega (arith, h 0)
 value-two (a ∷ b ∷ l) h = omega (arith, h 0, h 1)
 
--- the digits of SR put together, each quotient a number of its own
-sr-digits :
-    (x a b c d f k m l : ℕ) → a * 0x100 + f ≡ x → b * 8 + k ≡ a → c * 2 + m ≡ b → d * 8 + l ≡ c → d < 2 → m ≡ 1 → d % 2 ≡ 1 →
-    f + 0x100 * k + 0x800 + 0x1000 * l + 0x8000 ≡ x
-sr-digits x a b c d f k m l e1 e2 e3 e4 h i j = omega arith
-
-sr-whole :
-    (x : ℕ) → x < 2 ^ 16 → x / 0x100 % 8 < 4 → x / 0x800 % 2 ≡ 1 → x / 0x8000 % 2 ≡ 1 →
-    x % 0x100 + 0x100 * (x / 0x100 % 8) + 0x800 + 0x1000 * (x / 0x1000 % 8) + 0x8000 ≡ x
-sr-whole x h b m n =
-    let e1 : x / 0x100 / 8 ≡ x / 0x800 = shr-shr x 8 3 in
-    let e2 : x / 0x800 / 2 ≡ x / 0x1000 = shr-shr x 11 1 in
-    let e3 : x / 0x1000 / 8 ≡ x / 0x8000 = shr-shr x 12 3 in
-    sr-digits x (x / 0x100) (x / 0x800) (x / 0x1000) (x / 0x8000) (x % 0x100) (x / 0x100 % 8) (x / 0x800 % 2) (x / 0x1000 % 8)
-    (div-add-mod' x 0x100)
-    (ap (λ (n : ℕ). n * 8 + x / 0x100 % 8) (sym e1) ∙ div-add-mod' (x / 0x100) 8)
-    (ap (λ (n : ℕ). n * 2 + x / 0x800 % 2) (sym e2) ∙ div-add-mod' (x / 0x800) 2)
-    (ap (λ (n : ℕ). n * 8 + x / 0x1000 % 8) (sym e3) ∙ div-add-mod' (x / 0x1000) 8)
-    (omega arith) m n
-
-module _ (l : List ℕ) (h : Bytes l) (n : length l ≡ 88) (v : Valid (stateAt l)) (m : fixedAt l ≡ true) where
+module _ (l : List ℕ) (h : Bytes l) (n : length l ≡ 88) (m : fixedAt l ≡ true) where
   ones : onesIn (srAt l) ≡ true
   ones = and-true (onesIn (srAt l)) _ m .0
 
   sr-same : srOf (stateAt l) ≡ srAt l
   unfolding stateAt
-  sr-same =
-      let x = srAt l in
-      let two = and-true (eqb (x / 0x800 % 2) 1) _ ones in
-      sr-whole x (value-two (drop 84 l) (bytes-drop 84 l h)) (v .bank) (eqb-true _ _ (two .0)) (eqb-true _ _ (two .1))
+  sr-same = sr-whole (srAt l) (value-two (drop 84 l) (bytes-drop 84 l h)) ones
 
   last-two : getD l 86 0 ∷ 0 ∷ [] ≡ drop 86 l
   last-two =
@@ -166,7 +129,7 @@ pub read-saves-back : ReadSavesBack
 read-saves-back l h e =
     let a = and-true (eqb (length l) 88) _ e in
     let b = and-true (validOf (stateAt l)) _ (a .1) in
-    record-back l h (eqb-true _ _ (a .0)) (valid-says (stateAt l) (b .0)) (b .1)
+    record-back l h (eqb-true _ _ (a .0)) (b .1)
 
 pub records-are-of-states : RecordsAreOfStates
 records-are-of-states = (

@@ -1,3 +1,2 @@
-pub mod Sr
 pub mod Record
 pub mod Statements

@@ -12,7 +12,7 @@ use Rattle.answer.specs.declared.Why.the-variants.{Invalid}
 use Rattle.little.specs.Bytes.{valueOf, bytesFrom}
 use Rattle.state.specs.State.{validOf, zeroState}
 use Rattle.state.specs.declared.State.{State}
-use Rattle.saved.specs.Sr.{srOf, fIn, bankIn, levelIn, onesIn}
+use Rattle.state.specs.Sr.{srOf, fIn, bankIn, levelIn, onesIn}
 use Rattle.saved.specs.declared.Restored.{Restored}
 
 -- numbers of four bytes, one after the other
@@ -56,8 +56,8 @@ unfoldable pub stateAt : List ℕ → State
 stateAt l = record {
   registers = longsAt 20 l;
   counter = valueOf (take 4 (drop 80 l));
-  bank = record { 0 = bankIn (srAt l) };
-  level = record { 0 = levelIn (srAt l) };
+  bank = bankIn (srAt l);
+  level = levelIn (srAt l);
   flags = fIn (srAt l);
   spare = getD l 86 0;
 }

@@ -1,27 +1,21 @@
-// The status register SR, and a state as a record of 88 bytes.
+// A state as a record of 88 bytes.
 ghost use mathlib.Core.Path.{_≡_};
 ghost use lib.ListN.{length, take};
 ghost use Prim.Native.Nat.{_≤_};
-ghost use Rattle.saved.specs.Sr.{srOf};
 ghost use Rattle.saved.specs.Record.{longsBytes, longsAt, SaveMeets, srAt, stateAt, fixedAt, LoadMeets, refusedRecord};
 use answer::Answer;
 use answer::Why;
-use state::Bank;
-use state::Level;
 use state::State;
+use state::status::bank_in;
+use state::status::flags_in;
+use state::status::level_in;
+use state::status::ones_in;
+use state::status::sr;
 
 // A state that was read, or the all-zero state with the refusal.
 pub struct Restored {
     pub answer: Answer,
     pub state: State,
-}
-
-pub fn sr(s: State) -> u32
-    ensures { λ r. ⌜ r ≡ srOf s ⌝ }
-{
-    let b = s.bank.0;
-    let l = s.level.0;
-    s.flags as u32 + 256 * (b as u32) + 2048 + 4096 * (l as u32) + 32768
 }
 
 // The twenty registers, at the front of a record.
@@ -88,9 +82,9 @@ fn state_at(bytes: &[u8]) -> State
     State {
         registers: registers,
         counter: counter,
-        bank: Bank((sr / 256 % 8) as u8),
-        level: Level((sr / 4096 % 8) as u8),
-        flags: (sr % 256) as u8,
+        bank: bank_in(sr),
+        level: level_in(sr),
+        flags: flags_in(sr),
         spare: spare,
     }
 }
@@ -100,14 +94,10 @@ fn fixed_at(bytes: &[u8]) -> bool
     requires { ⌜ length (now bytes) ≡ 88 ⌝ }
     ensures { λ r. ⌜ r ≡ fixedAt (now (bytes .entry)) ⌝ }
 {
-    let sr = sr_at(bytes);
-    if sr / 2048 % 2 != 1 {
-        return false;
+    if ones_in(sr_at(bytes)) {
+        return bytes[87] == 0;
     }
-    if sr / 32768 % 2 != 1 {
-        return false;
-    }
-    bytes[87] == 0
+    false
 }
 
 fn refuse() -> Restored

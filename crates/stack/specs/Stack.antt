@@ -11,13 +11,14 @@ use Rattle.state.specs.Register.{getRegister, setRegister}
 use Rattle.state.specs.declared.State.{State}
 use Rattle.operand.specs.Try.{Try, did, andThen, withLoaded}
 use Rattle.operand.specs.Operand.{displaced, pointerOf, storing}
+use Rattle.operand.specs.Flag.{flagsIn}
 use Rattle.operand.specs.Round.{less, plus}
 use Rattle.answer.specs.declared.Answer.{Answer}
 use Rattle.answer.specs.declared.Answer.the-variants.{Done, Refused}
 use Rattle.code.specs.declared.Operand.{Operand}
 use Rattle.code.specs.Written.{constantIn, registerIn}
-use Rattle.stack.specs.declared.kind.Stack.{Stack}
-use Rattle.stack.specs.declared.kind.Stack.the-variants as stack
+use Rattle.code.specs.declared.Stack.{Stack}
+use Rattle.code.specs.declared.Stack.the-variants.{PushF, PopF, Push, Pop, Call16, Call24, Calr, Ret}
 
 -- XSP, the long register of code 7
 abbrev pub withStack : State → ℕ → State
@@ -45,7 +46,7 @@ retOf s ram rom = popOf s ram rom Long withCounter
 
 -- PUSH F, and POP F with bits 5 and 3 written 0
 abbrev pub pushFOf : State → List ℕ → List ℕ → Try
-pushFOf s ram rom = pushOf s ram rom Byte (s .flags)
+pushFOf s ram rom = pushOf s ram rom Byte (byteOf (flagsIn s))
 
 abbrev pub popFOf : State → List ℕ → List ℕ → Try
 popFOf s ram rom = popOf s ram rom Byte (λ t v. withFlags t (byteOf (flagsOf v)))
@@ -55,12 +56,13 @@ abbrev pub endAfter : Answer → State → ℕ → State
 endAfter Done s x = withStack s x
 endAfter (Refused w) s x = s
 
--- how the code divides the work
-abbrev pub stackOf : Stack → Size → Operand → State → List ℕ → List ℕ → Try
-stackOf stack.PushF z o s ram rom = pushFOf s ram rom
-stackOf stack.PopF z o s ram rom = popFOf s ram rom
-stackOf stack.Push z o s ram rom = pushOf s ram rom z (getRegister s z (registerIn o))
-stackOf stack.Pop z o s ram rom = popOf s ram rom z (λ t v. setRegister t z (registerIn o) v)
-stackOf stack.Call z o s ram rom = callOf s ram rom (constantIn o)
-stackOf stack.Calr z o s ram rom = callOf s ram rom (displaced 16 (s .counter) (constantIn o))
-stackOf stack.Ret z o s ram rom = retOf s ram rom
+-- what each does, of a size and with its operand; the state is past the instruction
+unfoldable pub stackOf : Stack → Size → Operand → State → List ℕ → List ℕ → Try
+stackOf PushF z o s ram rom = pushFOf s ram rom
+stackOf PopF z o s ram rom = popFOf s ram rom
+stackOf Push z o s ram rom = pushOf s ram rom z (getRegister s z (registerIn o))
+stackOf Pop z o s ram rom = popOf s ram rom z (λ t v. setRegister t z (registerIn o) v)
+stackOf Call16 z o s ram rom = callOf s ram rom (constantIn o)
+stackOf Call24 z o s ram rom = callOf s ram rom (constantIn o)
+stackOf Calr z o s ram rom = callOf s ram rom (displaced 16 (s .counter) (constantIn o))
+stackOf Ret z o s ram rom = retOf s ram rom

@@ -9,20 +9,19 @@ ghost use Rattle.operand.specs.Try.{Does};
 ghost use Rattle.operand.specs.Round.{plus};
 ghost use Rattle.stack.specs.Stack.{withStack, pushOf, popOf, callOf, retOf, popFOf};
 ghost use Rattle.stack.specs.Stack.{endAfter, stackOf};
-use crate::kind::Stack;
 use answer::Answer;
 use code::Operand;
+use code::Stack;
 use little::Size;
 use memory::Loaded;
 use operand::displace;
 use operand::number_in;
 use operand::pointer;
 use operand::register_in;
-
-pub mod kind;
+use state::Bank;
 
 // Moves the stack's end where a store was done.
-fn move_end(stored: Answer, bank: u8, regs: &mut [u32; 20], end: u32)
+fn move_end(stored: Answer, bank: Bank, regs: &mut [u32; 20], end: u32)
     ensures { λ _. ⌜ ((s : State) → banked s (now (regs .exit)) bank ≡ endAfter stored (banked s (now (regs .entry)) bank) end) ⌝ }
 {
     match stored {
@@ -34,7 +33,7 @@ fn move_end(stored: Answer, bank: u8, regs: &mut [u32; 20], end: u32)
 }
 
 // Stores below the stack's end, and moves the end there where the store is done.
-fn push(bank: u8, regs: &mut [u32; 20], ram: &mut [u8], rom: &[u8], size: Size, v: u32) -> Answer
+fn push(bank: Bank, regs: &mut [u32; 20], ram: &mut [u8], rom: &[u8], size: Size, v: u32) -> Answer
     ensures { λ a. ⌜ ((s : State) → Does (λ t m. pushOf t m (now (rom .entry)) size v)
         (banked s (now (regs .entry)) bank) (now (ram .entry))
         a (banked s (now (regs .exit)) bank) (now (ram .exit))) ⌝ }
@@ -47,7 +46,7 @@ fn push(bank: u8, regs: &mut [u32; 20], ram: &mut [u8], rom: &[u8], size: Size, 
 }
 
 // The stack's end moved, as after a pop of a size.
-fn popped(bank: u8, regs: &mut [u32; 20], size: Size)
+fn popped(bank: Bank, regs: &mut [u32; 20], size: Size)
     ensures { λ _. ⌜ ((s : State) → banked s (now (regs .exit)) bank
         ≡ withStack (banked s (now (regs .entry)) bank) (plus 32 (registerAt (now (regs .entry)) bank Long 7) (bytesOf size))) ⌝ }
 {
@@ -57,7 +56,7 @@ fn popped(bank: u8, regs: &mut [u32; 20], size: Size)
 }
 
 // A pop into the register of a code.
-fn pop(bank: u8, regs: &mut [u32; 20], ram: &[u8], rom: &[u8], size: Size, code: u8) -> Answer
+fn pop(bank: Bank, regs: &mut [u32; 20], ram: &[u8], rom: &[u8], size: Size, code: u8) -> Answer
     ensures { λ a. ⌜ ((s : State) → Does (λ t m. popOf t m (now (rom .entry)) size (λ u v. setRegister u size code v))
         (banked s (now (regs .entry)) bank) (now (ram .entry))
         a (banked s (now (regs .exit)) bank) (now (ram .entry))) ⌝ }
@@ -73,7 +72,7 @@ fn pop(bank: u8, regs: &mut [u32; 20], ram: &[u8], rom: &[u8], size: Size, code:
 }
 
 fn call(
-    bank: u8,
+    bank: Bank,
     regs: &mut [u32; 20],
     counter: &mut u32,
     ram: &mut [u8],
@@ -93,7 +92,7 @@ fn call(
     }
 }
 
-fn ret(bank: u8, regs: &mut [u32; 20], counter: &mut u32, ram: &[u8], rom: &[u8]) -> Answer
+fn ret(bank: Bank, regs: &mut [u32; 20], counter: &mut u32, ram: &[u8], rom: &[u8]) -> Answer
     ensures { λ a. ⌜ ((s : State) → Does (λ t m. retOf t m (now (rom .entry)))
         (bankedAt s (now (regs .entry)) bank (now (counter .entry))) (now (ram .entry))
         a (bankedAt s (now (regs .exit)) bank (now (counter .exit))) (now (ram .entry))) ⌝ }
@@ -108,7 +107,7 @@ fn ret(bank: u8, regs: &mut [u32; 20], counter: &mut u32, ram: &[u8], rom: &[u8]
     }
 }
 
-fn pop_f(bank: u8, regs: &mut [u32; 20], flags: &mut u8, ram: &[u8], rom: &[u8]) -> Answer
+fn pop_f(bank: Bank, regs: &mut [u32; 20], flags: &mut u8, ram: &[u8], rom: &[u8]) -> Answer
     ensures { λ a. ⌜ ((s : State) → Does (λ t m. popFOf t m (now (rom .entry)))
         (bankedWith s (now (regs .entry)) bank (now (flags .entry))) (now (ram .entry))
         a (bankedWith s (now (regs .exit)) bank (now (flags .exit))) (now (ram .entry))) ⌝ }
@@ -128,7 +127,7 @@ pub fn stack(
     what: Stack,
     size: Size,
     operand: Operand,
-    bank: u8,
+    bank: Bank,
     flags: &mut u8,
     regs: &mut [u32; 20],
     counter: &mut u32,
@@ -141,8 +140,8 @@ pub fn stack(
 {
     match what {
         Stack::PushF => {
-            let f = *flags as u32;
-            push(bank, regs, ram, rom, Size::Byte, f)
+            let f = alu::pack(alu::unpack(*flags));
+            push(bank, regs, ram, rom, Size::Byte, f as u32)
         }
         Stack::PopF => pop_f(bank, regs, flags, &*ram, rom),
         Stack::Push => {
@@ -150,7 +149,8 @@ pub fn stack(
             push(bank, regs, ram, rom, size, v)
         }
         Stack::Pop => pop(bank, regs, &*ram, rom, size, register_in(operand)),
-        Stack::Call => call(bank, regs, counter, ram, rom, number_in(operand)),
+        Stack::Call16 => call(bank, regs, counter, ram, rom, number_in(operand)),
+        Stack::Call24 => call(bank, regs, counter, ram, rom, number_in(operand)),
         Stack::Calr => {
             let to = displace(Size::Word, *counter, number_in(operand));
             call(bank, regs, counter, ram, rom, to)

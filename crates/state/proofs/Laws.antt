@@ -34,7 +34,7 @@ long-other s i j v ne = getD-set-other (s .registers) i j v 0 ne
 pub long-none : (s : State) (i v : ℕ) → Sound s → 20 ≤ i → withLong s i v ≡ s
 unfolding withLong
 long-none s i v ok h =
-    ap (λ (l : List ℕ). banked s l (s .bank .0))
+    ap (λ (l : List ℕ). banked s l (s .bank))
     (set-out (s .registers) i v (omega (arith, ok .twenty)))
 
 -- a sound state with parts laid over it that fit

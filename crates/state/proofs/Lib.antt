@@ -2,5 +2,6 @@ pub mod Sound
 pub mod Bits
 pub mod Laws
 pub mod Valid
+pub mod Sr
 pub mod Names
 mod Examples

@@ -2,3 +2,4 @@ pub mod State
 pub mod Register
 pub mod Names
 pub mod Sound
+pub mod Sr

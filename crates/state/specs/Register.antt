@@ -7,6 +7,7 @@ use lib.Dec.{ltb, eqb}
 use Rattle.little.specs.declared.Size.{Size}
 use Rattle.little.specs.declared.Size.the-variants.{Byte, Word, Long}
 use Rattle.state.specs.State.{longOf, withLong}
+use Rattle.state.specs.declared.Bank.{Bank}
 use Rattle.state.specs.declared.State.{State}
 use Rattle.state.specs.declared.Slot.{Slot}
 use Rattle.state.specs.declared.Part.{Part}
@@ -71,12 +72,12 @@ abbrev pub namedIn : State → Size → ℕ → Slot
 namedIn s size code = slotOf (s .bank .0 % 4) size (code % 8)
 
 -- what that register holds, among twenty longs and in a bank
-unfoldable pub registerAt : List ℕ → ℕ → Size → ℕ → ℕ
-registerAt registers bank size code = slotIn registers (slotOf (bank % 4) size (code % 8))
+unfoldable pub registerAt : List ℕ → Bank → Size → ℕ → ℕ
+registerAt registers bank size code = slotIn registers (slotOf (bank .0 % 4) size (code % 8))
 
 -- and in a state
 abbrev pub getRegister : State → Size → ℕ → ℕ
-getRegister s size code = registerAt (s .registers) (s .bank .0) size code
+getRegister s size code = registerAt (s .registers) (s .bank) size code
 
 -- the state with v written to it
 unfoldable pub setRegister : State → Size → ℕ → ℕ → State

@@ -4,6 +4,7 @@ use mathlib.Core.List.{List}
 use mathlib.Core.Bool.{Bool, _&&_}
 use lib.ListN.{getD, set, replicate}
 use lib.Dec.{ltb, eqb}
+use Rattle.state.specs.declared.Bank.{Bank}
 use Rattle.state.specs.declared.State.{State}
 
 -- all zero
@@ -58,20 +59,20 @@ lent s registers counter bank flags spare = record {
 }
 
 -- the registers and the bank
-abbrev pub banked : State → List ℕ → ℕ → State
-banked s registers bank = lent s registers (s .counter) bank (s .flags) (s .spare)
+abbrev pub banked : State → List ℕ → Bank → State
+banked s registers bank = lent s registers (s .counter) (bank .0) (s .flags) (s .spare)
 
 -- the registers, the bank and F
-abbrev pub bankedWith : State → List ℕ → ℕ → ℕ → State
-bankedWith s registers bank flags = lent s registers (s .counter) bank flags (s .spare)
+abbrev pub bankedWith : State → List ℕ → Bank → ℕ → State
+bankedWith s registers bank flags = lent s registers (s .counter) (bank .0) flags (s .spare)
 
 -- the registers, the bank and the counter
-abbrev pub bankedAt : State → List ℕ → ℕ → ℕ → State
-bankedAt s registers bank counter = lent s registers counter bank (s .flags) (s .spare)
+abbrev pub bankedAt : State → List ℕ → Bank → ℕ → State
+bankedAt s registers bank counter = lent s registers counter (bank .0) (s .flags) (s .spare)
 
 -- the registers, the bank, the counter and F
-abbrev pub bankedAtWith : State → List ℕ → ℕ → ℕ → ℕ → State
-bankedAtWith s registers bank counter flags = lent s registers counter bank flags (s .spare)
+abbrev pub bankedAtWith : State → List ℕ → Bank → ℕ → ℕ → State
+bankedAtWith s registers bank counter flags = lent s registers counter (bank .0) flags (s .spare)
 
 -- all but the registers
 abbrev pub controlled : State → ℕ → ℕ → ℕ → ℕ → State
@@ -87,7 +88,7 @@ standingAt s counter = lent s (s .registers) counter (s .bank .0) (s .flags) (s 
 
 -- ---- a state with one thing changed
 unfoldable pub withLong : State → ℕ → ℕ → State
-withLong s i v = banked s (set (s .registers) i v) (s .bank .0)
+withLong s i v = banked s (set (s .registers) i v) (s .bank)
 
 -- the counter is taken modulo 2^24
 unfoldable pub withCounter : State → ℕ → State
@@ -95,7 +96,7 @@ withCounter s c = standingAt s (c % 2 ^ 24)
 
 -- the bank number is taken modulo 4
 unfoldable pub withBank : State → ℕ → State
-withBank s b = banked s (s .registers) (b % 4)
+withBank s b = banked s (s .registers) (record { 0 = b % 4 })
 
 -- F and F'
 unfoldable pub withBothFlags : State → ℕ → ℕ → State

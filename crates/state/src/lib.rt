@@ -5,6 +5,8 @@ ghost use Rattle.state.specs.State.{lent, banked, zeroState, resetState,
 ghost use Rattle.state.specs.Register.{getBits, setBits, startOf, widthOf, getSlot, indexOf, bytePart, slotOf, registerAt, getRegister, setRegister};
 use little::Size;
 
+pub mod status;
+
 // A bank number: which of the four banks the codes 0 to 3 name.
 pub struct Bank(pub u8);
 
@@ -198,33 +200,39 @@ pub fn slot_of(bank: Bank, size: Size, code: u8) -> Slot
 // ---- registers that lie apart from the rest of their state: they are changed where they lie, and nothing is copied
 
 // The register of a size and a code, in a bank.
-pub fn read(registers: &[u32; 20], bank: u8, size: Size, code: u8) -> u32
+pub fn read(registers: &[u32; 20], bank: Bank, size: Size, code: u8) -> u32
     ensures { λ r. ⌜ r ≡ registerAt (now (registers .entry)) bank size code ⌝ }
 {
-    let t = slot_of(Bank(bank), size, code);
+    let t = slot_of(bank, size, code);
     let i = t.index;
     let p = t.part;
     bits_of(p, registers[i])
 }
 
-pub fn write(registers: &mut [u32; 20], bank: u8, size: Size, code: u8, v: u32)
+pub fn write(registers: &mut [u32; 20], bank: Bank, size: Size, code: u8, v: u32)
     ensures { λ _. ⌜ ((s : State) → banked s (now (registers .exit)) bank ≡ setRegister (banked s (now (registers .entry)) bank) size code v) ⌝ }
 {
-    let t = slot_of(Bank(bank), size, code);
+    let t = slot_of(bank, size, code);
     let i = t.index;
     let p = t.part;
     registers[i] = with_bits(p, registers[i], v);
 }
 
 // A state with these parts in the place of its own.
-pub fn whole(s: State, registers: [u32; 20], counter: u32, bank: u8, flags: u8, spare: u8) -> State
-    ensures { λ r. ⌜ r ≡ lent s registers counter bank flags spare ⌝ }
+pub fn whole(
+    s: State,
+    registers: [u32; 20],
+    counter: u32,
+    bank: Bank,
+    flags: u8,
+    spare: u8,
+) -> State
+    ensures { λ r. ⌜ r ≡ lent s registers counter (bank .0) flags spare ⌝ }
 {
-    let b = Bank(bank);
     let mut t = s;
     t.registers = registers;
     t.counter = counter;
-    t.bank = b;
+    t.bank = bank;
     t.flags = flags;
     t.spare = spare;
     t

@@ -1,26 +1,21 @@
--- What the first byte says of the forms that are read and done in one go.
+-- What the first byte says of an instruction, and one step by the instruction that stands at the counter.
 use Prim.Native.Nat.{ℕ, suc, _+_, _-_, _/_, _%_, _<_, _≤_}
 use mathlib.Core.Path.{_≡_, refl, ap, sym, _∙_}
 use mathlib.Core.List.{List, [], _∷_}
-use native.Mathlib.Decide.{decLe}
-use native.Mathlib.Nat.{lt-of-not-le}
-use native.Mathlib.Omega.{arith}
 use lib.ListN.{length, getD}
 use types.Run.{OneOf}
 use Rattle.little.specs.declared.Size.{Size}
-use Rattle.little.specs.declared.Size.the-variants.{Byte}
 use Rattle.memory.specs.Access.{codeAt}
 use Rattle.state.specs.declared.State.{State}
 use Rattle.code.specs.declared.Decoded.{Decoded}
 use Rattle.code.specs.declared.Decoded.the-variants.{Short}
-use Rattle.code.specs.declared.Op.the-variants.{Jr}
 use Rattle.code.specs.declared.Operand.the-variants.{Register}
 use Rattle.code.specs.Said.{Said, judge}
 use Rattle.code.specs.Rows.{lookup, byRows}
 use Rattle.code.specs.Registers.{registerRows}
-use Rattle.code.specs.Listed.{withConstant, sizeOf, firstRows, decodeOf}
+use Rattle.code.specs.Listed.{sizeOf, aloneRows, memoryFirstRows, firstRows, decodeOf}
 use Rattle.code.proofs.Judge.{next-there, next-short}
-use Rattle.code.proofs.FirstRows.{jump-short-0, jump-short-1, register-form}
+use Rattle.code.proofs.FirstRows.{in-alone, in-memory, register-form}
 use Rattle.step.specs.Step.{done, onceOf}
 use Rattle.step.specs.Times.{timesOf}
 use Rattle.step.proofs.Times.{times-one}
@@ -35,6 +30,9 @@ module _ (code : List ℕ) (h : 0 < length code) where
   unfolding decodeOf
   by-first d e = sym (next-there (lookup firstRows) code 0 (judge (lookup firstRows (getD code 0 0)) code 1) h refl) ∙ ap (λ (x : Said). judge x code 1) e
 
+  pub alone-says : getD code 0 0 < 128 → decodeOf code ≡ judge (lookup aloneRows (getD code 0 0)) code 1
+  alone-says l = by-first (lookup aloneRows (getD code 0 0)) (in-alone (getD code 0 0) l)
+
   pub register-says :
       (z : Size) → OneOf (25 ∷ 27 ∷ 29 ∷ []) (getD code 0 0 / 8) → z ≡ sizeOf (8 + getD code 0 0 / 16 % 4)
       → decodeOf code ≡ judge (byRows (registerRows z (Register (getD code 0 0 % 8)))) code 1
@@ -42,12 +40,10 @@ module _ (code : List ℕ) (h : 0 < length code) where
       let b = getD code 0 0 in
       by-first (byRows (registerRows z (Register (b % 8)))) (register-form b k ∙ ap (λ (x : Size). byRows (registerRows x (Register (b % 8)))) (sym e))
 
-  pub jump-says : 12 ≤ getD code 0 0 / 8 → getD code 0 0 / 8 < 14 → decodeOf code ≡ judge (withConstant (Jr (getD code 0 0 % 16)) Byte 1) code 1
-  jump-says l u = by-first (withConstant (Jr (getD code 0 0 % 16)) Byte 1) (either (decLe 13 (getD code 0 0 / 8)))
-    where
-      either : Dec (13 ≤ getD code 0 0 / 8) → lookup firstRows (getD code 0 0) ≡ withConstant (Jr (getD code 0 0 % 16)) Byte 1
-      either (yes e) = jump-short-1 (getD code 0 0) (omega (arith, u, e))
-      either (no e) = jump-short-0 (getD code 0 0) (let f = lt-of-not-le e in omega (arith, l, f))
+  pub memory-says :
+      128 ≤ getD code 0 0 → getD code 0 0 < 256 → (OneOf (25 ∷ 27 ∷ 29 ∷ []) (getD code 0 0 / 8) → ⊥)
+      → decodeOf code ≡ judge (lookup memoryFirstRows (getD code 0 0)) code 1
+  memory-says l u m = by-first (lookup memoryFirstRows (getD code 0 0)) (in-memory (getD code 0 0) u l m)
 
 -- one step, by the instruction that stands at the counter
 pub once-by :

@@ -1,6 +1,4 @@
 pub mod Laws
-pub mod RegisterForms
-pub mod Division
 pub mod Times
 pub mod Many
 pub mod First

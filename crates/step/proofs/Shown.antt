@@ -16,7 +16,7 @@ use Rattle.memory.specs.Access.{codeAt}
 use Rattle.code.specs.declared.Decoded.{Decoded}
 use Rattle.code.specs.declared.Decoded.the-variants as decoded
 use Rattle.code.specs.Listed.{decodeOf}
-use Rattle.code.proofs.Ranges.{length-fits}
+use Rattle.code.proofs.Walked.{length-fits}
 use Rattle.step.specs.Step.{tooLong}
 use Rattle.step.specs.Show.{judgedOf, showAnswerOf, lengthIn, shownOf, shownFrom}
 use Rattle.step.specs.Statements.{ShownStands, RefusedShowsNone}

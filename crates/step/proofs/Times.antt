@@ -19,24 +19,20 @@ use Rattle.memory.specs.declared.Place.{Place}
 use Rattle.memory.specs.declared.Place.the-variants.{Ram, Rom, Missing}
 use Rattle.memory.proofs.Laws.{rom-fits, code-in}
 use Rattle.state.specs.State.{bankedAtWith, standingAt, withCounter}
+use Rattle.state.specs.declared.Bank.{Bank}
 use Rattle.state.specs.declared.State.{State}
 use Rattle.code.specs.Listed.{decodeOf}
+use Rattle.code.specs.Said.{wholeOf}
 use Rattle.code.specs.declared.Decoded.{Decoded}
-use Rattle.code.specs.declared.Decoded.the-variants as decoded
 use Rattle.code.specs.declared.Form.{Form}
-use Rattle.code.specs.declared.Instruction.{Instruction}
 use Rattle.code.specs.declared.Operand.{Operand}
-use Rattle.step.specs.declared.kind.Kind.{Kind}
-use Rattle.step.specs.declared.kind.Kind.the-variants.{Blocks}
+use Rattle.code.specs.declared.Op.the-variants.{Blocks}
 use Rattle.operand.specs.Try.{Try, did, no, Outcome, after, leaves, andThen}
 use Rattle.block.specs.Block.{roundOf, goesOn, endsAt}
-use Rattle.step.specs.Exec.{effectOf, executedOf}
-use Rattle.step.specs.Kind.{kindOf, kindDone}
+use Rattle.step.specs.Exec.{pastOf, effectOf, executedOf}
 use Rattle.step.specs.Step.{done, onceOf}
 use Rattle.step.specs.Times.{timesOf, Fewer, Stands}
 use Rattle.block.specs.Again.{inRom, againOf}
-use Rattle.step.proofs.Division.{effect-by}
-use Rattle.step.proofs.Laws.{past-is}
 
 -- ---- what was tried, from what a call leaves
 module _ (s : State) (ram : List ℕ) (a : Answer) (u : State) (m : List ℕ) where
@@ -88,28 +84,15 @@ fewer-same Done n = omega arith
 fewer-same (Refused w) n = refl
 
 -- ---- what stands at an address
-module _ (at past : ℕ) (ram rom : List ℕ) where
-  pub one-step :
-      (does : State → List ℕ → Try) → Stands at past ram rom does → (n : ℕ) (s : State)
-      → does (standingAt s past) ram ≡ timesOf (suc (n - n)) (standingAt s at) ram rom
-  one-step does h n s = sym (times-one n (standingAt s at) ram rom ∙ h ram refl s)
-
-  pub stands-block :
-      (k : Kind) (z : Size) (o : Operand) (f : Form) → Stands at past ram rom (λ s m. kindDone k z o at s m rom) → k ≡ Blocks f
-      → Stands at past ram rom (λ s m. andThen (roundOf f s m rom) (endsAt f at))
-  stands-block k z o f h e m same s = h m same s ∙ ap (λ (x : Kind). kindDone x z o at (standingAt s past) m rom) e
-
-pub stands-decoded :
-    (i : Instruction) (at r : ℕ) (ram rom : List ℕ) (k : Kind) → decodeOf (codeAt ram rom at) ≡ decoded.Whole i → r ≡ (at + i .length % 16777216) % 2 ^ 32
-    → k ≡ kindOf (i .op) → Stands at (r % 2 ^ 24) ram rom (λ s m. kindDone k (i .size) (i .operand) at s m rom)
-unfolding onceOf executedOf withCounter
-stands-decoded i at r ram rom k d e g m same rest =
+pub stands-form :
+    (f : Form) (z : Size) (o : Operand) (n at past : ℕ) (ram rom : List ℕ) → decodeOf (codeAt ram rom at) ≡ wholeOf (Blocks f) z o n → past ≡ (at + n) % 2 ^ 24
+    → Stands at past ram rom (λ s m. andThen (roundOf f s m rom) (endsAt f at))
+unfolding onceOf executedOf effectOf pastOf withCounter
+stands-form f z o n at past ram rom d e m same rest =
     let s = standingAt rest at in
-    let t = standingAt rest (r % 2 ^ 24) in
     ap (λ (x : List ℕ). done (decodeOf x) s m rom) same
     ∙ ap (λ (x : Decoded). done x s m rom) d
-    ∙ ap (λ (p : State). effectOf (i .op) (i .size) (i .operand) at p m rom) (sym (past-is (i .length) s r e))
-    ∙ sym (effect-by (i .op) (i .size) (i .operand) at t m rom k (sym g))
+    ∙ rw e refl
 
 -- ---- in ROM
 module _ (ram rom : List ℕ) (a : ℕ) where
@@ -131,7 +114,7 @@ module _ (ram rom : List ℕ) (a : ℕ) where
 
 -- ---- one round more of a form that stands at an address, after k steps that were done
 module _
-    (f : Form) (at past bank : ℕ) (rest : State) (ram rom : List ℕ) (start : State)
+    (f : Form) (at past : ℕ) (bank : Bank) (rest : State) (ram rom : List ℕ) (start : State)
     (h : Stands at past ram rom (λ s m. andThen (roundOf f s m rom) (endsAt f at)))
     (k : ℕ) (registers : List ℕ) (flags : ℕ) (m : List ℕ)
     (same : codeAt m rom at ≡ codeAt ram rom at)

@@ -27,18 +27,25 @@ use Rattle.code.specs.declared.Form.{Form}
 use Rattle.code.specs.declared.Operand.{Operand}
 use Rattle.code.specs.declared.Operand.the-variants.{Register, Constant, Memory}
 use Rattle.code.specs.declared.Op.{Op}
-use Rattle.code.specs.declared.Op.the-variants.{Nop, Incf, Decf, Ldf, Rcf, Scf, Ccf, Zcf, Exf, PushF, PopF, Set, Push, Pop, Jp16, Jp24, Call16, Call24, Calr, Ret, Jr, Jrl, LoadConstant, Load, Into, Compute, ComputeInto, ComputeConstant, Inc, Dec, Shifted, Extz, Exts, Store, Block}
+use Rattle.code.specs.declared.Op.the-variants.{Controls, Stacks, Puts, Sets, Blocks}
+use Rattle.code.specs.declared.Control.{Control}
+use Rattle.code.specs.declared.Control.the-variants.{Nop, Incf, Decf, Ldf, Rcf, Scf, Ccf, Zcf, Exf, Jp16, Jp24, Jr, Jrl}
+use Rattle.code.specs.declared.Stack.{Stack}
+use Rattle.code.specs.declared.Stack.the-variants.{PushF, PopF, Push, Pop, Call16, Call24, Calr, Ret}
+use Rattle.code.specs.declared.Use.{Use}
+use Rattle.code.specs.declared.Use.the-variants.{Number, From, Load, Compute, Inc, Dec, Shifted, Extz, Exts}
+use Rattle.code.specs.declared.Side.the-variants.{First, Second, With}
 use Rattle.alu.specs.Condition.{holdsOf}
 use Rattle.operand.specs.Try.{Try, did, no, andThen, withLoaded}
 use Rattle.operand.specs.Operand.{pointerOf, valueAt, valueIn, storing, storedBy, putAt}
 use Rattle.operand.specs.Round.{plus}
-use Rattle.stack.specs.Stack.{pushOf, popOf}
+use Rattle.stack.specs.Stack.{pushOf, popOf, stackOf}
 use Rattle.operand.specs.Flag.{flagsIn, flagged, exchanged}
-use Rattle.control.specs.Control.{jumpOf}
-use Rattle.compute.specs.Compute.{computed, resultIn, storesOf, answerIn}
+use Rattle.control.specs.Control.{jumpOf, controlOf}
+use Rattle.compute.specs.Compute.{computed, resultIn, storesOf, answerIn, putsOf}
 use Rattle.block.specs.Block.{counted, moved, copied, compared, roundOf, goesOn, endsAt}
 use Rattle.step.specs.Exec.{pastOf, effectOf}
-use Rattle.step.specs.Touched.{Span, none, bytes, operandSpan, onStack, belowStack, readOf, storedOf, loadTo, readAnswer, storeAnswer, answerBy, KeepsRest}
+use Rattle.step.specs.Touched.{Span, none, bytes, operandSpan, onStack, belowStack, stackRead, stackStored, useRead, useStored, readOf, storedOf, loadTo, readAnswer, storeAnswer, answerBy, KeepsRest}
 
 -- what no change of the state breaks
 pub record Kept (P : State → Type 0) : Type 0 where
@@ -53,8 +60,7 @@ module _ (P : State → Type 0) (k : Kept P) where
   unfolding pastOf
   past-kept n s ok = k .counters s _ ok
 
-  jump-kept : (s : State) (cc to : ℕ) → P s → P (jumpOf s cc to)
-  unfolding jumpOf
+  jump-kept : (s : State) (cc to : ℕ) → P s → P (cond (holdsOf (flagsIn s) cc) (withCounter s to) s)
   jump-kept s cc to ok = go (holdsOf (flagsIn s) cc)
     where
       go : (b : Bool) → P (cond b (withCounter s to) s)
@@ -200,40 +206,55 @@ module _ (P : State → Type 0) (ram rom : List ℕ) where
       go v true = fair-storing _ _ (f .size) v (copied-kept P k f s ok)
       go v false = fair-did _ (compared-kept P k f v s ok)
 
+  fair-jump : (s : State) (cc to : ℕ) → Kept P → P s → Fair none none (jumpOf s ram cc to)
+  unfolding jumpOf
+  fair-jump s cc to k ok = fair-did _ (jump-kept P k s cc to ok)
+
+  fair-control : (what : Control) (n : ℕ) (s : State) → Kept P → P s → Fair none none (controlOf what n s ram)
+  unfolding controlOf
+  fair-control Nop n s k ok = fair-did s ok
+  fair-control Incf n s k ok = fair-did _ (k .banks s _ ok)
+  fair-control Decf n s k ok = fair-did _ (k .banks s _ ok)
+  fair-control Ldf n s k ok = fair-did _ (k .banks s _ ok)
+  fair-control Rcf n s k ok = fair-did _ (k .flags s _ ok)
+  fair-control Scf n s k ok = fair-did _ (k .flags s _ ok)
+  fair-control Ccf n s k ok = fair-did _ (k .flags s _ ok)
+  fair-control Zcf n s k ok = fair-did _ (k .flags s _ ok)
+  fair-control Exf n s k ok = fair-did _ (k .exchanges s ok)
+  fair-control Jp16 n s k ok = fair-did _ (k .counters s _ ok)
+  fair-control Jp24 n s k ok = fair-did _ (k .counters s _ ok)
+  fair-control (Jr cc) n s k ok = fair-jump s cc _ k ok
+  fair-control (Jrl cc) n s k ok = fair-jump s cc _ k ok
+
+  fair-stack : (what : Stack) (z : Size) (o : Operand) (s : State) → Kept P → P s → Fair (stackRead what z s) (stackStored what z s) (stackOf what z o s ram rom)
+  unfolding stackOf
+  fair-stack PushF z o s k ok = fair-push s Byte _ k ok
+  fair-stack PopF z o s k ok = fair-pop s Byte _ (λ t v h. byte-kept P k t _ h) k ok
+  fair-stack Push z o s k ok = fair-push s z _ k ok
+  fair-stack Pop z o s k ok = fair-pop s z _ (λ t v h. k .registers t z _ v h) k ok
+  fair-stack Call16 z o s k ok = fair-call s _ k ok
+  fair-stack Call24 z o s k ok = fair-call s _ k ok
+  fair-stack Calr z o s k ok = fair-call s _ k ok
+  fair-stack Ret z o s k ok = fair-pop s Long _ (λ t v h. k .counters t v h) k ok
+
+  fair-puts : (how : Use) (z : Size) (o : Operand) (s : State) → Kept P → P s → Fair (useRead how (operandSpan s z o)) (useStored how (operandSpan s z o)) (putsOf how z o s ram rom)
+  unfolding putsOf
+  fair-puts (Number n) z o s k ok = fair-put s z o n k ok
+  fair-puts (From r) z o s k ok = fair-put s z o _ k ok
+  fair-puts (Load r) z o s k ok = fair-value s z o _ _ (λ v. fair-did _ (k .registers s z r v ok))
+  fair-puts (Compute op (First r)) z o s k ok = fair-value s z o _ _ (λ v. fair-register op s z r (computed s op z (getRegister s z r) v) k ok)
+  fair-puts (Compute op (Second r)) z o s k ok = fair-value s z o _ _ (λ v. fair-answer op s z o _ k ok)
+  fair-puts (Compute op (With n)) z o s k ok = fair-value s z o _ _ (λ v. fair-answer op s z o _ k ok)
+  fair-puts (Inc n) z o s k ok = fair-value s z o _ _ (λ v. fair-result s z o _ k ok)
+  fair-puts (Dec n) z o s k ok = fair-value s z o _ _ (λ v. fair-result s z o _ k ok)
+  fair-puts (Shifted kind n) z o s k ok = fair-value s z o _ _ (λ v. fair-result s z o _ k ok)
+  fair-puts Extz z o s k ok = fair-value s z o _ _ (λ v. fair-put s z o _ k ok)
+  fair-puts Exts z o s k ok = fair-value s z o _ _ (λ v. fair-put s z o _ k ok)
+
   pub fair-effect : (op : Op) (z : Size) (o : Operand) (at : ℕ) (s : State) → Kept P → P s → Fair (readOf op z o s) (storedOf op z o s) (effectOf op z o at s ram rom)
   unfolding effectOf readOf storedOf
-  fair-effect Nop z o at s k ok = fair-did s ok
-  fair-effect Incf z o at s k ok = fair-did _ (k .banks s _ ok)
-  fair-effect Decf z o at s k ok = fair-did _ (k .banks s _ ok)
-  fair-effect Ldf z o at s k ok = fair-did _ (k .banks s _ ok)
-  fair-effect Rcf z o at s k ok = fair-did _ (k .flags s _ ok)
-  fair-effect Scf z o at s k ok = fair-did _ (k .flags s _ ok)
-  fair-effect Ccf z o at s k ok = fair-did _ (k .flags s _ ok)
-  fair-effect Zcf z o at s k ok = fair-did _ (k .flags s _ ok)
-  fair-effect Exf z o at s k ok = fair-did _ (k .exchanges s ok)
-  fair-effect PushF z o at s k ok = fair-push s Byte _ k ok
-  fair-effect PopF z o at s k ok = fair-pop s Byte _ (λ t v h. byte-kept P k t _ h) k ok
-  fair-effect (Set r) z o at s k ok = fair-did _ (k .registers s z r _ ok)
-  fair-effect Push z o at s k ok = fair-push s z _ k ok
-  fair-effect Pop z o at s k ok = fair-pop s z _ (λ t v h. k .registers t z _ v h) k ok
-  fair-effect Jp16 z o at s k ok = fair-did _ (k .counters s _ ok)
-  fair-effect Jp24 z o at s k ok = fair-did _ (k .counters s _ ok)
-  fair-effect Call16 z o at s k ok = fair-call s _ k ok
-  fair-effect Call24 z o at s k ok = fair-call s _ k ok
-  fair-effect Calr z o at s k ok = fair-call s _ k ok
-  fair-effect Ret z o at s k ok = fair-pop s Long _ (λ t v h. k .counters t v h) k ok
-  fair-effect (Jr cc) z o at s k ok = fair-did _ (jump-kept P k s cc _ ok)
-  fair-effect (Jrl cc) z o at s k ok = fair-did _ (jump-kept P k s cc _ ok)
-  fair-effect (LoadConstant n) z o at s k ok = fair-put s z o n k ok
-  fair-effect (Load r) z o at s k ok = fair-value s z o _ _ (λ v. fair-did _ (k .registers s z r v ok))
-  fair-effect (Into r) z o at s k ok = fair-put s z o _ k ok
-  fair-effect (Compute op r) z o at s k ok = fair-value s z o _ _ (λ v. fair-register op s z r (computed s op z (getRegister s z r) v) k ok)
-  fair-effect (ComputeInto op r) z o at s k ok = fair-value s z o _ _ (λ v. fair-answer op s z o _ k ok)
-  fair-effect (ComputeConstant op n) z o at s k ok = fair-value s z o _ _ (λ v. fair-answer op s z o _ k ok)
-  fair-effect (Inc n) z o at s k ok = fair-value s z o _ _ (λ v. fair-result s z o _ k ok)
-  fair-effect (Dec n) z o at s k ok = fair-value s z o _ _ (λ v. fair-result s z o _ k ok)
-  fair-effect (Shifted kind n) z o at s k ok = fair-value s z o _ _ (λ v. fair-result s z o _ k ok)
-  fair-effect Extz z o at s k ok = fair-value s z o _ _ (λ v. fair-put s z o _ k ok)
-  fair-effect Exts z o at s k ok = fair-value s z o _ _ (λ v. fair-put s z o _ k ok)
-  fair-effect (Store r) z o at s k ok = fair-put s z o _ k ok
-  fair-effect (Block f) z o at s k ok = fair-then _ _ (roundOf f s ram rom) (endsAt f at) (fair-round f s k ok) (λ t h. ends-kept P k f at t h)
+  fair-effect (Controls what) z o at s k ok = fair-control what _ s k ok
+  fair-effect (Stacks what) z o at s k ok = fair-stack what z o s k ok
+  fair-effect (Puts how) z o at s k ok = fair-puts how z o s k ok
+  fair-effect (Sets r) z o at s k ok = fair-did _ (k .registers s z r _ ok)
+  fair-effect (Blocks f) z o at s k ok = fair-then _ _ (roundOf f s ram rom) (endsAt f at) (fair-round f s k ok) (λ t h. ends-kept P k f at t h)

@@ -1,10 +1,8 @@
 pub mod Result
 pub mod Exec
-pub mod Kind
 pub mod Step
 pub mod Many
 pub mod Times
-pub mod Register
 pub mod Show
 pub mod Reset
 pub mod Touched

@@ -17,7 +17,7 @@ use Rattle.state.specs.State.{validOf, zeroState}
 use Rattle.state.specs.Sound.{Sound}
 use Rattle.state.specs.declared.State.{State}
 use Rattle.code.specs.declared.Form.{Form}
-use Rattle.code.specs.declared.Op.the-variants.{Block}
+use Rattle.code.specs.declared.Op.the-variants.{Blocks}
 use Rattle.code.specs.declared.Operand.{Operand}
 use Rattle.code.specs.declared.Instruction.{Instruction}
 use Rattle.code.specs.declared.Decoded.the-variants as decoded
@@ -110,5 +110,5 @@ single f = record { copies = f .copies; size = f .size; up = f .up; again = fals
 abbrev pub RoundIsSingle : Type 0
 RoundIsSingle =
     (f : Form) (z : Size) (o : Operand) (at : ℕ) (s : State) (ram rom : List ℕ) →
-    (effectOf (Block (single f)) z o at s ram rom ≡ roundOf f s ram rom)
-    × (effectOf (Block f) z o at s ram rom ≡ andThen (effectOf (Block (single f)) z o at s ram rom) (endsAt f at))
+    (effectOf (Blocks (single f)) z o at s ram rom ≡ roundOf f s ram rom)
+    × (effectOf (Blocks f) z o at s ram rom ≡ andThen (effectOf (Blocks (single f)) z o at s ram rom) (endsAt f at))

@@ -1,5 +1,5 @@
 -- Several steps in one call.
-use Prim.Native.Nat.{ℕ, zero, suc, _≤_}
+use Prim.Native.Nat.{ℕ, zero, suc, _+_, _%_, _^_, _≤_}
 use mathlib.Core.Path.{_≡_}
 use mathlib.Core.List.{List}
 use Rattle.answer.specs.declared.Answer.{Answer}
@@ -30,3 +30,13 @@ Fewer (Refused w) m n = n ≡ m
 abbrev pub Stands : ℕ → ℕ → List ℕ → List ℕ → (State → List ℕ → Try) → Type 0
 Stands at past ram rom does =
     (m : List ℕ) → codeAt m rom at ≡ codeAt ram rom at → (s : State) → onceOf (standingAt s at) m rom ≡ does (standingAt s past) m
+
+-- where an answer leaves the counter: a refusal `here`, where the instruction stands
+abbrev pub backOf : Answer → ℕ → ℕ → ℕ
+backOf Done here counter = counter
+backOf (Refused w) here counter = here
+
+-- and where one of n bytes leaves it that does not go anywhere: past it, or at it
+abbrev pub onOf : Answer → ℕ → ℕ → ℕ
+onOf Done n counter = (counter + n) % 2 ^ 24
+onOf (Refused w) n counter = counter

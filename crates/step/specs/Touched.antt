@@ -21,7 +21,12 @@ use Rattle.state.specs.declared.State.{State}
 use Rattle.code.specs.declared.Operand.{Operand}
 use Rattle.code.specs.declared.Operand.the-variants.{Register, Constant, Memory}
 use Rattle.code.specs.declared.Op.{Op}
-use Rattle.code.specs.declared.Op.the-variants.{Nop, Incf, Decf, Ldf, Rcf, Scf, Ccf, Zcf, Exf, PushF, PopF, Set, Push, Pop, Jp16, Jp24, Call16, Call24, Calr, Ret, Jr, Jrl, LoadConstant, Load, Into, Compute, ComputeInto, ComputeConstant, Inc, Dec, Shifted, Extz, Exts, Store, Block}
+use Rattle.code.specs.declared.Op.the-variants.{Controls, Stacks, Puts, Sets, Blocks}
+use Rattle.code.specs.declared.Stack.{Stack}
+use Rattle.code.specs.declared.Stack.the-variants.{PushF, PopF, Push, Pop, Call16, Call24, Calr, Ret}
+use Rattle.code.specs.declared.Use.{Use}
+use Rattle.code.specs.declared.Use.the-variants.{Number, From, Load, Compute, Inc, Dec, Shifted, Extz, Exts}
+use Rattle.code.specs.declared.Side.the-variants.{First, Second, With}
 use Rattle.operand.specs.Operand.{pointerOf, addressOf}
 use Rattle.operand.specs.Round.{less}
 use Rattle.compute.specs.Compute.{storesOf}
@@ -47,80 +52,64 @@ belowStack s n = bytes (less 32 (getRegister s Long 7) n % 2 ^ 24) n
 
 -- what an instruction reads: a pop or a return the stack, a copy or a compare its element, the others their operand.
 -- The state is past the instruction.
+abbrev pub stackRead : Stack → Size → State → Span
+stackRead PushF z s = none
+stackRead PopF z s = onStack s 1
+stackRead Push z s = none
+stackRead Pop z s = onStack s (bytesOf z)
+stackRead Call16 z s = none
+stackRead Call24 z s = none
+stackRead Calr z s = none
+stackRead Ret z s = onStack s 4
+
+abbrev pub useRead : Use → Span → Span
+useRead (Number n) operand = none
+useRead (From r) operand = none
+useRead (Load r) operand = operand
+useRead (Compute op other) operand = operand
+useRead (Inc n) operand = operand
+useRead (Dec n) operand = operand
+useRead (Shifted kind n) operand = operand
+useRead Extz operand = operand
+useRead Exts operand = operand
+
 unfoldable pub readOf : Op → Size → Operand → State → Span
-readOf Nop z o s = none
-readOf Incf z o s = none
-readOf Decf z o s = none
-readOf Ldf z o s = none
-readOf Rcf z o s = none
-readOf Scf z o s = none
-readOf Ccf z o s = none
-readOf Zcf z o s = none
-readOf Exf z o s = none
-readOf PushF z o s = none
-readOf PopF z o s = onStack s 1
-readOf (Set r) z o s = none
-readOf Push z o s = none
-readOf Pop z o s = onStack s (bytesOf z)
-readOf Jp16 z o s = none
-readOf Jp24 z o s = none
-readOf Call16 z o s = none
-readOf Call24 z o s = none
-readOf Calr z o s = none
-readOf Ret z o s = onStack s 4
-readOf (Jr cc) z o s = none
-readOf (Jrl cc) z o s = none
-readOf (LoadConstant n) z o s = none
-readOf (Load r) z o s = operandSpan s z o
-readOf (Into r) z o s = none
-readOf (Compute op r) z o s = operandSpan s z o
-readOf (ComputeInto op r) z o s = operandSpan s z o
-readOf (ComputeConstant op n) z o s = operandSpan s z o
-readOf (Inc n) z o s = operandSpan s z o
-readOf (Dec n) z o s = operandSpan s z o
-readOf (Shifted kind n) z o s = operandSpan s z o
-readOf Extz z o s = operandSpan s z o
-readOf Exts z o s = operandSpan s z o
-readOf (Store r) z o s = none
-readOf (Block f) z o s = bytes (pointerOf s (f .from)) (bytesOf (f .size))
+readOf (Controls what) z o s = none
+readOf (Stacks what) z o s = stackRead what z s
+readOf (Puts how) z o s = useRead how (operandSpan s z o)
+readOf (Sets r) z o s = none
+readOf (Blocks f) z o s = bytes (pointerOf s (f .from)) (bytesOf (f .size))
 
 -- where it stores: a push or a call below the stack, a copy at its other pointer, the others at their operand; CP nowhere
+abbrev pub stackStored : Stack → Size → State → Span
+stackStored PushF z s = belowStack s 1
+stackStored PopF z s = none
+stackStored Push z s = belowStack s (bytesOf z)
+stackStored Pop z s = none
+stackStored Call16 z s = belowStack s 4
+stackStored Call24 z s = belowStack s 4
+stackStored Calr z s = belowStack s 4
+stackStored Ret z s = none
+
+abbrev pub useStored : Use → Span → Span
+useStored (Number n) operand = operand
+useStored (From r) operand = operand
+useStored (Load r) operand = none
+useStored (Compute op (First r)) operand = none
+useStored (Compute op (Second r)) operand = cond (storesOf op) operand none
+useStored (Compute op (With n)) operand = cond (storesOf op) operand none
+useStored (Inc n) operand = operand
+useStored (Dec n) operand = operand
+useStored (Shifted kind n) operand = operand
+useStored Extz operand = operand
+useStored Exts operand = operand
+
 unfoldable pub storedOf : Op → Size → Operand → State → Span
-storedOf Nop z o s = none
-storedOf Incf z o s = none
-storedOf Decf z o s = none
-storedOf Ldf z o s = none
-storedOf Rcf z o s = none
-storedOf Scf z o s = none
-storedOf Ccf z o s = none
-storedOf Zcf z o s = none
-storedOf Exf z o s = none
-storedOf PushF z o s = belowStack s 1
-storedOf PopF z o s = none
-storedOf (Set r) z o s = none
-storedOf Push z o s = belowStack s (bytesOf z)
-storedOf Pop z o s = none
-storedOf Jp16 z o s = none
-storedOf Jp24 z o s = none
-storedOf Call16 z o s = belowStack s 4
-storedOf Call24 z o s = belowStack s 4
-storedOf Calr z o s = belowStack s 4
-storedOf Ret z o s = none
-storedOf (Jr cc) z o s = none
-storedOf (Jrl cc) z o s = none
-storedOf (LoadConstant n) z o s = operandSpan s z o
-storedOf (Load r) z o s = none
-storedOf (Into r) z o s = operandSpan s z o
-storedOf (Compute op r) z o s = none
-storedOf (ComputeInto op r) z o s = cond (storesOf op) (operandSpan s z o) none
-storedOf (ComputeConstant op n) z o s = cond (storesOf op) (operandSpan s z o) none
-storedOf (Inc n) z o s = operandSpan s z o
-storedOf (Dec n) z o s = operandSpan s z o
-storedOf (Shifted kind n) z o s = operandSpan s z o
-storedOf Extz z o s = operandSpan s z o
-storedOf Exts z o s = operandSpan s z o
-storedOf (Store r) z o s = operandSpan s z o
-storedOf (Block f) z o s = cond (f .copies) (bytes (pointerOf s (f .to)) (bytesOf (f .size))) none
+storedOf (Controls what) z o s = none
+storedOf (Stacks what) z o s = stackStored what z s
+storedOf (Puts how) z o s = useStored how (operandSpan s z o)
+storedOf (Sets r) z o s = none
+storedOf (Blocks f) z o s = cond (f .copies) (bytes (pointerOf s (f .to)) (bytesOf (f .size))) none
 
 -- what is read has to be there
 abbrev pub loadTo : Place → Answer

@@ -15,9 +15,6 @@ use little::Size;
 use memory::Loaded;
 use state::State;
 
-mod jump;
-mod kind;
-mod register;
 pub mod turn;
 
 pub struct Stepped {

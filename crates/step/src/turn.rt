@@ -1,43 +1,60 @@
 // Many steps in one call: what stands at the counter, done or refused, again and again.
 ghost use mathlib.Core.Path.{_≡_};
-ghost use Prim.Native.Nat.{suc, _-_};
+ghost use mathlib.Core.List.{List};
+ghost use Prim.Native.Nat.{ℕ, suc, _-_};
 ghost use Rattle.memory.specs.Access.{codeAt};
 ghost use Rattle.state.specs.declared.State.{State};
 ghost use Rattle.state.specs.State.{lent, bankedAtWith, standingAt};
+ghost use Rattle.code.specs.declared.MemoryForm.{MemoryForm};
+ghost use Rattle.code.specs.declared.Operand.the-variants.{Register};
 ghost use Rattle.code.specs.Listed.{decodeOf};
+ghost use Rattle.code.specs.Parts.{aloneAs, registerAs, memoryAs};
+ghost use Rattle.operand.specs.Operand.{addressIn};
 ghost use Rattle.operand.specs.Try.{Does, andThen};
 ghost use Rattle.block.specs.Block.{roundOf, endsAt};
-ghost use Rattle.step.specs.Kind.{kindDone};
-ghost use Rattle.step.specs.Times.{timesOf, Fewer, Stands};
+ghost use Rattle.step.specs.Step.{done};
+ghost use Rattle.step.specs.Times.{timesOf, Fewer, Stands, backOf, onOf};
 ghost use Rattle.step.specs.Many.{result, stopped, manyOf};
-use crate::jump::short_jump;
-use crate::kind::Kind;
-use crate::kind::kind_of;
-use crate::register::register;
 use answer::Answer;
 use answer::Why;
 use block::again;
 use block::ended;
 use block::in_rom;
 use block::round;
-use code::Decoded;
+use code::Alone;
+use code::Begun;
 use code::Form;
-use code::Instruction;
-use code::Operand;
+use code::OfMemory;
+use code::OfRegister;
 use code::first::size_of;
-use compute::puts;
+use compute::form;
+use compute::register::count;
+use compute::register::extend;
+use compute::register::load;
+use compute::register::operate;
+use compute::register::shift;
+use compute::register::with;
 use control::control;
+use control::past;
 use little::Size;
-use operand::number_in;
+use operand::address;
 use stack::stack;
+use state::Bank;
 use state::State;
+
+// The bank whose number a turn is lent: the one place where that number becomes a bank.
+fn current(bank: &u8) -> Bank
+    ensures { λ r. ⌜ r ≡ record { 0 = now (bank .entry) } ⌝ }
+{
+    Bank(*bank)
+}
 
 // A round of the form that stands at an address, and as many more as there are steps for and the form goes on; the counter is
 // past it. In ROM the form stays what it is, so that it is not read again for each round.
 fn block(
     f: Form,
     at: u32,
-    bank: u8,
+    bank: Bank,
     flags: &mut u8,
     regs: &mut [u32; 20],
     counter: &mut u32,
@@ -74,47 +91,31 @@ fn block(
     }
 }
 
-// The work of a kind. The counter is past the instruction, which stands at an address. Each kind's function is called here
-// alone, so that the compiler lays it into this one.
-fn effect(
-    kind: Kind,
-    size: Size,
-    operand: Operand,
-    at: u32,
-    regs: &mut [u32; 20],
-    counter: &mut u32,
-    bank: &mut u8,
-    flags: &mut u8,
-    spare: &mut u8,
-    ram: &mut [u8],
-    rom: &[u8],
-    more: &mut u32,
-) -> Answer
-    requires { ⌜ Stands at (now counter) (now ram) (now rom) (λ s m. kindDone kind size operand at s m (now rom)) ⌝ }
-    ensures { λ a. ⌜ Fewer a (now (more .entry)) (now (more .exit)) ⌝ }
-    ensures { λ a. ⌜ ((s : State) → Does (λ t m. timesOf (suc (now (more .entry) - now (more .exit))) (standingAt t at) m (now (rom .entry)))
-        (lent s (now (regs .entry)) (now (counter .entry)) (now (bank .entry)) (now (flags .entry)) (now (spare .entry))) (now (ram .entry))
-        a (lent s (now (regs .exit)) (now (counter .exit)) (now (bank .exit)) (now (flags .exit)) (now (spare .exit))) (now (ram .exit))) ⌝ }
+// A refused instruction leaves the counter at it, though it was past it already.
+fn back(a: Answer, here: u32, counter: &mut u32) -> Answer
+    ensures { λ r. ⌜ (r ≡ a) × (now (counter .exit) ≡ backOf a here (now (counter .entry))) ⌝ }
 {
-    let b = *bank;
-    match kind {
-        Kind::Puts(how) => puts(how, size, operand, b, flags, regs, ram, rom),
-        Kind::Sets(r) => {
-            state::write(regs, b, size, r, number_in(operand));
-            Answer::Done
-        }
-        Kind::Controls(what) => {
-            control(what, number_in(operand), counter, bank, flags, spare);
-            Answer::Done
-        }
-        Kind::Stacks(what) => stack(what, size, operand, b, flags, regs, counter, ram, rom),
-        Kind::Blocks(f) => block(f, at, b, flags, regs, counter, ram, rom, more),
+    if let Answer::Refused(w) = a {
+        *counter = here;
+        return Answer::Refused(w);
     }
+    a
 }
 
-// A refused instruction leaves the counter at it.
-fn execute(
-    i: Instruction,
+// Past an instruction of n bytes, where it is done.
+fn on(a: Answer, counter: &mut u32, n: usize) -> Answer
+    ensures { λ r. ⌜ (r ≡ a) × (now (counter .exit) ≡ onOf a n (now (counter .entry))) ⌝ }
+{
+    if let Answer::Refused(w) = a {
+        return Answer::Refused(w);
+    }
+    past(counter, n);
+    a
+}
+
+// What a first byte 00 to 7F says. Each kind's function is called in one place alone, so that the compiler lays it in there.
+fn alone(
+    read: Alone,
     regs: &mut [u32; 20],
     counter: &mut u32,
     bank: &mut u8,
@@ -122,46 +123,134 @@ fn execute(
     spare: &mut u8,
     ram: &mut [u8],
     rom: &[u8],
-    more: &mut u32,
 ) -> Answer
-    requires { ⌜ decodeOf (codeAt (now ram) (now rom) (now counter)) ≡ Decoded.Whole i ⌝ }
-    ensures { λ a. ⌜ Fewer a (now (more .entry)) (now (more .exit)) ⌝ }
-    ensures { λ a. ⌜ ((s : State) → Does (λ t m. timesOf (suc (now (more .entry) - now (more .exit))) t m (now (rom .entry)))
+    ensures { λ a. ⌜ ((s : State) → Does (λ t m. done (aloneAs read) t m (now (rom .entry)))
         (lent s (now (regs .entry)) (now (counter .entry)) (now (bank .entry)) (now (flags .entry)) (now (spare .entry))) (now (ram .entry))
         a (lent s (now (regs .exit)) (now (counter .exit)) (now (bank .exit)) (now (flags .exit)) (now (spare .exit))) (now (ram .exit))) ⌝ }
 {
     let here = *counter;
-    let n = (i.length % 16777216) as u32;
-    *counter = std::num::wrapping_add_u32(here, n) % 16777216;
-    let op = i.op;
-    let kind = kind_of(op);
-    let size = i.size;
-    let operand = i.operand;
-    match effect(
-        kind,
-        size,
-        operand,
-        here,
-        regs,
-        &mut *counter,
-        bank,
-        flags,
-        spare,
-        ram,
-        rom,
-        more,
-    ) {
-        Answer::Done => Answer::Done,
-        Answer::Refused(w) => {
-            *counter = here;
-            Answer::Refused(w)
+    match read {
+        Alone::Controls(what, v, n) => {
+            past(&mut *counter, n);
+            let a = control(what, v, &mut *counter, bank, flags, spare);
+            back(a, here, counter)
         }
+        Alone::Stacks(what, size, operand, n) => {
+            past(&mut *counter, n);
+            let b = current(&*bank);
+            let a = stack(what, size, operand, b, flags, regs, &mut *counter, ram, rom);
+            back(a, here, counter)
+        }
+        Alone::Sets(r, size, v, n) => {
+            state::write(regs, current(&*bank), size, r, v);
+            on(Answer::Done, counter, n)
+        }
+        Alone::Short => Answer::Refused(Why::NoCode),
+        Alone::Unlisted => Answer::Refused(Why::Unlisted),
+    }
+}
+
+// What a form of the register r says: nothing is refused but its code.
+fn of_register(
+    read: OfRegister,
+    size: Size,
+    r: u8,
+    bank: Bank,
+    flags: &mut u8,
+    regs: &mut [u32; 20],
+    counter: &mut u32,
+) -> Answer
+    ensures { λ a. ⌜ ((s : State) (ram rom : List ℕ) → Does (λ t m. done (registerAs read size (Register r)) t m rom)
+        (bankedAtWith s (now (regs .entry)) bank (now (counter .entry)) (now (flags .entry))) ram
+        a (bankedAtWith s (now (regs .exit)) bank (now (counter .exit)) (now (flags .exit))) ram) ⌝ }
+{
+    match read {
+        OfRegister::Number(v, n) => {
+            state::write(regs, bank, size, r, v);
+            on(Answer::Done, counter, n)
+        }
+        OfRegister::From(from, n) => {
+            load(from, r, size, bank, regs);
+            on(Answer::Done, counter, n)
+        }
+        OfRegister::Load(to, n) => {
+            load(r, to, size, bank, regs);
+            on(Answer::Done, counter, n)
+        }
+        OfRegister::Compute(op, first, n) => {
+            operate(op, first, size, r, bank, flags, regs);
+            on(Answer::Done, counter, n)
+        }
+        OfRegister::With(op, v, n) => {
+            with(op, v, size, r, bank, flags, regs);
+            on(Answer::Done, counter, n)
+        }
+        OfRegister::Count(up, k, n) => {
+            count(up, k, size, r, bank, flags, regs);
+            on(Answer::Done, counter, n)
+        }
+        OfRegister::Shifted(kind, k, n) => {
+            shift(kind, k, size, r, bank, flags, regs);
+            on(Answer::Done, counter, n)
+        }
+        OfRegister::Extend(signed, n) => {
+            extend(signed, size, r, bank, regs);
+            on(Answer::Done, counter, n)
+        }
+        OfRegister::Short => Answer::Refused(Why::NoCode),
+        OfRegister::Unlisted => Answer::Refused(Why::Unlisted),
+    }
+}
+
+// What the byte after a memory form says, whose operand is at an address; the instruction stands at the counter.
+fn of_memory(
+    read: OfMemory,
+    at: u32,
+    bank: Bank,
+    flags: &mut u8,
+    regs: &mut [u32; 20],
+    counter: &mut u32,
+    ram: &mut [u8],
+    rom: &[u8],
+    more: &mut u32,
+) -> Answer
+    requires { ⌜ ((m : MemoryForm) × (decodeOf (codeAt (now ram) (now rom) (now counter)) ≡ memoryAs read m) × (at ≡ addressIn (now regs) bank m)) ⌝ }
+    ensures { λ a. ⌜ Fewer a (now (more .entry)) (now (more .exit)) ⌝ }
+    ensures { λ a. ⌜ ((s : State) → Does (λ t m. timesOf (suc (now (more .entry) - now (more .exit))) t m (now (rom .entry)))
+        (bankedAtWith s (now (regs .entry)) bank (now (counter .entry)) (now (flags .entry))) (now (ram .entry))
+        a (bankedAtWith s (now (regs .exit)) bank (now (counter .exit)) (now (flags .exit))) (now (ram .exit))) ⌝ }
+{
+    match read {
+        OfMemory::Load(r, size, n) => {
+            let a = form::load(r, at, size, bank, regs, &*ram, rom);
+            on(a, counter, n)
+        }
+        OfMemory::From(r, size, n) => {
+            let a = form::store(r, at, size, bank, &*regs, ram, rom);
+            on(a, counter, n)
+        }
+        OfMemory::Compute(op, r, size, n) => {
+            let a = form::first(op, r, at, size, bank, flags, regs, &*ram, rom);
+            on(a, counter, n)
+        }
+        OfMemory::ComputeInto(op, r, size, n) => {
+            let a = form::second(op, r, at, size, bank, flags, &*regs, ram, rom);
+            on(a, counter, n)
+        }
+        OfMemory::Blocks(f, n) => {
+            let here = *counter;
+            past(&mut *counter, n);
+            let a = block(f, here, bank, flags, regs, &mut *counter, ram, rom, more);
+            back(a, here, counter)
+        }
+        OfMemory::Short => Answer::Refused(Why::NoCode),
+        OfMemory::Unlisted => Answer::Refused(Why::Unlisted),
     }
 }
 
 // What stands at the counter, done or refused, whatever the state is: the checks before it are the caller's. A form that goes on
-// may use some of the `more` steps that the caller has left. The state's parts lie apart and are changed where they lie. Register
-// forms and short jumps are done as they are read: a firmware has many, and this is quickest.
+// may use some of the `more` steps that the caller has left. The state's parts lie apart and are changed where they lie. Each of
+// the readers has a work of its own after it: where all meet in one instruction first, it was measured to be slower.
 fn once(
     regs: &mut [u32; 20],
     counter: &mut u32,
@@ -182,13 +271,25 @@ fn once(
         return Answer::Refused(Why::NoCode);
     }
     let b = code[0];
+    if b < 0x80 {
+        let read = code::first::read(code, b);
+        return alone(read, regs, counter, bank, flags, spare, ram, rom);
+    }
+    let bank = current(&*bank);
     match b / 8 {
-        12 | 13 => short_jump(code, b % 16, *flags, counter),
-        25 | 27 | 29 => register(code, size_of(b / 16), b % 8, *bank, flags, regs, counter),
-        _ => match code::decode(code) {
-            Decoded::Whole(i) => execute(i, regs, counter, bank, flags, spare, ram, rom, more),
-            Decoded::Short => Answer::Refused(Why::NoCode),
-            Decoded::Unlisted => Answer::Refused(Why::Unlisted),
+        25 | 27 | 29 => {
+            let size = size_of(b / 16);
+            let read = code::registers::read(code, size);
+            of_register(read, size, b % 8, bank, flags, regs, counter)
+        }
+        _ => match code::memory::begin(code, b) {
+            Begun::Form(base, v, n) => {
+                let at = address(bank, &*regs, base, v);
+                let read = code::memory::after(code, b, n);
+                of_memory(read, at, bank, flags, regs, counter, ram, rom, more)
+            }
+            Begun::Short => Answer::Refused(Why::NoCode),
+            Begun::Unlisted => Answer::Refused(Why::Unlisted),
         },
     }
 }
@@ -234,10 +335,10 @@ pub fn many(s: State, ram: &mut [u8], rom: &[u8], steps: u32) -> Ran
             &mut left,
         );
         if let Answer::Refused(w) = a {
-            let t = state::whole(s, regs, counter, bank, flags, spare);
+            let t = state::whole(s, regs, counter, current(&bank), flags, spare);
             return stop(t, steps - 1 - left, Answer::Refused(w));
         }
     }
-    let t = state::whole(s, regs, counter, bank, flags, spare);
+    let t = state::whole(s, regs, counter, current(&bank), flags, spare);
     stop(t, steps, Answer::Done)
 }

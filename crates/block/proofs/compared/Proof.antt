@@ -11,11 +11,8 @@ use borrow.Author.Needs.{needs}
 use Rattle.block.proofs.compared.Statement.{statement}
 use Rattle.block.proofs.compared.Tie as tie
 
-accumulator-requires : tie.Need-accumulator-requires
-accumulator-requires c κs = search needs
-
-sub-requires : tie.Need-sub-requires
-sub-requires c κs = search needs
+difference-requires : tie.Need-difference-requires
+difference-requires c κs = search needs
 
 moved-requires : tie.Need-moved-requires
 moved-requires c κs = search needs
@@ -38,7 +35,7 @@ pack-requires c κs = search needs
 returns : tie.Need-returns
 unfolding compared flagged withFlags withBothFlags
 returns c rest =
-    let a = c .before .before .before .before .before .before .before .before .before .before .before .before .before .before .args in
+    let a = c .before .before .before .before .before .before .before .before .before .before .before .before .before .args in
     let f = a .flags .now in
     let s = bankedWith rest (a .regs .now) (a .bank) f in
     let e = c .before .before .before .before .before .before .counted .ensures s ∙ ap counted (c .before .before .before .before .before .before .before .before .moved .ensures s) in
@@ -47,8 +44,7 @@ returns c rest =
       c .before .compare-flags .ensures,
       c .before .before .more .ensures,
       c .before .before .before .before .unpack .ensures,
-      c .before .before .before .before .before .before .before .before .before .before .before .sub .ensures,
-      c .before .before .before .before .before .before .before .before .before .before .before .before .accumulator .ensures,
+      c .before .before .before .before .before .before .before .before .before .before .before .difference .ensures,
     )
     (ap (λ (t : State). withFlags t (byteOf (comparedOf (flagsOf f) (differenceOf (bitsOf (a .f .size)) (accumulator s (a .f .size)) (a .v) false .flags) (moreIn t)))) e)
 
@@ -56,8 +52,7 @@ pub compared-spec : {M : Type 1} → statement M
 compared-spec =
     tie.close
     (tie.spec
-    accumulator-requires
-    sub-requires
+    difference-requires
     moved-requires
     counted-requires
     unpack-requires

@@ -23,15 +23,15 @@ displace-requires c κs = search needs
 
 returns : tie.Need-returns
 unfolding jumpOf withCounter
-returns c rest =
-    let a = c .before .before .before .before .args in
-    let t : holdsOf (flagsOf (a .flags)) (a .cc) ≡ true = sym (rw (c .before .before .before .unpack .ensures) at (c .before .before .holds .ensures)) ∙ c .before .if1 .taken in
+returns c rest ram =
+    let a = c .before .before .before .before .before .args in
+    let t : holdsOf (flagsOf (a .flags)) (a .cc) ≡ true = sym (rw (c .before .before .before .before .unpack .ensures) at (c .before .before .before .holds .ensures)) ∙ c .before .before .if1 .taken in
     let k = bitsOf (a .size) in
-    rw (c .displace .ensures, t, mod-mod-pow (a .counter + a .d + cond (negative k (a .d)) (2 ^ 24 - 2 ^ k) 0) 0 24) refl
+    rw (c .displace .ensures, t, mod-mod-pow (a .counter .now + a .d + cond (negative k (a .d)) (2 ^ 24 - 2 ^ k) 0) 0 24) refl
 
 returns-2 : tie.Need-returns-2
 unfolding jumpOf
-returns-2 c rest =
+returns-2 c rest ram =
     let a = c .before .before .before .args in
     let t : holdsOf (flagsOf (a .flags)) (a .cc) ≡ false = sym (rw (c .before .before .unpack .ensures) at (c .before .holds .ensures)) ∙ c .if1 .left in
     rw t refl

@@ -1,5 +1,5 @@
 use mathlib.Core.List.{[], _∷_}
-use Rattle.saved.specs.Sr.{srOf}
+use Rattle.state.specs.Sr.{srOf}
 use Rattle.line.specs.Text.{hexOf}
 use Rattle.line.proofs.Laws.{field, more}
 use borrow.Author.Needs.{needs}

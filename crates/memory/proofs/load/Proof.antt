@@ -1,118 +1,50 @@
--- `memory::load` meets its contract: by the arms of the place.
-use Prim.Native.Nat.{_≤_}
-use mathlib.Core.Path.{_≡_, sym, ap, _∙_}
-use native.Mathlib.Omega.{arith}
-use lib.ListN.{length, drop}
-use Rattle.memory.specs.Place.{placeOf}
-use Rattle.memory.specs.declared.Place.the-variants.{Ram, Rom}
-use Rattle.memory.specs.declared.Loaded.the-variants.{Value}
-use Rattle.little.specs.Bytes.{valueOf}
-use Rattle.memory.proofs.Laws.{ram-fits, rom-fits, bytes-le, part-four, load-in}
+-- `memory::load` meets its contract: by the arms of the size.
+use mathlib.Core.Path.{refl, _∙_}
+use Rattle.memory.specs.Access.{loadOf}
 use borrow.Author.Needs.{needs}
 use Rattle.memory.proofs.load.Statement.{statement}
 use Rattle.memory.proofs.load.Tie as tie
 
-bytes-requires : tie.Need-bytes-requires
-bytes-requires c κs = search needs
-
-find-requires : tie.Need-find-requires
-find-requires c κs = search needs
-
-enum-known-o : tie.Need-enum-known-o
-enum-known-o c = search needs
-
-is-ram : (c : tie.After-o) →
-    let b = c .before .before .before in
-    let a = b .before .before .before .args in
-    placeOf (length (a .ram .now)) (length (a .rom .now)) (a .address) (b .bytes .result) ≡ Ram (c .o .given .0 .0)
-is-ram c = sym (c .before .before .find .ensures) ∙ c .o .given .1
-
-is-rom : (c : tie.After-o2) →
-    let b = c .before .before .before in
-    let a = b .before .before .before .args in
-    placeOf (length (a .ram .now)) (length (a .rom .now)) (a .address) (b .bytes .result) ≡ Rom (c .o2 .given .0 .0)
-is-rom c = sym (c .before .before .find .ensures) ∙ c .o2 .given .1
-
-size : (c : tie.After-bytes) → c .bytes .result ≤ 4
-size c = omega (arith, bytes-le (c .before .before .before .args .size))
-
-add-e : tie.Need-add-e
-add-e c = omega (arith, ram-fits _ _ _ _ _ (is-ram (c .before)) .1)
-
-sub-read : tie.Need-sub-read
-sub-read c = search needs
-
-part-read-start : tie.Need-part-read-start
-part-read-start c = search needs
-
-part-read-end : tie.Need-part-read-end
-part-read-end c = ram-fits _ _ _ _ _ (is-ram (c .before)) .1
-
-read-requires : tie.Need-read-requires
-read-requires c κs = search needs
-
-enum-known-o-2 : tie.Need-enum-known-o-2
-enum-known-o-2 c = search needs
-
-add-e-2 : tie.Need-add-e-2
-add-e-2 c = omega (arith, rom-fits _ _ _ _ _ (is-rom (c .before)) .1)
-
-sub-read-2 : tie.Need-sub-read-2
-sub-read-2 c = search needs
-
-part-read-start-2 : tie.Need-part-read-start-2
-part-read-start-2 c = search needs
-
-part-read-end-2 : tie.Need-part-read-end-2
-part-read-end-2 c = rom-fits _ _ _ _ _ (is-rom (c .before)) .1
-
-read-requires-2 : tie.Need-read-requires-2
-read-requires-2 c κs = search needs
-
 enum-told : tie.Need-enum-told
 enum-told c = search needs
 
+load-bytes-requires : tie.Need-load-bytes-requires
+load-bytes-requires c κs = search needs
+
+enum-told-2 : tie.Need-enum-told-2
+enum-told-2 c = search needs
+
+load-bytes-requires-2 : tie.Need-load-bytes-requires-2
+load-bytes-requires-2 c κs = search needs
+
+enum-told-3 : tie.Need-enum-told-3
+enum-told-3 c = search needs
+
+load-bytes-requires-3 : tie.Need-load-bytes-requires-3
+load-bytes-requires-3 c κs = search needs
+
 returns : tie.Need-returns
-returns c =
-    let k = c .before .before .before in
-    let b = k .before .before .before in
-    let a = b .before .before .before .args in
-    ap Value (c .read .ensures ∙ ap valueOf (part-four (k .o .given .0 .0) (b .bytes .result) (drop (k .o .given .0 .0) (a .ram .now)) (size b)))
-    ∙ sym (load-in (a .ram .now) (a .rom .now) (a .address) (a .size) (b .bytes .result) (b .bytes .ensures) (is-ram k))
+unfolding loadOf
+returns c = c .load-bytes .ensures ∙ rw (c .before .enum-told .given .1) refl
 
 returns-2 : tie.Need-returns-2
-returns-2 c =
-    let k = c .before .before .before in
-    let b = k .before .before .before in
-    let a = b .before .before .before .args in
-    ap Value (c .read2 .ensures ∙ ap valueOf (part-four (k .o2 .given .0 .0) (b .bytes .result) (drop (k .o2 .given .0 .0) (a .rom .now)) (size b)))
-    ∙ sym (load-in (a .ram .now) (a .rom .now) (a .address) (a .size) (b .bytes .result) (b .bytes .ensures) (is-rom k))
+unfolding loadOf
+returns-2 c = c .load-bytes2 .ensures ∙ rw (c .before .enum-told2 .given .1) refl
 
 returns-3 : tie.Need-returns-3
-returns-3 c =
-    let b = c .before .before .before in
-    let a = b .before .before .before .args in
-    sym (load-in (a .ram .now) (a .rom .now) (a .address) (a .size) (b .bytes .result) (b .bytes .ensures) (sym (c .before .before .find .ensures) ∙ c .enum-told .given .1))
+unfolding loadOf
+returns-3 c = c .load-bytes3 .ensures ∙ rw (c .before .enum-told3 .given .1) refl
 
 pub load-spec : {M : Type 1} → statement M
 load-spec =
     tie.close
     (tie.spec
-    bytes-requires
-    find-requires
-    enum-known-o
-    add-e
-    sub-read
-    part-read-start
-    part-read-end
-    read-requires
-    enum-known-o-2
-    add-e-2
-    sub-read-2
-    part-read-start-2
-    part-read-end-2
-    read-requires-2
     enum-told
+    load-bytes-requires
+    enum-told-2
+    load-bytes-requires-2
+    enum-told-3
+    load-bytes-requires-3
     returns
     returns-2
     returns-3)

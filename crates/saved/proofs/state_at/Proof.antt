@@ -24,19 +24,20 @@ sr-at-requires c κs = search needs
 shared-slice-read-spare : tie.Need-shared-slice-read-spare
 shared-slice-read-spare c = search needs
 
-cast-t11 : tie.Need-cast-t11
-cast-t11 c = search needs
+bank-in-requires : tie.Need-bank-in-requires
+bank-in-requires c κs = search needs
 
-cast-t17 : tie.Need-cast-t17
-cast-t17 c = search needs
+level-in-requires : tie.Need-level-in-requires
+level-in-requires c κs = search needs
 
-cast-t20 : tie.Need-cast-t20
-cast-t20 c = search needs
+flags-in-requires : tie.Need-flags-in-requires
+flags-in-requires c κs = search needs
 
 returns : tie.Need-returns
 returns c =
-    let l = c .before .before .before .before .before .before .args .bytes .now in
-    state-made l (c .before .before .before .before .longs .ensures) (c .before .before .read .ensures) (c .before .sr-at .ensures)
+    let l = c .before .before .before .before .before .before .before .before .before .args .bytes .now in
+    rw (c .before .before .bank-in .ensures, c .before .level-in .ensures, c .flags-in .ensures)
+    (state-made l (c .before .before .before .before .before .before .before .longs .ensures) (c .before .before .before .before .before .read .ensures) (c .before .before .before .before .sr-at .ensures))
 
 pub state-at-spec : {M : Type 1} → statement M
 state-at-spec =
@@ -49,7 +50,7 @@ state-at-spec =
     read-requires
     sr-at-requires
     shared-slice-read-spare
-    cast-t11
-    cast-t17
-    cast-t20
+    bank-in-requires
+    level-in-requires
+    flags-in-requires
     returns)

@@ -9,7 +9,7 @@ use Rattle.state.proofs.write.Statement.{statement}
 use Rattle.state.proofs.write.Tie as tie
 
 known : (c : tie.After-slot-of) → c .slot-of .result .index < 20
-known c = let a = c .before .args in slot-held (a .bank) (a .size) (a .code) (c .slot-of .result) (c .slot-of .ensures)
+known c = let a = c .before .args in slot-held (a .bank .0) (a .size) (a .code) (c .slot-of .result) (c .slot-of .ensures)
 
 slot-of-requires : tie.Need-slot-of-requires
 slot-of-requires c κs = search needs

@@ -1,8 +1,9 @@
-use borrow.Author.Needs.{needs}
+use mathlib.Core.Path.{refl}
+use native.Mathlib.Omega.{arith}
 use Rattle.code.specs.Listed.{bankNumberRows}
 use Rattle.code.specs.Said.{judge}
-use native.Mathlib.Omega.{arith}
 use Rattle.code.proofs.Judge.{run-there, run-unlisted, next-short}
+use borrow.Author.Needs.{needs}
 use Rattle.code.proofs.first.bank_number.Statement.{statement}
 use Rattle.code.proofs.first.bank_number.Tie as tie
 
@@ -16,16 +17,12 @@ returns-2 : tie.Need-returns-2
 unfolding bankNumberRows
 returns-2 c = run-unlisted _ _ _ _ (omega arith) (omega arith)
 
-cast-t9 : tie.Need-cast-t9
-cast-t9 c = search needs
-
-whole-requires : tie.Need-whole-requires
-whole-requires c κs = search needs
+cast-bank : tie.Need-cast-bank
+cast-bank c = search needs
 
 returns-3 : tie.Need-returns-3
 unfolding bankNumberRows judge
-returns-3 c = run-there _ _ (c .before .before .before .before .before .args .code .now) 1 (omega arith) _ (omega arith) (c .whole .ensures)
+returns-3 c = run-there _ _ (c .before .before .before .args .code .now) 1 (omega arith) _ (omega arith) refl
 
 pub bank-number-spec : {M : Type 1} → statement M
-bank-number-spec =
-    tie.close (tie.spec returns shared-slice-read-n returns-2 cast-t9 whole-requires returns-3)
+bank-number-spec = tie.close (tie.spec returns shared-slice-read-n returns-2 cast-bank returns-3)

@@ -1,51 +1,28 @@
-use borrow.Author.Needs.{needs}
+use mathlib.Core.Path.{refl}
 use Rattle.code.specs.Said.{judge}
 use Rattle.code.proofs.FirstRows.{first, no-00}
 use Rattle.code.proofs.first.case_00.Statement.{statement}
 use Rattle.code.proofs.first.case_00.Tie as tie
 
-plain-requires : tie.Need-plain-requires
-plain-requires c κs = search needs
-
-plain-requires-2 : tie.Need-plain-requires-2
-plain-requires-2 c κs = search needs
-
-plain-requires-3 : tie.Need-plain-requires-3
-plain-requires-3 c κs = search needs
-
-plain-requires-4 : tie.Need-plain-requires-4
-plain-requires-4 c κs = search needs
-
 returns : tie.Need-returns
-unfolding first
-returns c = λ s. rw (c .before .match .keys1) (c .plain .ensures s)
+unfolding first judge
+returns c = λ s. rw (c .match .keys1) refl
 
 returns-2 : tie.Need-returns-2
-unfolding first
-returns-2 c = λ s. rw (c .before .match .keys2) (c .plain2 .ensures s)
+unfolding first judge
+returns-2 c = λ s. rw (c .match .keys2) refl
 
 returns-3 : tie.Need-returns-3
-unfolding first
-returns-3 c = λ s. rw (c .before .match .keys3) (c .plain3 .ensures s)
+unfolding first judge
+returns-3 c = λ s. rw (c .match .keys3) refl
 
 returns-4 : tie.Need-returns-4
-unfolding first
-returns-4 c = λ s. rw (c .before .match .keys4) (c .plain4 .ensures s)
+unfolding first judge
+returns-4 c = λ s. rw (c .match .keys4) refl
 
 returns-5 : tie.Need-returns-5
 unfolding judge
-returns-5 c = λ s. rw (no-00 _ (c .before .pre) (c .match .rest))
+returns-5 c = λ s. rw (no-00 _ (c .before .pre) (c .match .rest)) refl
 
 pub case-00-spec : {M : Type 1} → statement M
-case-00-spec =
-    tie.close
-    (tie.spec
-    plain-requires
-    plain-requires-2
-    plain-requires-3
-    plain-requires-4
-    returns
-    returns-2
-    returns-3
-    returns-4
-    returns-5)
+case-00-spec = tie.close (tie.spec returns returns-2 returns-3 returns-4 returns-5)

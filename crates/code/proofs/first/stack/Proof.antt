@@ -1,4 +1,3 @@
-use borrow.Author.Needs.{needs}
 use borrow.Author.Tests.{lt-ltb, le-ltb}
 use Rattle.code.specs.Said.{judge}
 use Rattle.code.proofs.first.stack.Statement.{statement}
@@ -8,12 +7,9 @@ returns : tie.Need-returns
 unfolding judge
 returns c = λ s. simp (le-ltb _ _ (c .if1 .taken))
 
-whole-requires : tie.Need-whole-requires
-whole-requires c κs = search needs
-
 returns-2 : tie.Need-returns-2
 unfolding judge
-returns-2 c = λ s. simp (lt-ltb _ _ (c .before .if1 .left)) (c .whole .ensures)
+returns-2 c = λ s. simp (lt-ltb _ _ (c .if1 .left))
 
 pub stack-spec : {M : Type 1} → statement M
-stack-spec = tie.close (tie.spec returns whole-requires returns-2)
+stack-spec = tie.close (tie.spec returns returns-2)

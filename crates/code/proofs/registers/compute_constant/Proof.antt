@@ -1,12 +1,7 @@
-use borrow.Author.Needs.{needs}
-use Rattle.code.specs.declared.Op.the-variants.{ComputeConstant}
-use Rattle.code.specs.Registers.{arithOf}
-use Prim.Native.Nat.{_%_}
-use mathlib.Core.Path.{_∙_}
-use Rattle.code.specs.declared.Operand.the-variants.{Register}
-use Rattle.code.proofs.Judge.{with-number, bytes-bounds}
-use Rattle.code.proofs.RegisterRows.{compute-constant}
 use native.Mathlib.Omega.{arith}
+use Rattle.code.proofs.Judge.{bytes-bounds, number-whole, number-short}
+use Rattle.code.proofs.RegisterRows.{compute-constant}
+use borrow.Author.Needs.{needs}
 use Rattle.code.proofs.registers.compute_constant.Statement.{statement}
 use Rattle.code.proofs.registers.compute_constant.Tie as tie
 
@@ -16,29 +11,25 @@ bytes-requires c κs = search needs
 number-requires : tie.Need-number-requires
 number-requires c κs = bytes-bounds (c .before .before .args .size) _ (c .bytes .ensures)
 
+enum-known-v : tie.Need-enum-known-v
+enum-known-v c = search needs
+
 arith-of-requires : tie.Need-arith-of-requires
 arith-of-requires c κs = search needs
 
-value-requires : tie.Need-value-requires
-value-requires c κs = search needs
+add-t10 : tie.Need-add-t10
+add-t10 c = omega (arith, bytes-bounds (c .before .before .before .before .before .before .before .args .size) _ (c .before .before .before .before .before .bytes .ensures))
 
-add-when-found : tie.Need-add-when-found
-add-when-found c = omega (arith, bytes-bounds (c .before .before .before .before .before .args .size) _ (c .before .before .before .bytes .ensures))
-
-when-found-requires : tie.Need-when-found-requires
-when-found-requires c κs = search needs
+enum-told : tie.Need-enum-told
+enum-told c = search needs
 
 returns : tie.Need-returns
-returns c = rw (compute-constant _ _ _ (c .before .before .before .before .before .before .pre .1)) (with-number (λ v. ComputeConstant (arithOf (c .before .before .before .before .before .before .args .c % 8)) v) _ (λ v. Register (c .before .before .before .before .before .before .args .r)) _ _ _ _ _ _ _ (c .before .before .before .number .ensures ∙ rw (c .before .before .before .before .bytes .ensures)) (c .before .value .ensures) (rw (c .before .before .before .before .bytes .ensures)) (rw (c .before .before .arith-of .ensures) at (c .when-found .ensures)))
+returns c = λ o. rw (compute-constant _ _ _ (c .before .before .before .before .before .before .before .pre .1), ← c .before .before .before .before .before .bytes .ensures) (number-whole _ _ _ _ _ _ _ _ _ (c .before .before .before .before .number .ensures) (c .before .before .v .given .1) (rw (c .arith-of .ensures)))
+
+returns-2 : tie.Need-returns-2
+returns-2 c = λ o. rw (compute-constant _ _ _ (c .before .before .before .before .before .pre .1), ← c .before .before .before .bytes .ensures) (number-short _ _ _ _ _ (c .before .before .number .ensures) (c .enum-told .given .1))
 
 pub compute-constant-spec : {M : Type 1} → statement M
 compute-constant-spec =
-    tie.close
-    (tie.spec
-    bytes-requires
-    number-requires
-    arith-of-requires
-    value-requires
-    add-when-found
-    when-found-requires
-    returns)
+    tie.close (tie.spec bytes-requires number-requires enum-known-v arith-of-requires add-t10 enum-told returns
+    returns-2)

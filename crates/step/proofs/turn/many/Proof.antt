@@ -40,46 +40,49 @@ once-requires c κs = search needs
 enum-known-a : tie.Need-enum-known-a Inv-loop μ-loop
 enum-known-a c = search needs
 
+current-requires : tie.Need-current-requires Inv-loop μ-loop
+current-requires c κs = search needs
+
 whole-requires : tie.Need-whole-requires Inv-loop μ-loop
 whole-requires c κs = search needs
 
 -- a refused call leaves the steps that it was given
-left-is : (c : tie.After-whole Inv-loop μ-loop) → c .before .before .before .before .before .before .once .last .1 .1 .1 .1 .1 .1 .1 .0 ≡ c .before .before .before .before .before .before .before .before .before .before .before .before .before .before .before .loop .left - 1
+left-is : (c : tie.After-whole Inv-loop μ-loop) → c .before .before .before .before .before .before .before .before .once .last .1 .1 .1 .1 .1 .1 .1 .0 ≡ c .before .before .before .before .before .before .before .before .before .before .before .before .before .before .before .before .before .loop .left - 1
 unfolding here next
 left-is c =
-    let l = c .before .before .before .before .before .before .before .before .before .before .before .before .before .before .before .loop in
-    let o = c .before .before .before .before .before .before .once in
-    turn-same (here (c .before .before .before .before .before .before .before .before .before .before .before .before .before .before .before)) (l .ram) (c .before .before .before .before .before .before .before .before .before .before .before .before .before .before .before .before .before .before .before .before .args .rom .now) (o .result) (next (c .before .before .before .before .before .before)) (o .last .1 .1 .1 .1 .1 .0) (l .left - 1) (o .last .1 .1 .1 .1 .1 .1 .1 .0) (o .ensures .0) (o .ensures .1 (c .before .before .before .before .before .before .before .before .before .before .before .before .before .before .before .before .before .before .before .before .args .s)) (c .before .before .a .given .0 .0) (c .before .before .a .given .1)
+    let l = c .before .before .before .before .before .before .before .before .before .before .before .before .before .before .before .before .before .loop in
+    let o = c .before .before .before .before .before .before .before .before .once in
+    turn-same (here (c .before .before .before .before .before .before .before .before .before .before .before .before .before .before .before .before .before)) (l .ram) (c .before .before .before .before .before .before .before .before .before .before .before .before .before .before .before .before .before .before .before .before .before .before .args .rom .now) (o .result) (next (c .before .before .before .before .before .before .before .before)) (o .last .1 .1 .1 .1 .1 .0) (l .left - 1) (o .last .1 .1 .1 .1 .1 .1 .1 .0) (o .ensures .0) (o .ensures .1 (c .before .before .before .before .before .before .before .before .before .before .before .before .before .before .before .before .before .before .before .before .before .before .args .s)) (c .before .before .before .before .a .given .0 .0) (c .before .before .before .before .a .given .1)
 
 sub-stop : tie.Need-sub-stop Inv-loop μ-loop
-sub-stop c = let h = c .before .before .before .before .before .before .before .before .before .before .before .before .before .before .before .loop .inv .0 in let k = c .before .before .before .before .before .before .before .before .before .before .before .before .before .before .loop-test .taken in omega (arith, h, k)
+sub-stop c = let h = c .before .before .before .before .before .before .before .before .before .before .before .before .before .before .before .before .before .loop .inv .0 in let k = c .before .before .before .before .before .before .before .before .before .before .before .before .before .before .before .before .loop-test .taken in omega (arith, h, k)
 
 sub-stop-2 : tie.Need-sub-stop-2 Inv-loop μ-loop
-sub-stop-2 c = let h = c .before .before .before .before .before .before .before .before .before .before .before .before .before .before .before .loop .inv .0 in let k = c .before .before .before .before .before .before .before .before .before .before .before .before .before .before .loop-test .taken in let e = left-is c in omega (arith, h, k, e)
+sub-stop-2 c = let h = c .before .before .before .before .before .before .before .before .before .before .before .before .before .before .before .before .before .loop .inv .0 in let k = c .before .before .before .before .before .before .before .before .before .before .before .before .before .before .before .before .loop-test .taken in let e = left-is c in omega (arith, h, k, e)
 
 stop-requires : tie.Need-stop-requires Inv-loop μ-loop
 stop-requires c κs = search needs
 
 same-length : tie.Need-same-length Inv-loop μ-loop
-same-length c = c .before .before .before .before .before .before .before .once .kept .1 .1 .1 .1 .1 .0 ∙ c .before .before .before .before .before .before .before .before .before .before .before .before .before .before .before .before .loop .inv .1
+same-length c = c .before .before .before .before .before .before .before .before .before .once .kept .1 .1 .1 .1 .1 .0 ∙ c .before .before .before .before .before .before .before .before .before .before .before .before .before .before .before .before .before .before .loop .inv .1
 
 returns : tie.Need-returns Inv-loop μ-loop
 unfolding here next
 returns c =
-    let a = c .before .before .before .before .before .before .before .before .before .before .before .before .before .before .before .before .before .before .before .before .before .args in
-    let l = c .before .before .before .before .before .before .before .before .before .before .before .before .before .before .before .before .loop in
-    let o = c .before .before .before .before .before .before .before .once in
+    let a = c .before .before .before .before .before .before .before .before .before .before .before .before .before .before .before .before .before .before .before .before .before .before .before .args in
+    let l = c .before .before .before .before .before .before .before .before .before .before .before .before .before .before .before .before .before .before .loop in
+    let o = c .before .before .before .before .before .before .before .before .before .once in
     let h = l .inv .0 in
-    let t = c .before .before .before .before .before .before .before .before .before .before .before .before .before .before .before .loop-test .taken in
+    let t = c .before .before .before .before .before .before .before .before .before .before .before .before .before .before .before .before .before .loop-test .taken in
     let e = left-is (c .before) in
     let m = o .last .1 .1 .1 .1 .1 .0 in
-    let w = c .before .before .before .a .given .0 .0 in
+    let w = c .before .before .before .before .before .a .given .0 .0 in
     let d : a .steps - 1 - o .last .1 .1 .1 .1 .1 .1 .1 .0 ≡ a .steps - l .left = omega (arith, h, t, e) in
     let k : suc (l .left - 1) ≡ l .left = omega (arith, t) in
-    rw (c .stop .ensures, c .before .whole .ensures)
-    (ap (λ (n : ℕ). ends n (next (c .before .before .before .before .before .before .before)) m (Refused w)) d
-    ∙ turn-off (here (c .before .before .before .before .before .before .before .before .before .before .before .before .before .before .before .before)) (l .ram) (a .rom .now) (o .result) (next (c .before .before .before .before .before .before .before)) m (l .left - 1) (o .last .1 .1 .1 .1 .1 .1 .1 .0) (o .ensures .0) (o .ensures .1 (a .s)) (a .steps - l .left) w (c .before .before .before .a .given .1)
-    ∙ ap (λ (n : ℕ). manyOf n (a .steps - l .left) (here (c .before .before .before .before .before .before .before .before .before .before .before .before .before .before .before .before)) (l .ram) (a .rom .now)) k
+    rw (c .stop .ensures, c .before .whole .ensures, c .before .before .current .ensures)
+    (ap (λ (n : ℕ). ends n (next (c .before .before .before .before .before .before .before .before .before)) m (Refused w)) d
+    ∙ turn-off (here (c .before .before .before .before .before .before .before .before .before .before .before .before .before .before .before .before .before .before)) (l .ram) (a .rom .now) (o .result) (next (c .before .before .before .before .before .before .before .before .before)) m (l .left - 1) (o .last .1 .1 .1 .1 .1 .1 .1 .0) (o .ensures .0) (o .ensures .1 (a .s)) (a .steps - l .left) w (c .before .before .before .before .before .a .given .1)
+    ∙ ap (λ (n : ℕ). manyOf n (a .steps - l .left) (here (c .before .before .before .before .before .before .before .before .before .before .before .before .before .before .before .before .before .before)) (l .ram) (a .rom .now)) k
     ∙ l .inv .2)
 
 enum-told : tie.Need-enum-told Inv-loop μ-loop
@@ -117,6 +120,9 @@ loop-again c =
           ∙ l .inv .2,
     )
 
+current-requires-2 : tie.Need-current-requires-2 Inv-loop μ-loop
+current-requires-2 c κs = search needs
+
 whole-requires-2 : tie.Need-whole-requires-2 Inv-loop μ-loop
 whole-requires-2 c κs = search needs
 
@@ -129,10 +135,10 @@ same-length-2 c = search needs
 returns-2 : tie.Need-returns-2 Inv-loop μ-loop
 unfolding here
 returns-2 c =
-    let a = c .before .before .before .before .before .before .before .before .args in
-    let l = c .before .before .before .loop in
-    let t = c .before .before .loop-test .left in
-    rw (c .stop2 .ensures, c .before .whole2 .ensures) (turn-end (a .steps) (here (c .before .before .before)) (l .ram) (a .rom .now) (l .left) (omega (arith, t)) ∙ l .inv .2)
+    let a = c .before .before .before .before .before .before .before .before .before .before .args in
+    let l = c .before .before .before .before .before .loop in
+    let t = c .before .before .before .before .loop-test .left in
+    rw (c .stop2 .ensures, c .before .whole2 .ensures, c .before .before .current2 .ensures) (turn-end (a .steps) (here (c .before .before .before .before .before)) (l .ram) (a .rom .now) (l .left) (omega (arith, t)) ∙ l .inv .2)
 
 pub many-spec : {M : Type 1} → statement M
 many-spec =
@@ -144,6 +150,7 @@ many-spec =
     sub-left
     once-requires
     enum-known-a
+    current-requires
     whole-requires
     sub-stop
     sub-stop-2
@@ -153,6 +160,7 @@ many-spec =
     enum-told
     loop-less
     loop-again
+    current-requires-2
     whole-requires-2
     stop-requires-2
     same-length-2

@@ -1,0 +1,18 @@
+use native.Mathlib.Omega.{arith}
+use Rattle.little.specs.Width.{bitsOf}
+use Rattle.alu.proofs.Widths.{twice, bits-pos}
+use borrow.Author.Needs.{needs}
+use Rattle.alu.proofs.width.top.Statement.{statement}
+use Rattle.alu.proofs.width.top.Tie as tie
+
+modulus-requires : tie.Need-modulus-requires
+modulus-requires c κs = search needs
+
+cast-result : tie.Need-cast-result
+cast-result c = search needs
+
+returns : tie.Need-returns
+returns c = (omega (arith, twice (bitsOf (c .before .args .size)) (bits-pos (c .before .args .size))), search needs)
+
+pub top-spec : {M : Type 1} → statement M
+top-spec = tie.close (tie.spec modulus-requires cast-result returns)

@@ -1,0 +1,52 @@
+// INC and DEC.
+ghost use mathlib.Core.Path.{_≡_};
+ghost use Rattle.little.specs.Width.{bitsOf};
+ghost use Rattle.alu.specs.Count.{countedOf, incOf, decOf};
+ghost use Rattle.alu.specs.Flag.{keepingC};
+use crate::Computed;
+use crate::Flags;
+use crate::sum::add;
+use crate::sum::sub;
+use little::Size;
+
+// The flags of a result, with a carry that is kept.
+fn keeping_c(old: Flags, f: Flags) -> Flags
+    ensures { λ r. ⌜ r ≡ keepingC old f ⌝ }
+{
+    Flags {
+        s: f.s,
+        z: f.z,
+        h: f.h,
+        v: f.v,
+        n: f.n,
+        c: old.c,
+    }
+}
+
+// What INC and DEC leave of the flags: of a byte all but C are new, of others none is.
+fn counted(old: Flags, size: Size, r: Computed) -> Computed
+    ensures { λ a. ⌜ a ≡ countedOf old (bitsOf size) r ⌝ }
+{
+    let f = r.flags;
+    let value = r.value;
+    match size {
+        Size::Byte => Computed {
+            value,
+            flags: keeping_c(old, f),
+        },
+        Size::Word => Computed { value, flags: old },
+        Size::Long => Computed { value, flags: old },
+    }
+}
+
+pub fn inc(old: Flags, size: Size, a: u32, n: u32) -> Computed
+    ensures { λ r. ⌜ r ≡ incOf old (bitsOf size) a n ⌝ }
+{
+    counted(old, size, add(size, a, n, false))
+}
+
+pub fn dec(old: Flags, size: Size, a: u32, n: u32) -> Computed
+    ensures { λ r. ⌜ r ≡ decOf old (bitsOf size) a n ⌝ }
+{
+    counted(old, size, sub(size, a, n, false))
+}

@@ -1,0 +1,34 @@
+use mathlib.Core.Path.{refl, sym, _∙_}
+use Rattle.state.specs.State.{flaggedAt, withFlags, withBothFlags}
+use Rattle.operand.specs.Operand.{valueIn}
+use Rattle.operand.specs.Flag.{flagged}
+use Rattle.compute.specs.Compute.{putsOf}
+use borrow.Author.Needs.{needs}
+use Rattle.compute.proofs.register.operate.Statement.{statement}
+use Rattle.compute.proofs.register.operate.Tie as tie
+
+read-requires : tie.Need-read-requires
+read-requires c κs = search needs
+
+read-requires-2 : tie.Need-read-requires-2
+read-requires-2 c κs = search needs
+
+operated-requires : tie.Need-operated-requires
+operated-requires c κs = search needs
+
+stores-requires : tie.Need-stores-requires
+stores-requires c κs = search needs
+
+write-requires : tie.Need-write-requires
+write-requires c κs = search needs
+
+returns : tie.Need-returns
+unfolding putsOf valueIn flagged withFlags withBothFlags
+returns c rest ram rom = rw (c .write .ensures (flaggedAt rest (rest .counter) (c .before .before .before .before .operated .result .flags)), sym (c .before .before .before .stores .ensures) ∙ c .before .before .if1 .taken, c .before .before .before .before .operated .ensures, c .before .before .before .before .before .before .before .before .read .ensures, c .before .before .before .before .before .before .read2 .ensures) refl
+
+returns-2 : tie.Need-returns-2
+unfolding putsOf valueIn flagged withFlags withBothFlags
+returns-2 c rest ram rom = rw (sym (c .before .stores .ensures) ∙ c .if1 .left, c .before .before .operated .ensures, c .before .before .before .before .before .before .read .ensures, c .before .before .before .before .read2 .ensures) refl
+
+pub operate-spec : {M : Type 1} → statement M
+operate-spec = tie.close (tie.spec read-requires read-requires-2 operated-requires stores-requires write-requires returns returns-2)

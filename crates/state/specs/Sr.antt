@@ -1,0 +1,27 @@
+-- The status register SR.
+use Prim.Native.Nat.{ℕ, _+_, _*_, _/_, _%_, _^_}
+use mathlib.Core.Bool.{Bool, _&&_}
+use lib.Dec.{eqb}
+use Rattle.state.specs.declared.Bank.{Bank}
+use Rattle.state.specs.declared.Level.{Level}
+use Rattle.state.specs.declared.State.{State}
+
+-- F below, the bank in bits 8 to 10, bit 11 one, the level in bits 12 to 14, bit 15 one
+abbrev pub srOf : State → ℕ
+srOf s = s .flags + 2 ^ 8 * s .bank .0 + 2 ^ 11 + 2 ^ 12 * s .level .0 + 2 ^ 15
+
+-- and back
+abbrev pub fIn : ℕ → ℕ
+fIn sr = sr % 2 ^ 8
+
+-- the three bits 8 to 10; bit 10 makes the bank 4 or more, which no valid state has
+abbrev pub bankIn : ℕ → Bank
+bankIn sr = record { 0 = sr / 2 ^ 8 % 2 ^ 3 }
+
+-- the three bits 12 to 14
+abbrev pub levelIn : ℕ → Level
+levelIn sr = record { 0 = sr / 2 ^ 12 % 2 ^ 3 }
+
+-- bits 11 and 15 are one
+abbrev pub onesIn : ℕ → Bool
+onesIn sr = eqb (sr / 2 ^ 11 % 2) 1 && eqb (sr / 2 ^ 15 % 2) 1
