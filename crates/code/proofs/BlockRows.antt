@@ -7,7 +7,7 @@ use mathlib.Core.List.{List, [], _∷_, _++_}
 use native.Mathlib.Omega.{arith}
 use lib.Dec.{leb, eqb}
 use types.Run.{OneOf}
-use borrow.Author.Tests.{eqb-true, eqb-false, ne-eqb, le-leb, lt-leb}
+use borrow.Author.Tests.{eq-eqb, eqb-false, eqb-true, le-leb, lt-leb, ne-eqb}
 use Rattle.little.specs.declared.Size.{Size}
 use Rattle.little.specs.declared.Size.the-variants.{Byte, Word, Long}
 use Rattle.code.specs.declared.Operand.{Operand}
@@ -120,13 +120,13 @@ abbrev own-rows : ℕ → List Row
 own-rows b = cond (eqb (b / 8) 16 || eqb (b / 8) 18 || eqb (b / 8) 20) (blockRows (size-begun b) (b % 8)) []
 
 module _ (o : Operand) (b : ℕ) where
-  pub begun-store : eqb (b / 8) 22 || eqb (b / 8) 23 || eqb (b / 8) 30 ≡ true → rowsBegun b o ≡ storeRows o
+  pub begun-store : b / 16 % 4 ≡ 3 → rowsBegun b o ≡ storeRows o
   unfolding rowsBegun
-  begun-store h = rw h
+  begun-store h = rw (eq-eqb (b / 16 % 4) 3 h)
 
-  begun-other : eqb (b / 8) 22 || eqb (b / 8) 23 || eqb (b / 8) 30 ≡ false → rowsBegun b o ≡ memoryRows (size-begun b) o ++ own-rows b
+  begun-other : (b / 16 % 4 ≡ 3 → ⊥) → rowsBegun b o ≡ memoryRows (size-begun b) o ++ own-rows b
   unfolding rowsBegun
-  begun-other h = rw h
+  begun-other h = rw (ne-eqb (b / 16 % 4) 3 h)
 
 rows-at-pointer : (o : Operand) (b : ℕ) → OneOf (16 ∷ 18 ∷ []) (b / 8) → rowsBegun b o ≡ memoryRows (size-begun b) o ++ blocks (size-begun b) (b % 8)
 unfolding rowsBegun sizeOf
@@ -163,6 +163,10 @@ no-more b c = go (eqb (c / 8) 2) refl
     go false e f = any (eqb-false (c / 8) 2 e) (eqb (b / 8) 16 || eqb (b / 8) 18 || eqb (b / 8) 20) (size-begun b) (b % 8)
 
 pub begun-memory :
-    (o : Operand) (b c : ℕ) → eqb (b / 8) 22 || eqb (b / 8) 23 || eqb (b / 8) 30 ≡ false → eqb (c / 8) 2 && (eqb (b / 8) 16 || eqb (b / 8) 18) ≡ false →
+    (o : Operand) (b c : ℕ) → (b / 16 % 4 ≡ 3 → ⊥) → eqb (c / 8) 2 && (eqb (b / 8) 16 || eqb (b / 8) 18) ≡ false →
     lookup (rowsBegun b o) c ≡ lookup (memoryRows (size-begun b) o) c
 begun-memory o b c h m = rw (begun-other o b h) (left-out _ _ c (no-more b c m))
+
+-- a byte that is no copy's or compare's
+pub begun-plain : (o : Operand) (b c : ℕ) → (b / 16 % 4 ≡ 3 → ⊥) → (c / 8 ≡ 2 → ⊥) → lookup (rowsBegun b o) c ≡ lookup (memoryRows (size-begun b) o) c
+begun-plain o b c h m = begun-memory o b c h (rw (ne-eqb (c / 8) 2 m))

@@ -141,12 +141,12 @@ aloneRows = bankRows ++ (flagRows ++ (constantRows ++ (stackRows ++ (jumpRows ++
 unfoldable pub memoryFirstRows : List Row
 memoryFirstRows = memoryFormRows ++ (memoryAtRows ++ storeFormRows)
 
--- the byte after the form that the first byte b begins: a store's, or any other's with the copies and compares after (R)
+-- the byte after the form that the first byte b begins: a store's after B and F, or any other's with the copies and compares after (R)
 unfoldable pub rowsBegun : ℕ → Operand → List Row
 rowsBegun b o =
     let k = b / 8 in
     let z = sizeOf (8 + b / 16 % 4) in
-    cond (eqb k 22 || eqb k 23 || eqb k 30) (storeRows o)
+    cond (eqb (b / 16 % 4) 3) (storeRows o)
     (memoryRows z o ++ cond (eqb k 16 || eqb k 18 || eqb k 20) (blockRows z (b % 8)) [])
 
 -- all bullets

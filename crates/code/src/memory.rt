@@ -56,23 +56,6 @@ fn block_case(size: Size, r: u8, c: u8, at: usize) -> OfMemory
     block(false, size, r, r, c, at)
 }
 
-// What the byte c says of memory, with `at` bytes read. It is no copy's or compare's.
-fn memory_case(at: usize, size: Size, c: u8) -> OfMemory
-    ensures { λ r. ⌜ ((m : MemoryForm) (s : List ℕ) → memoryAs r m ≡ judge (lookup (memoryRows size (Operand.Memory m)) c) s at) ⌝ }
-{
-    if 0x80 <= c {
-        let op = crate::registers::arith_of(c / 16 % 8);
-        if c / 8 % 2 == 1 {
-            return OfMemory::ComputeInto(op, c % 8, size, at);
-        }
-        return OfMemory::Compute(op, c % 8, size, at);
-    }
-    if c / 8 == 4 {
-        return OfMemory::Load(c % 8, size, at);
-    }
-    OfMemory::Unlisted
-}
-
 // What the byte c says of a store.
 fn store_case(at: usize, c: u8) -> OfMemory
     ensures { λ r. ⌜ ((m : MemoryForm) (s : List ℕ) → memoryAs r m ≡ judge (lookup (storeRows (Operand.Memory m)) c) s at) ⌝ }
@@ -124,13 +107,24 @@ pub fn after(code: &[u8], b: u8, at: usize) -> OfMemory
         return OfMemory::Short;
     }
     let c = code[at];
-    let k = b / 8;
-    if (k == 22) | (k == 23) | (k == 30) {
+    if b / 16 % 4 == 3 {
         return store_case(at + 1, c);
     }
     let size = size_of(b / 16);
+    let r = c % 8;
+    if 0x80 <= c {
+        let op = crate::registers::arith_of(c / 16 % 8);
+        if c / 8 % 2 == 1 {
+            return OfMemory::ComputeInto(op, r, size, at + 1);
+        }
+        return OfMemory::Compute(op, r, size, at + 1);
+    }
+    if c / 8 == 4 {
+        return OfMemory::Load(r, size, at + 1);
+    }
+    let k = b / 8;
     if (c / 8 == 2) & ((k == 16) | (k == 18)) {
         return block_case(size, b % 8, c, at + 1);
     }
-    memory_case(at + 1, size, c)
+    OfMemory::Unlisted
 }

@@ -3,13 +3,15 @@ use Prim.Native.Nat.{ℕ, _%_}
 use mathlib.Core.List.{List}
 use mathlib.Core.Bool.{Bool, true, false, cond}
 use lib.Dec.{eqb}
+use Rattle.answer.specs.declared.Answer.{Answer}
+use Rattle.answer.specs.declared.Answer.the-variants.{Done, Refused}
 use Rattle.little.specs.declared.Size.{Size}
 use Rattle.little.specs.Width.{bitsOf}
 use Rattle.alu.specs.declared.Computed.{Computed}
 use Rattle.alu.specs.declared.Arith.{Arith}
 use Rattle.alu.specs.declared.Arith.the-variants.{Add, Adc, Sub, Sbc, And, Xor, Or, Cp}
 use Rattle.alu.specs.Operation.{operated}
-use Rattle.alu.specs.Flag.{byteOf}
+use Rattle.alu.specs.declared.Flags.{Flags}
 use Rattle.alu.specs.Shift.{shiftOf, placesOf}
 use Rattle.alu.specs.Count.{incOf, decOf}
 use Rattle.alu.specs.Extend.{extzOf, extsOf}
@@ -21,7 +23,6 @@ use Rattle.code.specs.declared.Operand.{Operand}
 use Rattle.code.specs.declared.Operand.the-variants.{Register}
 use Rattle.state.specs.Register.{getRegister, setRegister}
 use Rattle.state.specs.declared.State.{State}
-use Rattle.compute.specs.declared.Packed.{Packed}
 use Rattle.operand.specs.Try.{Try, did, withLoaded}
 use Rattle.operand.specs.Operand.{valueAt, storing, putAt}
 use Rattle.operand.specs.Flag.{flagsIn, flagged}
@@ -33,10 +34,6 @@ computed s op z a b = operated op (bitsOf z) a b (flagsIn s .c)
 -- the result put where the operand is, and the flags set
 abbrev pub resultIn : State → List ℕ → List ℕ → Size → Operand → Computed → Try
 resultIn s ram rom z o r = putAt (flagged s (r .flags)) ram rom z o (r .value)
-
--- a result with its flags packed
-abbrev pub packedOf : Computed → Packed
-packedOf r = record { value = r .value; flags = byteOf (r .flags) }
 
 -- CP puts nothing
 abbrev pub storesOf : Arith → Bool
@@ -56,6 +53,10 @@ answerIn op s ram rom z o r = cond (storesOf op) (resultIn s ram rom z o r) (did
 -- INC and DEC by n: 0 means 8
 abbrev pub stepsOf : ℕ → ℕ
 stepsOf n = cond (eqb (n % 8) 0) 8 (n % 8)
+
+-- one of the two
+abbrev pub countedBy : Bool → Flags → Size → ℕ → ℕ → Computed
+countedBy up f z v n = cond up (incOf f (bitsOf z) v (stepsOf n)) (decOf f (bitsOf z) v (stepsOf n))
 
 -- what each puts, of a size and with its operand; the state is past the instruction
 unfoldable pub putsOf : Use → Size → Operand → State → List ℕ → List ℕ → Try
@@ -94,3 +95,8 @@ answerTo op at z s ram rom r = cond (storesOf op) (storing (flagged s (r .flags)
 
 abbrev pub secondWith : Arith → ℕ → ℕ → Size → State → List ℕ → List ℕ → Try
 secondWith op r at z s ram rom = withLoaded (loadOf ram rom at z) (λ v. answerTo op at z s ram rom (computed s op z v (getRegister s z r)))
+
+-- F after a store: what it was before, where that is refused
+abbrev pub keptOr : Answer → ℕ → ℕ → ℕ
+keptOr Done before flags = flags
+keptOr (Refused w) before flags = before

@@ -1,8 +1,9 @@
 // What is put where one operand is in memory, at an address: a refused load or store changes nothing.
+ghost use mathlib.Core.Path.{_≡_};
 ghost use Rattle.state.specs.declared.State.{State};
 ghost use Rattle.state.specs.State.{banked, bankedWith};
 ghost use Rattle.operand.specs.Try.{Does};
-ghost use Rattle.compute.specs.Compute.{loadedFrom, storedTo, firstWith, secondWith};
+ghost use Rattle.compute.specs.Compute.{loadedFrom, storedTo, firstWith, secondWith, keptOr};
 use crate::operated;
 use crate::stores;
 use alu::Arith;
@@ -71,15 +72,25 @@ pub fn first(
     match memory::load(ram, rom, at, size) {
         Loaded::Value(v) => {
             let x = state::read(&*regs, bank, size, r);
-            let w = operated(op, size, x, v, *flags);
-            *flags = w.flags;
+            let w = operated(op, size, x, v, flags);
             if stores(op) {
-                state::write(regs, bank, size, r, w.value);
+                state::write(regs, bank, size, r, w);
             }
             Answer::Done
         }
         Loaded::Refused(w) => Answer::Refused(w),
     }
+}
+
+// A refused store leaves F as it was before.
+fn stored(a: Answer, before: u8, flags: &mut u8) -> Answer
+    ensures { λ r. ⌜ (r ≡ a) × (now (flags .exit) ≡ keptOr a before (now (flags .entry))) ⌝ }
+{
+    if let Answer::Refused(w) = a {
+        *flags = before;
+        return Answer::Refused(w);
+    }
+    a
 }
 
 // The operation on the value there and the register r, back there; CP puts nothing.
@@ -101,13 +112,11 @@ pub fn second(
     match memory::load(&*ram, rom, at, size) {
         Loaded::Value(v) => {
             let y = state::read(regs, bank, size, r);
-            let w = operated(op, size, v, y, *flags);
+            let before = *flags;
+            let w = operated(op, size, v, y, &mut *flags);
             if stores(op) {
-                if let Answer::Refused(w) = memory::store(ram, rom, at, size, w.value) {
-                    return Answer::Refused(w);
-                }
+                return stored(memory::store(ram, rom, at, size, w), before, flags);
             }
-            *flags = w.flags;
             Answer::Done
         }
         Loaded::Refused(w) => Answer::Refused(w),

@@ -2,12 +2,11 @@
 ghost use mathlib.Core.Path.{_≡_};
 ghost use mathlib.Core.Bool.{cond};
 ghost use Rattle.little.specs.Width.{bitsOf};
-ghost use Rattle.alu.specs.Flag.{flagsOf};
+ghost use Rattle.alu.specs.Flag.{byteOf, flagsOf};
 ghost use Rattle.alu.specs.Operation.{operated};
 ghost use Rattle.alu.specs.Shift.{shiftOf, placesOf};
-ghost use Rattle.alu.specs.Count.{incOf, decOf};
 ghost use Rattle.alu.specs.Extend.{extzOf, extsOf};
-ghost use Rattle.compute.specs.Compute.{storesOf, stepsOf, packedOf};
+ghost use Rattle.compute.specs.Compute.{storesOf, stepsOf, countedBy};
 use alu::Arith;
 use alu::Computed;
 use alu::Shift;
@@ -15,12 +14,6 @@ use little::Size;
 
 pub mod form;
 pub mod register;
-
-// A result with its flags as the byte F: two things to hand back, not a value and six flags.
-pub struct Packed {
-    pub value: u32,
-    pub flags: u8,
-}
 
 // Whether the result is put; of CP only the flags are.
 fn stores(op: Arith) -> bool
@@ -49,40 +42,42 @@ fn steps_of(n: u8) -> u32
     m as u32
 }
 
-fn result(w: Computed) -> Packed
-    ensures { λ r. ⌜ r ≡ packedOf w ⌝ }
+// The value of a result; its flags go into F.
+fn settled(w: Computed, flags: &mut u8) -> u32
+    ensures { λ r. ⌜ (r ≡ w .value) × (now (flags .exit) ≡ byteOf (w .flags)) ⌝ }
 {
     let after = w.flags;
-    Packed {
-        value: w.value,
-        flags: alu::pack(after),
-    }
+    *flags = alu::pack(after);
+    w.value
 }
 
 // The operation on two operands, with the carry in F.
-fn operated(op: Arith, size: Size, a: u32, b: u32, flags: u8) -> Packed
-    ensures { λ r. ⌜ r ≡ packedOf (operated op (bitsOf size) a b (flagsOf flags .c)) ⌝ }
+fn operated(op: Arith, size: Size, a: u32, b: u32, flags: &mut u8) -> u32
+    ensures { λ r. ⌜ (r ≡ operated op (bitsOf size) a b (flagsOf (now (flags .entry)) .c) .value)
+        × (now (flags .exit) ≡ byteOf (operated op (bitsOf size) a b (flagsOf (now (flags .entry)) .c) .flags)) ⌝ }
 {
-    let f = alu::unpack(flags);
-    result(alu::operate(op, size, a, b, f.c))
+    let f = alu::unpack(*flags);
+    settled(alu::operate(op, size, a, b, f.c), flags)
 }
 
 // INC or DEC by n.
-fn counted(up: bool, n: u8, size: Size, v: u32, flags: u8) -> Packed
-    ensures { λ r. ⌜ r ≡ packedOf (cond up (incOf (flagsOf flags) (bitsOf size) v (stepsOf n)) (decOf (flagsOf flags) (bitsOf size) v (stepsOf n))) ⌝ }
+fn counted(up: bool, n: u8, size: Size, v: u32, flags: &mut u8) -> u32
+    ensures { λ r. ⌜ (r ≡ countedBy up (flagsOf (now (flags .entry))) size v n .value)
+        × (now (flags .exit) ≡ byteOf (countedBy up (flagsOf (now (flags .entry))) size v n .flags)) ⌝ }
 {
-    let f = alu::unpack(flags);
+    let f = alu::unpack(*flags);
     if up {
-        return result(alu::inc(f, size, v, steps_of(n)));
+        return settled(alu::inc(f, size, v, steps_of(n)), flags);
     }
-    result(alu::dec(f, size, v, steps_of(n)))
+    settled(alu::dec(f, size, v, steps_of(n)), flags)
 }
 
 // A shift by the places that a code byte asks for.
-fn shifted(kind: Shift, size: Size, v: u32, places: u8) -> Packed
-    ensures { λ r. ⌜ r ≡ packedOf (shiftOf kind (bitsOf size) v (placesOf places)) ⌝ }
+fn shifted(kind: Shift, size: Size, v: u32, places: u8, flags: &mut u8) -> u32
+    ensures { λ r. ⌜ (r ≡ shiftOf kind (bitsOf size) v (placesOf places) .value)
+        × (now (flags .exit) ≡ byteOf (shiftOf kind (bitsOf size) v (placesOf places) .flags)) ⌝ }
 {
-    result(alu::shift_by(kind, size, v, places))
+    settled(alu::shift_by(kind, size, v, places), flags)
 }
 
 // The low half of a word or a long, extended with zeros or with its sign.

@@ -47,10 +47,9 @@ pub fn operate(
 {
     let v = state::read(&*regs, bank, size, r);
     let x = state::read(&*regs, bank, size, n);
-    let w = operated(op, size, x, v, *flags);
-    *flags = w.flags;
+    let w = operated(op, size, x, v, flags);
     if stores(op) {
-        state::write(regs, bank, size, n, w.value);
+        state::write(regs, bank, size, n, w);
     }
 }
 
@@ -61,10 +60,9 @@ pub fn with(op: Arith, n: u32, size: Size, r: u8, bank: Bank, flags: &mut u8, re
         Answer.Done (bankedWith s (now (regs .exit)) bank (now (flags .exit))) ram) ⌝ }
 {
     let v = state::read(&*regs, bank, size, r);
-    let w = operated(op, size, v, n, *flags);
-    *flags = w.flags;
+    let w = operated(op, size, v, n, flags);
     if stores(op) {
-        state::write(regs, bank, size, r, w.value);
+        state::write(regs, bank, size, r, w);
     }
 }
 
@@ -75,9 +73,8 @@ pub fn count(up: bool, n: u8, size: Size, r: u8, bank: Bank, flags: &mut u8, reg
         Answer.Done (bankedWith s (now (regs .exit)) bank (now (flags .exit))) ram) ⌝ }
 {
     let v = state::read(&*regs, bank, size, r);
-    let w = counted(up, n, size, v, *flags);
-    *flags = w.flags;
-    state::write(regs, bank, size, r, w.value);
+    let w = counted(up, n, size, v, flags);
+    state::write(regs, bank, size, r, w);
 }
 
 // A shift of the register r.
@@ -95,9 +92,8 @@ pub fn shift(
         Answer.Done (bankedWith s (now (regs .exit)) bank (now (flags .exit))) ram) ⌝ }
 {
     let v = state::read(&*regs, bank, size, r);
-    let w = shifted(kind, size, v, n);
-    *flags = w.flags;
-    state::write(regs, bank, size, r, w.value);
+    let w = shifted(kind, size, v, n, flags);
+    state::write(regs, bank, size, r, w);
 }
 
 // EXTS or EXTZ of the register r.

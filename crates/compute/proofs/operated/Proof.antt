@@ -9,11 +9,11 @@ unpack-requires c κs = search needs
 operate-requires : tie.Need-operate-requires
 operate-requires c κs = search needs
 
-result-requires : tie.Need-result-requires
-result-requires c κs = search needs
+settled-requires : tie.Need-settled-requires
+settled-requires c κs = search needs
 
 returns : tie.Need-returns
-returns c = rw (c .result .ensures, c .before .operate .ensures, c .before .before .unpack .ensures) refl
+returns c = rw (c .settled .ensures .0, c .settled .ensures .1, c .before .before .operate .ensures, c .before .before .before .unpack .ensures) (refl, refl)
 
 pub operated-spec : {M : Type 1} → statement M
-operated-spec = tie.close (tie.spec unpack-requires operate-requires result-requires returns)
+operated-spec = tie.close (tie.spec unpack-requires operate-requires settled-requires returns)

@@ -29,11 +29,11 @@ enum-known-w c = search needs
 returns : tie.Need-returns
 unfolding flagged withFlags withBothFlags
 returns c rest =
-    rw (sym (c .before .before .before .before .before .before .before .before .before .before .before .load .ensures) ∙ c .before .before .before .before .before .before .before .before .before .v .given .1, c .write .ensures (flaggedAt rest (rest .counter) (c .before .before .before .before .operated .result .flags)), sym (c .before .before .before .stores .ensures) ∙ c .before .before .if1 .taken, c .before .before .before .before .operated .ensures, c .before .before .before .before .before .before .read .ensures) refl
+    rw (sym (c .before .before .before .before .before .before .before .before .before .before .before .load .ensures) ∙ c .before .before .before .before .before .before .before .before .before .v .given .1, c .write .ensures (flaggedAt rest (rest .counter) (c .before .before .before .before .operated .last .1 .1 .1 .1 .0)), sym (c .before .before .before .stores .ensures) ∙ c .before .before .if1 .taken, c .before .before .before .before .operated .ensures .0, c .before .before .before .before .operated .ensures .1, c .before .before .before .before .before .before .read .ensures) refl
 
 returns-2 : tie.Need-returns-2
 unfolding flagged withFlags withBothFlags
-returns-2 c rest = rw (sym (c .before .before .before .before .before .before .before .before .before .load .ensures) ∙ c .before .before .before .before .before .before .before .v .given .1, sym (c .before .stores .ensures) ∙ c .if1 .left, c .before .before .operated .ensures, c .before .before .before .before .read .ensures) refl
+returns-2 c rest = rw (sym (c .before .before .before .before .before .before .before .before .before .load .ensures) ∙ c .before .before .before .before .before .before .before .v .given .1, sym (c .before .stores .ensures) ∙ c .if1 .left, c .before .before .operated .ensures .1, c .before .before .before .before .read .ensures) refl
 
 returns-3 : tie.Need-returns-3
 returns-3 c rest = rw (sym (c .before .before .before .load .ensures) ∙ c .before .w .given .1) refl

@@ -17,7 +17,7 @@ returns : tie.Need-returns
 returns c rest =
     let a = c .before .before .before .before .before .before .before .args in
     rw (c .before .before .store .ensures .0, c .before .before .store .ensures .1, ← c .before .before .before .before .read .ensures)
-    (store-answered (banked rest (a .regs .now) (a .bank)) (a .ram .now) (a .rom .now) (a .at) (a .size) (c .before .before .before .before .read .result))
+    (store-answered (a .ram .now) (a .rom .now) (a .at) (a .size) (c .before .before .before .before .read .result) (banked rest (a .regs .now) (a .bank)))
 
 pub store-spec : {M : Type 1} → statement M
 store-spec = tie.close (tie.spec read-requires store-requires same-length returns)

@@ -3,8 +3,6 @@ use mathlib.Core.Path.{_≡_, refl}
 use mathlib.Core.Bool.{Bool, true, false, cond}
 use mathlib.Core.List.{List}
 use Rattle.little.specs.declared.Size.{Size}
-use Rattle.little.specs.Width.{bitsOf}
-use Rattle.alu.specs.Count.{incOf, decOf}
 use Rattle.code.specs.declared.Use.the-variants.{Inc, Dec}
 use Rattle.code.specs.declared.Operand.the-variants.{Register}
 use Rattle.state.specs.State.{flaggedAt, bankedWith, withFlags, withBothFlags}
@@ -12,7 +10,7 @@ use Rattle.state.specs.declared.State.{State}
 use Rattle.state.specs.Register.{getRegister}
 use Rattle.operand.specs.Operand.{valueIn}
 use Rattle.operand.specs.Flag.{flagsIn, flagged}
-use Rattle.compute.specs.Compute.{putsOf, resultIn, stepsOf}
+use Rattle.compute.specs.Compute.{putsOf, resultIn, countedBy}
 use borrow.Author.Needs.{needs}
 use Rattle.compute.proofs.register.count.Statement.{statement}
 use Rattle.compute.proofs.register.count.Tie as tie
@@ -20,8 +18,7 @@ use Rattle.compute.proofs.register.count.Tie as tie
 -- one of the two
 either :
     (up : Bool) (n : ℕ) (z : Size) (r : ℕ) (s : State) (ram rom : List ℕ) →
-    putsOf (cond up (Inc n) (Dec n)) z (Register r) s ram rom
-    ≡ resultIn s ram rom z (Register r) (cond up (incOf (flagsIn s) (bitsOf z) (getRegister s z r) (stepsOf n)) (decOf (flagsIn s) (bitsOf z) (getRegister s z r) (stepsOf n)))
+    putsOf (cond up (Inc n) (Dec n)) z (Register r) s ram rom ≡ resultIn s ram rom z (Register r) (countedBy up (flagsIn s) z (getRegister s z r) n)
 unfolding putsOf valueIn
 either true n z r s ram rom = refl
 either false n z r s ram rom = refl
@@ -39,7 +36,7 @@ returns : tie.Need-returns
 unfolding flagged withFlags withBothFlags
 returns c rest ram rom =
     let a = c .before .before .before .before .before .before .args in
-    rw (either (a .up) (a .n) (a .size) (a .r) (bankedWith rest (a .regs .now) (a .bank) (a .flags .now)) ram rom, c .write .ensures (flaggedAt rest (rest .counter) (c .before .before .counted .result .flags)), c .before .before .counted .ensures, c .before .before .before .before .read .ensures) refl
+    rw (either (a .up) (a .n) (a .size) (a .r) (bankedWith rest (a .regs .now) (a .bank) (a .flags .now)) ram rom, c .write .ensures (flaggedAt rest (rest .counter) (c .before .before .counted .last .1 .1 .1 .1 .0)), c .before .before .counted .ensures .0, c .before .before .counted .ensures .1, c .before .before .before .before .read .ensures) refl
 
 pub count-spec : {M : Type 1} → statement M
 count-spec = tie.close (tie.spec read-requires counted-requires write-requires returns)

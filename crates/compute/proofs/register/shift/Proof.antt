@@ -18,7 +18,7 @@ write-requires c κs = search needs
 
 returns : tie.Need-returns
 unfolding putsOf valueIn flagged withFlags withBothFlags
-returns c rest ram rom = rw (c .write .ensures (flaggedAt rest (rest .counter) (c .before .before .shifted .result .flags)), c .before .before .shifted .ensures, c .before .before .before .read .ensures) refl
+returns c rest ram rom = rw (c .write .ensures (flaggedAt rest (rest .counter) (c .before .before .shifted .last .1 .1 .1 .1 .0)), c .before .before .shifted .ensures .0, c .before .before .shifted .ensures .1, c .before .before .before .before .read .ensures) refl
 
 pub shift-spec : {M : Type 1} → statement M
 shift-spec = tie.close (tie.spec read-requires shifted-requires write-requires returns)
