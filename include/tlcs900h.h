@@ -92,7 +92,7 @@ enum {
 enum {
     TLCS900H_DONE = 0,     /* done */
     TLCS900H_TOO_LONG = 1, /* RAM or ROM is longer than 65,536 bytes */
-    TLCS900H_INVALID = 2,  /* the record is not 88 bytes long or is no state's record; an address to show is 2^24 or more */
+    TLCS900H_INVALID = 2,  /* the record is not TLCS900H_RECORD bytes long or is no state's record; an address to show is 2^24 or more */
     TLCS900H_NO_CODE = 3,  /* no memory at the counter, or the instruction goes on where its memory ends */
     TLCS900H_UNLISTED = 4, /* the bytes at the counter begin no listed instruction */
     TLCS900H_MISSING = 5,  /* an operand lies in neither memory, or only partly in one; at reset: ROM has fewer than 256 bytes */
@@ -118,7 +118,7 @@ static inline const char *tlcs900h_name(uint8_t number) {
 /*
  * Writes the record of the reset state: XSP 100H, bank 0, level 7, everything else zero, and the counter from the low 24
  * bits of the four bytes at FFFF00H. RAM is only measured.
- * Looks for 1, then 5, then 2 (a buffer that is not 88 bytes long; what it holds does not matter).
+ * Looks for 1, then 5, then 2 (a buffer that is not TLCS900H_RECORD bytes long; what it holds does not matter).
  * A refusal leaves the buffer as it was.
  */
 uint8_t tlcs900h_reset(uint8_t *record, size_t record_len, const uint8_t *ram, size_t ram_len, const uint8_t *rom, size_t rom_len);

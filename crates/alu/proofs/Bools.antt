@@ -1,4 +1,4 @@
--- Truth values that a test finds equal, both parts of an and, and a test that passes at each number below n.
+-- Truth values that a test finds equal, both parts of an and, a test that passes at each number below n, and laws of bits.
 use mathlib.Core.Path.{_≡_, refl, sym, subst}
 use mathlib.Core.Bool.{Bool, true, false, Bool·beq, _&&_}
 use mathlib.Core.Logic.{⊎-elim}
@@ -31,3 +31,19 @@ below p (suc n) t x h =
     ⊎-elim (λ e. subst (λ (m : ℕ). T (p m)) (sym e) (left (p n) (upto p n) t))
     (λ l. below p n (right (p n) (upto p n) t) x l)
     (eq-or-lt-of-le (le-of-suc-le-suc h))
+
+-- ---- a law of one bit, of two or of three holds where it holds of 0 and 1
+one-bit : (P : ℕ → Type 0) → P 0 → P 1 → (n : ℕ) → n < 2 → P n
+one-bit P p q zero h = p
+one-bit P p q (suc zero) h = q
+one-bit P p q (suc (suc n)) h = absurd (not-suc-le-zero (le-of-suc-le-suc (le-of-suc-le-suc h)))
+
+pub two-bits : (P : ℕ → ℕ → Type 0) → P 0 0 → P 0 1 → P 1 0 → P 1 1 → (x y : ℕ) → x < 2 → y < 2 → P x y
+two-bits P p q s t x y hx hy = one-bit (λ (x : ℕ). P x y) (one-bit (P 0) p q y hy) (one-bit (P 1) s t y hy) x hx
+
+pub three-bits :
+    (P : ℕ → ℕ → ℕ → Type 0)
+    → P 0 0 0 → P 0 0 1 → P 0 1 0 → P 0 1 1 → P 1 0 0 → P 1 0 1 → P 1 1 0 → P 1 1 1
+    → (x y r : ℕ) → x < 2 → y < 2 → r < 2 → P x y r
+three-bits P p q s t u v w z x y r hx hy hr =
+    one-bit (λ (x : ℕ). P x y r) (two-bits (P 0) p q s t y r hy hr) (two-bits (P 1) u v w z y r hy hr) x hx

@@ -3,6 +3,8 @@ pub mod Bools
 pub mod Ones
 pub mod Conditions
 pub mod Shifts
+pub mod Half
+pub mod Turned
 pub mod Raised
 pub mod Overflow
 pub mod Meaning

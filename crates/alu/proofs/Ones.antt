@@ -11,6 +11,7 @@ use lib.Bits.{bitAnd, bitXor, xor-add-and, xor-shr}
 use native.Mathlib.Omega.{arith}
 use lib.Pow.{field, mod-mod-pow, shr-shr}
 use Rattle.alu.specs.Parity.{onesOf, evenOnes}
+use Rattle.alu.proofs.Bools.{two-bits}
 
 -- bits above the k low ones do not count
 pub ones-low : (k x : ℕ) → onesOf k (x % 2 ^ k) ≡ onesOf k x
@@ -34,13 +35,7 @@ ones-cat (suc k) j x =
     ∙ ap (λ (n : ℕ). x % 2 + onesOf k (x / 2) + onesOf j n) (shr-shr x 1 k ∙ ap (λ (n : ℕ). x / 2 ^ n) (one-add k))
 
 even-bits : (p q : ℕ) → p < 2 → q < 2 → eqb ((p + q) % 2) 0 ≡ Bool·beq (eqb p 0) (eqb q 0)
-even-bits zero zero hp hq = refl
-even-bits zero (suc zero) hp hq = refl
-even-bits zero (suc (suc q)) hp hq = absurd (not-suc-le-zero (le-of-suc-le-suc (le-of-suc-le-suc hq)))
-even-bits (suc zero) zero hp hq = refl
-even-bits (suc zero) (suc zero) hp hq = refl
-even-bits (suc zero) (suc (suc q)) hp hq = absurd (not-suc-le-zero (le-of-suc-le-suc (le-of-suc-le-suc hq)))
-even-bits (suc (suc p)) q hp hq = absurd (not-suc-le-zero (le-of-suc-le-suc (le-of-suc-le-suc hp)))
+even-bits = two-bits (λ (p q : ℕ). eqb ((p + q) % 2) 0 ≡ Bool·beq (eqb p 0) (eqb q 0)) refl refl refl refl
 
 pub even-sum : (a b : ℕ) → eqb ((a + b) % 2) 0 ≡ Bool·beq (eqb (a % 2) 0) (eqb (b % 2) 0)
 even-sum a b =

@@ -1,7 +1,7 @@
 -- Overflow by signs is overflow by range. Here h is the weight of the top bit, x and y are below h + h, and c is a carry.
 -- A number z stands for z, or for z - (h + h) where it is at least h.
-use mathlib.Core.Path.{_≡_, ap, _∙_}
-use mathlib.Core.Bool.{not, cond, _&&_}
+use mathlib.Core.Path.{_≡_, refl, ap, _∙_}
+use mathlib.Core.Bool.{Bool, true, false, not, cond, _&&_}
 use Prim.Native.Nat.{ℕ, _+_, _-_, _%_, _≤_, _<_}
 use native.Mathlib.Nat.{mod-eq-of-lt, add-mod-right, lt-of-not-le}
 use native.Mathlib.Decide.{decLe}
@@ -9,6 +9,19 @@ use native.Mathlib.Omega.{arith}
 use lib.Dec.{leb, ltb}
 use borrow.Author.Tests.{lt-ltb, le-ltb, le-leb, lt-leb}
 use Rattle.alu.specs.Sums.{turned}
+
+-- what the five tests of a case find: the two signs and that of the result, and that the exact number is neither too low nor too high
+found :
+    {x y r l g x′ y′ r′ l′ g′ : Bool} → x ≡ x′ → y ≡ y′ → r ≡ r′ → l ≡ l′ → g ≡ g′ →
+    turned x′ y′ r′ ≡ not (l′ && g′) → turned x y r ≡ not (l && g)
+found ex ey er el eg e = rw (ex, ey, er, el, eg) e
+
+-- the sign of a number n that stays below m, and of one that is m more than r
+stays : (h m n : ℕ) {b : Bool} → n < m → leb h n ≡ b → leb h (n % m) ≡ b
+stays h m n l e = ap (leb h) (mod-eq-of-lt {n = n} {m = m} l) ∙ e
+
+wraps : (h m n r : ℕ) {b : Bool} → n ≡ r + m → r < m → leb h r ≡ b → leb h (n % m) ≡ b
+wraps h m n r e l f = ap (λ (i : ℕ). leb h (i % m)) e ∙ ap (leb h) (add-mod-right r m ∙ mod-eq-of-lt {n = r} {m = m} l) ∙ f
 
 module _ (h x y c : ℕ) (hx : x < h + h) (hy : y < h + h) (hc : c ≤ 1) where
   abbrev away : ℕ → ℕ
@@ -30,77 +43,46 @@ module _ (h x y c : ℕ) (hx : x < h + h) (hy : y < h + h) (hc : c ≤ 1) where
   sum-low-low p q (yes l) =
       let ax = none p in
       let ay = none q in
-      rw (
-        le-leb (away x + away y) (x + y + c + h) (omega arith),
-        le-ltb (x + y + c) (away x + away y + h) (omega arith),
-        mod-eq-of-lt {n = x + y + c} {m = h + h} (omega arith),
-        lt-leb h x p,
-        lt-leb h y q,
-        le-leb h (x + y + c) l,
-      )
+      found (lt-leb h x p) (lt-leb h y q) (stays h (h + h) (x + y + c) (omega arith) (le-leb _ _ l))
+      (le-leb (away x + away y) (x + y + c + h) (omega arith))
+      (le-ltb (x + y + c) (away x + away y + h) (omega arith)) refl
   sum-low-low p q (no f) =
-      let l : x + y + c < h = lt-of-not-le f in
+      let l = lt-of-not-le f in
       let ax = none p in
       let ay = none q in
-      rw (
-        le-leb (away x + away y) (x + y + c + h) (omega arith),
-        lt-ltb (x + y + c) (away x + away y + h) (omega arith),
-        mod-eq-of-lt {n = x + y + c} {m = h + h} (omega arith),
-        lt-leb h x p,
-        lt-leb h y q,
-        lt-leb h (x + y + c) l,
-      )
+      found (lt-leb h x p) (lt-leb h y q) (stays h (h + h) (x + y + c) (omega arith) (lt-leb _ _ l))
+      (le-leb (away x + away y) (x + y + c + h) (omega arith))
+      (lt-ltb (x + y + c) (away x + away y + h) (omega arith)) refl
 
   sum-low-high : x < h → h ≤ y → SumTurned
   sum-low-high p q =
       let ax = none p in
       let ay = some q in
-      rw (
-        le-leb (away x + away y) (x + y + c + h) (omega arith),
-        lt-ltb (x + y + c) (away x + away y + h) (omega arith),
-        lt-leb h x p,
-        le-leb h y q,
-      )
+      found (lt-leb h x p) (le-leb h y q) refl
+      (le-leb (away x + away y) (x + y + c + h) (omega arith))
+      (lt-ltb (x + y + c) (away x + away y + h) (omega arith)) refl
 
   sum-high-low : h ≤ x → y < h → SumTurned
   sum-high-low p q =
       let ax = some p in
       let ay = none q in
-      rw (
-        le-leb (away x + away y) (x + y + c + h) (omega arith),
-        lt-ltb (x + y + c) (away x + away y + h) (omega arith),
-        le-leb h x p,
-        lt-leb h y q,
-      )
-
-  sum-wraps : h ≤ x → h ≤ y → (x + y + c) % (h + h) ≡ x - h + (y - h) + c
-  sum-wraps p q =
-      let e : x + y + c ≡ x - h + (y - h) + c + (h + h) = omega arith in
-      ap (λ (n : ℕ). n % (h + h)) e ∙ add-mod-right (x - h + (y - h) + c) (h + h) ∙ mod-eq-of-lt {n = x - h + (y - h) + c} {m = h + h} (omega arith)
+      found (le-leb h x p) (lt-leb h y q) refl
+      (le-leb (away x + away y) (x + y + c + h) (omega arith))
+      (lt-ltb (x + y + c) (away x + away y + h) (omega arith)) refl
 
   sum-high-high : h ≤ x → h ≤ y → Dec (h ≤ x - h + (y - h) + c) → SumTurned
   sum-high-high p q (yes l) =
       let ax = some p in
       let ay = some q in
-      rw (
-        le-leb (away x + away y) (x + y + c + h) (omega arith),
-        lt-ltb (x + y + c) (away x + away y + h) (omega arith),
-        sum-wraps p q,
-        le-leb h x p,
-        le-leb h y q,
-        le-leb h (x - h + (y - h) + c) l,
-      )
+      found (le-leb h x p) (le-leb h y q) (wraps h (h + h) (x + y + c) (x - h + (y - h) + c) (omega arith) (omega arith) (le-leb _ _ l))
+      (le-leb (away x + away y) (x + y + c + h) (omega arith))
+      (lt-ltb (x + y + c) (away x + away y + h) (omega arith)) refl
   sum-high-high p q (no f) =
-      let l : x - h + (y - h) + c < h = lt-of-not-le f in
+      let l = lt-of-not-le f in
       let ax = some p in
       let ay = some q in
-      rw (
-        lt-leb (away x + away y) (x + y + c + h) (omega arith),
-        sum-wraps p q,
-        le-leb h x p,
-        le-leb h y q,
-        lt-leb h (x - h + (y - h) + c) l,
-      )
+      found (le-leb h x p) (le-leb h y q) (wraps h (h + h) (x + y + c) (x - h + (y - h) + c) (omega arith) (omega arith) (lt-leb _ _ l))
+      (lt-leb (away x + away y) (x + y + c + h) (omega arith)) refl refl
 
   sum-turned : Dec (h ≤ x) → Dec (h ≤ y) → SumTurned
   sum-turned (yes p) (yes q) = sum-high-high p q (decLe h (x - h + (y - h) + c))
@@ -118,77 +100,46 @@ module _ (h x y c : ℕ) (hx : x < h + h) (hy : y < h + h) (hc : c ≤ 1) where
   less-low-low p q =
       let ax = none p in
       let ay = none q in
-      rw (
-        le-leb (y + c + away x) (x + away y + h) (omega arith),
-        lt-ltb (x + away y) (y + c + away x + h) (omega arith),
-        lt-leb h x p,
-        lt-leb h y q,
-      )
+      found (lt-leb h x p) (ap not (lt-leb h y q)) refl
+      (le-leb (y + c + away x) (x + away y + h) (omega arith))
+      (lt-ltb (x + away y) (y + c + away x + h) (omega arith)) refl
 
   less-high-high : h ≤ x → h ≤ y → DifferenceTurned
   less-high-high p q =
       let ax = some p in
       let ay = some q in
-      rw (
-        le-leb (y + c + away x) (x + away y + h) (omega arith),
-        lt-ltb (x + away y) (y + c + away x + h) (omega arith),
-        le-leb h x p,
-        le-leb h y q,
-      )
+      found (le-leb h x p) (ap not (le-leb h y q)) refl
+      (le-leb (y + c + away x) (x + away y + h) (omega arith))
+      (lt-ltb (x + away y) (y + c + away x + h) (omega arith)) refl
 
   less-low-high : x < h → h ≤ y → Dec (h ≤ h + h + x - (y + c)) → DifferenceTurned
   less-low-high p q (yes l) =
       let ax = none p in
       let ay = some q in
-      rw (
-        le-leb (y + c + away x) (x + away y + h) (omega arith),
-        le-ltb (x + away y) (y + c + away x + h) (omega arith),
-        mod-eq-of-lt {n = h + h + x - (y + c)} {m = h + h} (omega arith),
-        lt-leb h x p,
-        le-leb h y q,
-        le-leb h (h + h + x - (y + c)) l,
-      )
+      found (lt-leb h x p) (ap not (le-leb h y q)) (stays h (h + h) (h + h + x - (y + c)) (omega arith) (le-leb _ _ l))
+      (le-leb (y + c + away x) (x + away y + h) (omega arith))
+      (le-ltb (x + away y) (y + c + away x + h) (omega arith)) refl
   less-low-high p q (no f) =
-      let l : h + h + x - (y + c) < h = lt-of-not-le f in
+      let l = lt-of-not-le f in
       let ax = none p in
       let ay = some q in
-      rw (
-        le-leb (y + c + away x) (x + away y + h) (omega arith),
-        lt-ltb (x + away y) (y + c + away x + h) (omega arith),
-        mod-eq-of-lt {n = h + h + x - (y + c)} {m = h + h} (omega arith),
-        lt-leb h x p,
-        le-leb h y q,
-        lt-leb h (h + h + x - (y + c)) l,
-      )
-
-  less-stays : h ≤ x → y < h → (h + h + x - (y + c)) % (h + h) ≡ x - (y + c)
-  less-stays p q =
-      let e : h + h + x - (y + c) ≡ x - (y + c) + (h + h) = omega arith in
-      ap (λ (n : ℕ). n % (h + h)) e ∙ add-mod-right (x - (y + c)) (h + h) ∙ mod-eq-of-lt {n = x - (y + c)} {m = h + h} (omega arith)
+      found (lt-leb h x p) (ap not (le-leb h y q)) (stays h (h + h) (h + h + x - (y + c)) (omega arith) (lt-leb _ _ l))
+      (le-leb (y + c + away x) (x + away y + h) (omega arith))
+      (lt-ltb (x + away y) (y + c + away x + h) (omega arith)) refl
 
   less-high-low : h ≤ x → y < h → Dec (h ≤ x - (y + c)) → DifferenceTurned
   less-high-low p q (yes l) =
       let ax = some p in
       let ay = none q in
-      rw (
-        le-leb (y + c + away x) (x + away y + h) (omega arith),
-        lt-ltb (x + away y) (y + c + away x + h) (omega arith),
-        less-stays p q,
-        le-leb h x p,
-        lt-leb h y q,
-        le-leb h (x - (y + c)) l,
-      )
+      found (le-leb h x p) (ap not (lt-leb h y q)) (wraps h (h + h) (h + h + x - (y + c)) (x - (y + c)) (omega arith) (omega arith) (le-leb _ _ l))
+      (le-leb (y + c + away x) (x + away y + h) (omega arith))
+      (lt-ltb (x + away y) (y + c + away x + h) (omega arith)) refl
   less-high-low p q (no f) =
-      let l : x - (y + c) < h = lt-of-not-le f in
+      let l = lt-of-not-le f in
       let ax = some p in
       let ay = none q in
-      rw (
-        lt-leb (y + c + away x) (x + away y + h) (omega arith),
-        less-stays p q,
-        le-leb h x p,
-        lt-leb h y q,
-        lt-leb h (x - (y + c)) l,
-      )
+      found (le-leb h x p) (ap not (lt-leb h y q)) (wraps h (h + h) (h + h + x - (y + c)) (x - (y + c)) (omega arith) (omega arith) (lt-leb _ _ l))
+      (lt-leb (y + c + away x) (x + away y + h) (omega arith)) refl refl
 
   difference-turned : Dec (h ≤ x) → Dec (h ≤ y) → DifferenceTurned
   difference-turned (yes p) (yes q) = less-high-high p q

@@ -13,7 +13,7 @@ use Rattle.alu.specs.declared.Shift.{Shift}
 use Rattle.alu.specs.declared.Flags.{Flags}
 use Rattle.alu.specs.Width.{low, negative}
 use Rattle.alu.specs.Sums.{computedOf, sumOf, differenceOf}
-use Rattle.alu.specs.Logic.{andOf, orOf, xorOf}
+use Rattle.alu.specs.Logic.{plain, andOf, orOf, xorOf}
 use Rattle.alu.specs.Operation.{operated}
 use Rattle.alu.specs.Shift.{shifted, shiftOf}
 use Rattle.alu.specs.Count.{incOf, decOf}
@@ -31,7 +31,7 @@ difference-lt k a b c = mod-lt _ (pow-pos k)
 
 -- the eight operations
 pub operated-lt : (op : Arith) (k a b : ℕ) (c : Bool) → operated op k a b c .value < 2 ^ k
-unfolding operated andOf orOf xorOf computedOf
+unfolding operated plain andOf orOf xorOf computedOf
 operated-lt Add k a b c = sum-lt k a b false
 operated-lt Adc k a b c = sum-lt k a b c
 operated-lt Sub k a b c = difference-lt k a b false

@@ -14,7 +14,7 @@ use Rattle.alu.specs.declared.Shift.{Shift}
 use Rattle.alu.specs.declared.Computed.{Computed}
 use Rattle.alu.specs.Width.{low, negative, one}
 use Rattle.alu.specs.Sums.{computedOf, sumOf, differenceOf}
-use Rattle.alu.specs.Logic.{andOf, orOf, xorOf}
+use Rattle.alu.specs.Logic.{plain, andOf, orOf, xorOf}
 use Rattle.alu.specs.Operation.{operated}
 use Rattle.alu.specs.Shift.{shiftOf}
 use Rattle.alu.specs.declared.Flags.{Flags}
@@ -33,7 +33,7 @@ judged k r h v n c = record { zero = refl; sign = refl }
 
 -- the eight operations
 pub operated-judged : (op : Arith) (k a b : ℕ) (c : Bool) → Judged k (operated op k a b c)
-unfolding operated sumOf differenceOf andOf orOf xorOf
+unfolding operated sumOf differenceOf plain andOf orOf xorOf
 operated-judged Add k a b c = judged k _ _ _ _ _
 operated-judged Adc k a b c = judged k _ _ _ _ _
 operated-judged Sub k a b c = judged k _ _ _ _ _

@@ -1,9 +1,5 @@
 -- The sixteen conditions of a jump.
-use Prim.Native.Nat.{ℕ, _%_}
-use mathlib.Core.Bool.{Bool, false, not, cond, _||_, Bool·beq}
-use mathlib.Core.List.{[], _∷_}
-use lib.Dec.{ltb}
-use lib.ListN.{getD}
+use Rattle.little.specs.Words.{ℕ, _%_, Bool, false, not, cond, _||_, Bool·beq, [], _∷_, ltb, getD}
 use Rattle.alu.specs.declared.Flags.{Flags}
 
 -- S differs from V

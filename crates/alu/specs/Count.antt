@@ -1,11 +1,10 @@
 -- INC and DEC by n.
-use Prim.Native.Nat.{ℕ}
-use mathlib.Core.Bool.{false, cond}
-use lib.Dec.{eqb}
-use Rattle.alu.specs.declared.Computed.{Computed}
-use Rattle.alu.specs.declared.Flags.{Flags}
-use Rattle.alu.specs.Flag.{keepingC}
-use Rattle.alu.specs.Sums.{sumOf, differenceOf}
+use Rattle.little.specs.Words.{ℕ, _%_, false, cond, eqb}
+use Rattle.alu.specs.{declared.Computed.Computed, declared.Flags.Flags, Flag.keepingC, Sums.sumOf, Sums.differenceOf}
+
+-- by how many a code counts: 0 means 8
+abbrev pub stepsOf : ℕ → ℕ
+stepsOf n = cond (eqb (n % 8) 0) 8 (n % 8)
 
 -- of a byte the flags as ADD and SUB have them, but C kept; of a word or a long all kept
 abbrev pub countedOf : Flags → ℕ → Computed → Computed

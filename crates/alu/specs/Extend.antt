@@ -1,6 +1,5 @@
 -- EXTZ and EXTS: the low half of k bits, with zeros or with its sign above it.
-use Prim.Native.Nat.{ℕ, _+_, _-_, _/_, _^_}
-use mathlib.Core.Bool.{cond}
+use Rattle.little.specs.Words.{ℕ, _+_, _-_, _/_, _^_, cond}
 use Rattle.alu.specs.Width.{low, negative}
 
 -- EXTZ: the low half, with zeros above it

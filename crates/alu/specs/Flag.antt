@@ -1,9 +1,6 @@
 -- The flags apart, and as the byte F: S 7, Z 6, H 4, V 2, N 1, C 0. What some instructions keep of them.
-use Prim.Native.Nat.{ℕ, _+_, _*_, _/_, _%_}
-use mathlib.Core.Bool.{Bool, true, false, not}
-use lib.Dec.{eqb}
-use Rattle.alu.specs.declared.Flags.{Flags}
-use Rattle.alu.specs.Width.{one}
+use Rattle.little.specs.Words.{ℕ, _+_, _*_, _/_, _%_, Bool, true, false, not, eqb}
+use Rattle.alu.specs.{declared.Flags.Flags, Width.one}
 
 -- F, whose bits 5 and 3 are 0
 unfoldable pub byteOf : Flags → ℕ
@@ -11,7 +8,9 @@ byteOf f = one (f .s) * 128 + one (f .z) * 64 + one (f .h) * 16 + one (f .v) * 4
 
 -- the flags of F, whatever its bits 5 and 3 are
 unfoldable pub flagsOf : ℕ → Flags
-flagsOf x = record { s = eqb (x / 128 % 2) 1; z = eqb (x / 64 % 2) 1; h = eqb (x / 16 % 2) 1; v = eqb (x / 4 % 2) 1; n = eqb (x / 2 % 2) 1; c = eqb (x % 2) 1 }
+flagsOf x =
+    let odd : ℕ → Bool = λ n. eqb (n % 2) 1 in
+    record { s = odd (x / 128); z = odd (x / 64); h = odd (x / 16); v = odd (x / 4); n = odd (x / 2); c = odd x }
 
 -- all flags are new but C
 abbrev pub keepingC : Flags → Flags → Flags

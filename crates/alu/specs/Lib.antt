@@ -8,5 +8,6 @@ pub mod Operation
 pub mod Shift
 pub mod Count
 pub mod Extend
+pub mod Change
 pub mod Meaning
 pub mod Cases

@@ -1,7 +1,5 @@
 -- The number of ones, and V of logic and shifts.
-use Prim.Native.Nat.{ℕ, zero, suc, _+_, _/_, _%_}
-use mathlib.Core.Bool.{Bool, _&&_}
-use lib.Dec.{eqb, ltb}
+use Rattle.little.specs.Words.{ℕ, zero, suc, _+_, _/_, _%_, Bool, _&&_, eqb, ltb}
 
 -- how many of the k low bits of x are ones
 unfoldable pub onesOf : ℕ → ℕ → ℕ
@@ -10,10 +8,8 @@ onesOf (suc k) x = x % 2 + onesOf k (x / 2)
 
 -- their number is even
 unfoldable pub evenOnes : ℕ → ℕ → Bool
-unfolding onesOf
 evenOnes k x = eqb (onesOf k x % 2) 0
 
 -- V of logic and shifts: even ones, and 0 for a long
 unfoldable pub parityOf : ℕ → ℕ → Bool
-unfolding evenOnes
 parityOf k x = ltb k 32 && evenOnes k x

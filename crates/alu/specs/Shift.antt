@@ -1,13 +1,8 @@
 -- SLA, SRA, SLL and SRL by some places.
-use Prim.Native.Nat.{ℕ, zero, suc, _+_, _*_, _/_, _%_, _^_}
-use mathlib.Core.Bool.{Bool, false, cond}
-use lib.Dec.{eqb}
-use Rattle.alu.specs.declared.Computed.{Computed}
-use Rattle.alu.specs.declared.shifter.Shifted.{Shifted}
-use Rattle.alu.specs.declared.Shift.{Shift}
+use Rattle.little.specs.Words.{ℕ, zero, suc, _+_, _*_, _/_, _%_, _^_, Bool, false, cond, eqb}
+use Rattle.alu.specs.{declared.Computed.Computed, declared.Shift.Shift, Width.low, Width.negative, Width.weighed, Width.one, Logic.plain}
 use Rattle.alu.specs.declared.Shift.the-variants.{Sla, Sra, Sll, Srl}
-use Rattle.alu.specs.Width.{low, negative, weighed, one}
-use Rattle.alu.specs.Logic.{plain}
+use Rattle.alu.specs.declared.shifter.Shifted.{Shifted}
 
 -- the places that a code byte asks for: 0 means 16; of a larger one the low four bits count
 unfoldable pub placesOf : ℕ → ℕ

@@ -1,7 +1,5 @@
 -- A number's part of a width of k bits, its sign, and a bit as a number.
-use Prim.Native.Nat.{ℕ, _-_, _%_, _^_}
-use mathlib.Core.Bool.{Bool, cond}
-use lib.Dec.{leb}
+use Rattle.little.specs.Words.{ℕ, _-_, _%_, _^_, Bool, cond, leb}
 
 -- the low k bits of x
 abbrev pub low : ℕ → ℕ → ℕ

@@ -1,13 +1,24 @@
 // INC and DEC.
 ghost use mathlib.Core.Path.{_≡_};
 ghost use Rattle.little.specs.Width.{bitsOf};
-ghost use Rattle.alu.specs.Count.{countedOf, incOf, decOf};
+ghost use Rattle.alu.specs.Count.{stepsOf, countedOf, incOf, decOf};
 ghost use Rattle.alu.specs.Flag.{keepingC};
 use crate::Computed;
 use crate::Flags;
 use crate::sum::add;
 use crate::sum::sub;
 use little::Size;
+
+// By how many a code counts: 0 means 8.
+pub fn steps_of(n: u8) -> u32
+    ensures { λ r. ⌜ r ≡ stepsOf n ⌝ }
+{
+    let m = n % 8;
+    if m == 0 {
+        return 8;
+    }
+    m as u32
+}
 
 // The flags of a result, with a carry that is kept.
 fn keeping_c(old: Flags, f: Flags) -> Flags

@@ -3,6 +3,7 @@ ghost use mathlib.Core.Path.{_≡_};
 ghost use Prim.Native.Nat.{_*_, _≤_};
 ghost use Rattle.alu.specs.Width.{one};
 ghost use Rattle.alu.specs.Flag.{byteOf, flagsOf, carried, rcfOf, scfOf, ccfOf, zcfOf, copiedOf, comparedOf};
+use crate::Computed;
 use crate::Flags;
 
 fn weight(b: bool, w: u8) -> u8
@@ -21,6 +22,15 @@ pub fn pack(f: Flags) -> u8
         + weight(f.v, 4)
         + weight(f.n, 2)
         + weight(f.c, 1)
+}
+
+// The value of a result; its flags go into F.
+pub fn settled(w: Computed, flags: &mut u8) -> u32
+    ensures { λ r. ⌜ (r ≡ w .value) × (now (flags .exit) ≡ byteOf (w .flags)) ⌝ }
+{
+    let after = w.flags;
+    *flags = pack(after);
+    w.value
 }
 
 pub fn unpack(f: u8) -> Flags

@@ -1,23 +1,12 @@
 -- Copies and compares: one round, and whether a repeating form goes on after it.
-use Prim.Native.Nat.{ℕ}
-use mathlib.Core.List.{List}
-use mathlib.Core.Bool.{Bool, false, cond, not, _&&_}
-use lib.Dec.{eqb}
-use Rattle.little.specs.declared.Size.{Size}
+use Rattle.little.specs.Words.{ℕ, List, Bool, false, cond, not, _&&_, eqb}
+use Rattle.little.specs.{declared.Size.Size, Width.bitsOf, Width.bytesOf}
 use Rattle.little.specs.declared.Size.the-variants.{Byte, Word, Long}
-use Rattle.little.specs.Width.{bitsOf, bytesOf}
-use Rattle.alu.specs.Flag.{copiedOf, comparedOf}
-use Rattle.alu.specs.Sums.{differenceOf}
+use Rattle.alu.specs.{Flag.copiedOf, Flag.comparedOf, Sums.differenceOf}
 use Rattle.code.specs.declared.Form.{Form}
 use Rattle.memory.specs.Access.{loadOf}
-use Rattle.state.specs.State.{withCounter}
-use Rattle.state.specs.Register.{registerAt, getRegister, setRegister}
-use Rattle.state.specs.declared.Bank.{Bank}
-use Rattle.state.specs.declared.State.{State}
-use Rattle.operand.specs.Try.{Try, did, withLoaded}
-use Rattle.operand.specs.Operand.{pointerOf, storing}
-use Rattle.operand.specs.Round.{less, plus}
-use Rattle.operand.specs.Flag.{flagsIn, flagged}
+use Rattle.state.specs.{declared.Bank.Bank, declared.State.State, State.withCounter, Register.registerAt, Register.getRegister, Register.setRegister}
+use Rattle.operand.specs.{Try.Try, Try.did, Try.withLoaded, Operand.pointerOf, Operand.storing, Round.less, Round.plus, Flag.flagsIn, Flag.flagged}
 
 -- BC, the word register of code 1
 abbrev pub countIn : State → ℕ

@@ -7,15 +7,17 @@ ghost use Rattle.little.specs.Width.{bitsOf};
 ghost use Rattle.alu.specs.Sums.{differenceOf};
 ghost use Rattle.state.specs.declared.State.{State};
 ghost use Rattle.state.specs.Register.{registerAt};
-ghost use Rattle.state.specs.State.{banked, bankedWith, bankedAtWith};
-ghost use Rattle.operand.specs.Try.{Does};
+ghost use Rattle.state.specs.State.{banked};
+ghost use Rattle.state.specs.inner.Lent.{bankedWith, bankedAtWith};
+ghost use Rattle.operand.specs.inner.Does.{Does};
 ghost use Rattle.operand.specs.Operand.{pointerOf, storing};
 ghost use Rattle.memory.specs.Place.{placeOf};
-ghost use Rattle.block.specs.Again.{inRom, againOf};
+ghost use Rattle.block.specs.inner.Again.{inRom, againOf};
 ghost use Rattle.block.specs.Block.{counted, steppedOf, moved, copied, accumulatorIn, compared, roundOf, goesOn, endsAt};
 use alu::Computed;
 use answer::Answer;
 use code::Form;
+use little::ADDRESSES;
 use little::Size;
 use memory::Loaded;
 use memory::Place;
@@ -184,7 +186,7 @@ pub fn ended(f: Form, at: u32, bank: Bank, flags: u8, regs: &[u32; 20], counter:
         ≡ endsAt f at (bankedAtWith s (now (regs .entry)) bank counter flags)) ⌝ }
 {
     if goes_on(f, bank, flags, regs) {
-        return at % 16777216;
+        return at % ADDRESSES;
     }
     counter
 }

@@ -1,5 +1,5 @@
 -- Each example of the table ends as it stands there.
-use lib.Dec.{T}
+use mathlib.Core.Path.{refl}
 use Rattle.little.specs.Bytes.{valueOf, bytesFrom, replaced}
 use Rattle.memory.specs.Place.{placeOf}
 use Rattle.memory.specs.Access.{loadOf, storeOf, ramAfter, codeAt}
@@ -25,11 +25,13 @@ use Rattle.operand.specs.Flag.{flagged}
 use Rattle.control.specs.Control.{jumpOf, controlOf}
 use Rattle.block.specs.Block.{counted, moved, copied, compared, roundOf, goesOn, endsAt}
 use Rattle.compute.specs.Compute.{putsOf}
-use Rattle.step.specs.Exec.{pastOf, effectOf, executedOf}
-use Rattle.step.specs.Step.{guarded, onceOf, tryOf, stepOf}
-use Rattle.alu.specs.Cases.{every}
-use Rattle.cases.specs.Examples.{given, sameBytes, reaches, right, bookExamples}
+use Rattle.exec.specs.Exec.{pastOf, effectOf, executedOf}
+use Rattle.turn.specs.Once.{onceOf}
+use Rattle.step.specs.Step.{guarded, tryOf}
+use Rattle.turn.specs.Many.{manyOf}
+use Rattle.run.specs.Run.{runOf}
+use Rattle.cases.specs.Examples.{bookExamples, ExamplesHold}
 
-pub examples-hold : T (every right bookExamples)
-unfolding valueOf bytesFrom replaced placeOf loadOf storeOf ramAfter codeAt zeroState validOf longOf withLong withCounter withBank withBothFlags withFlags getBits setBits slotIn setSlot slotOf registerAt setRegister byteOf flagsOf basic holdsOf onesOf evenOnes parityOf computedOf sumOf differenceOf plain andOf orOf xorOf operated placesOf shiftBy shiftOf incOf decOf extzOf extsOf numberAt judge lookup placesRows registerRows memoryRows storeRows copies compares blocks indirectRows bankNumberRows bankRows flagRows constantRows stackRows jumpRows relativeRows registerFormRows absoluteRows memoryFormRows memoryAtRows storeFormRows aloneRows memoryFirstRows firstRows decodeOf addressIn valueIn storing pushOf popOf flagged jumpOf counted moved copied compared roundOf goesOn endsAt pastOf controlOf stackOf putsOf effectOf executedOf guarded onceOf tryOf stepOf given sameBytes reaches right every bookExamples
-examples-hold = tt
+pub examples-hold : ExamplesHold
+unfolding valueOf bytesFrom replaced placeOf loadOf storeOf ramAfter codeAt zeroState validOf longOf withLong withCounter withBank withBothFlags withFlags getBits setBits slotIn setSlot slotOf registerAt setRegister byteOf flagsOf basic holdsOf onesOf evenOnes parityOf computedOf sumOf differenceOf plain andOf orOf xorOf operated placesOf shiftBy shiftOf incOf decOf extzOf extsOf numberAt judge lookup placesRows registerRows memoryRows storeRows copies compares blocks indirectRows bankNumberRows bankRows flagRows constantRows stackRows jumpRows relativeRows registerFormRows absoluteRows memoryFormRows memoryAtRows storeFormRows aloneRows memoryFirstRows firstRows decodeOf addressIn valueIn storing pushOf popOf flagged jumpOf counted moved copied compared roundOf goesOn endsAt pastOf controlOf stackOf putsOf effectOf executedOf guarded onceOf tryOf manyOf runOf bookExamples
+examples-hold = (refl, (refl, (refl, (refl, (refl, (refl, (refl, (refl, (refl, (refl, (refl, (refl, (refl, (refl, (refl, (refl, (refl, (refl, (refl, (refl, (refl, (refl, (refl, (refl, (refl, (refl, (refl, (refl, (refl, (refl, (refl, (refl, (refl, (refl, (refl, (refl, (refl, (refl, (refl, (refl, (refl, (refl, (refl, tt)))))))))))))))))))))))))))))))))))))))))))

@@ -1,7 +1,7 @@
 -- BC 0 with memories of 65,536 bytes: the starts meet what demand 3 supposes. The tests would be too long to compute, so laws do it.
-use Prim.Native.Nat.{ℕ, zero, suc, _+_, _-_, _*_, _%_, _^_, _<_}
+use Prim.Native.Nat.{ℕ, zero, suc, _+_, _-_, _*_, _%_, _^_, _<_, _≤_}
 use mathlib.Core.Path.{_≡_, refl, ap, sym, _∙_}
-use mathlib.Core.Logic.{inl}
+use mathlib.Core.Logic.{inl, _≢_}
 use mathlib.Core.List.{List, [], _∷_}
 use native.Mathlib.Omega.{arith}
 use native.Mathlib.Nat.{mod-eq-of-lt, mul-one, zero-add}
@@ -11,21 +11,20 @@ use Rattle.little.specs.Bytes.{valueOf}
 use Rattle.memory.specs.Place.{placeOf}
 use Rattle.memory.specs.Access.{loadOf, loadFrom, codeAt}
 use Rattle.memory.specs.declared.Place.{Place}
-use Rattle.memory.specs.declared.Place.the-variants.{Ram, Rom}
+use Rattle.memory.specs.declared.Place.the-variants.{Ram, Rom, Missing}
 use Rattle.memory.specs.declared.Loaded.the-variants.{Value}
 use Rattle.memory.proofs.Laws.{place-ram, place-rom}
 use Rattle.state.specs.State.{resetState, validOf, longOf, withLong, withCounter, withBothFlags, withFlags}
 use Rattle.state.specs.Register.{getBits, setBits, slotIn, setSlot, slotOf, registerAt, getRegister, setRegister}
+use Rattle.state.proofs.Sound.{fits}
 use Rattle.code.specs.Said.{judge}
 use Rattle.code.specs.Rows.{lookup}
 use Rattle.code.specs.Memory.{memoryRows, copies, compares, blocks, indirectRows}
 use Rattle.code.specs.Listed.{bankRows, flagRows, constantRows, stackRows, jumpRows, relativeRows, registerFormRows, absoluteRows, memoryFormRows, memoryAtRows, storeFormRows, aloneRows, memoryFirstRows, firstRows, decodeOf}
-use Rattle.run.specs.Repeat.{At, ElementsThere, TargetsInRam, Spares, NoneEqual, countOf, passed, elementOf, targetOf}
-use Rattle.cases.specs.Table.{filled, begin}
+use Rattle.run.specs.Demand.{At, Spares, EqualAt, Passes, atCount, countOf, passed, elementOf, targetOf, elementPlace}
+use Rattle.cases.specs.Table.{machine, begin}
 use Rattle.cases.specs.Evidence.{ldir, cpir, fullRam, fullRom, seekRom, fullCopy, fullSeek, StartMet, tells}
-use Rattle.run.specs.Endings.{atCount}
-use Rattle.run.proofs.Demand.{copy-none}
-use Rattle.cases.proofs.Tests.{fits, at-by}
+use Rattle.cases.proofs.Tests.{at-by}
 
 -- ---- the memories and the registers
 full-ram : length fullRam ≡ 65536
@@ -41,19 +40,19 @@ unfolding fullRam
 full-zero i h = getD-replicate 65536 i 0 0 h
 
 copy-count : countOf fullCopy ≡ 65536
-unfolding countOf fullCopy filled begin resetState longOf withLong withCounter withBothFlags withFlags getBits setBits slotIn setSlot slotOf registerAt setRegister
+unfolding countOf fullCopy begin resetState longOf withLong withCounter withBothFlags withFlags getBits setBits slotIn setSlot slotOf registerAt setRegister
 copy-count = refl
 
 seek-count : countOf fullSeek ≡ 65536
-unfolding countOf fullSeek filled begin resetState longOf withLong withCounter withBothFlags withFlags getBits setBits slotIn setSlot slotOf registerAt setRegister
+unfolding countOf fullSeek begin resetState longOf withLong withCounter withBothFlags withFlags getBits setBits slotIn setSlot slotOf registerAt setRegister
 seek-count = refl
 
 copy-at : At ldir fullCopy fullRam fullRom
-unfolding fits fullRam fullRom fullCopy filled begin resetState validOf longOf withLong withCounter withBothFlags withFlags getBits setBits slotIn setSlot slotOf registerAt setRegister placeOf codeAt judge lookup memoryRows copies compares blocks indirectRows bankRows flagRows constantRows stackRows jumpRows relativeRows registerFormRows absoluteRows memoryFormRows memoryAtRows storeFormRows aloneRows memoryFirstRows firstRows decodeOf
+unfolding fits fullRam fullRom fullCopy begin resetState validOf longOf withLong withCounter withBothFlags withFlags getBits setBits slotIn setSlot slotOf registerAt setRegister placeOf codeAt judge lookup memoryRows copies compares blocks indirectRows bankRows flagRows constantRows stackRows jumpRows relativeRows registerFormRows absoluteRows memoryFormRows memoryAtRows storeFormRows aloneRows memoryFirstRows firstRows decodeOf
 copy-at = at-by ldir fullCopy fullRam fullRom tt refl refl refl
 
 seek-at : At cpir fullSeek fullRam seekRom
-unfolding fits fullRam seekRom fullSeek filled begin resetState validOf longOf withLong withCounter withBothFlags withFlags getBits setBits slotIn setSlot slotOf registerAt setRegister placeOf codeAt judge lookup memoryRows copies compares blocks indirectRows bankRows flagRows constantRows stackRows jumpRows relativeRows registerFormRows absoluteRows memoryFormRows memoryAtRows storeFormRows aloneRows memoryFirstRows firstRows decodeOf
+unfolding fits fullRam seekRom fullSeek begin resetState validOf longOf withLong withCounter withBothFlags withFlags getBits setBits slotIn setSlot slotOf registerAt setRegister placeOf codeAt judge lookup memoryRows copies compares blocks indirectRows bankRows flagRows constantRows stackRows jumpRows relativeRows registerFormRows absoluteRows memoryFormRows memoryAtRows storeFormRows aloneRows memoryFirstRows firstRows decodeOf
 seek-at = at-by cpir fullSeek fullRam seekRom tt refl refl refl
 
 -- ---- the elements and the targets
@@ -65,38 +64,38 @@ near x i h =
     ∙ mod-eq-of-lt h
 
 copy-element : (i : ℕ) → i < 65536 → elementOf ldir fullCopy i ≡ 0xFF0000 + i
-unfolding passed fullCopy filled begin resetState longOf withLong withCounter withBothFlags withFlags getBits setBits slotIn setSlot slotOf registerAt setRegister
+unfolding passed fullCopy begin resetState longOf withLong withCounter withBothFlags withFlags getBits setBits slotIn setSlot slotOf registerAt setRegister
 copy-element i h = near 0xFF0000 i (omega arith)
 
 copy-target : (i : ℕ) → i < 65536 → targetOf ldir fullCopy i ≡ i
-unfolding passed fullCopy filled begin resetState longOf withLong withCounter withBothFlags withFlags getBits setBits slotIn setSlot slotOf registerAt setRegister
+unfolding passed fullCopy begin resetState longOf withLong withCounter withBothFlags withFlags getBits setBits slotIn setSlot slotOf registerAt setRegister
 copy-target i h = near 0 i (omega arith) ∙ zero-add i
 
 seek-element : (i : ℕ) → i < 65536 → elementOf cpir fullSeek i ≡ i
-unfolding passed fullSeek filled begin resetState longOf withLong withCounter withBothFlags withFlags getBits setBits slotIn setSlot slotOf registerAt setRegister
+unfolding passed fullSeek begin resetState longOf withLong withCounter withBothFlags withFlags getBits setBits slotIn setSlot slotOf registerAt setRegister
 seek-element i h = near 0 i (omega arith) ∙ zero-add i
 
-copy-there : ElementsThere 65536 ldir fullCopy fullRam fullRom
+copy-there : (i : ℕ) → i < 65536 → elementPlace ldir fullCopy fullRam fullRom i ≢ Missing
 copy-there i h e =
     let p : placeOf (length fullRam) (length fullRom) (elementOf ldir fullCopy i) 1 ≡ Rom (0xFF0000 + i + 65536 - 2 ^ 24) =
     rw (full-ram, full-rom, copy-element i h) (place-rom 65536 65536 (0xFF0000 + i) 1 (omega arith) (omega arith) (omega arith)) in
     let z : _≡_ {A = ℕ} 0 1 = cc in
     omega arith
 
-copy-writable : TargetsInRam 65536 ldir fullCopy fullRam
-copy-writable c i h = rw (full-ram, copy-target i h) (omega arith)
+copy-writable : (i : ℕ) → i < 65536 → targetOf ldir fullCopy i + 1 ≤ length fullRam
+copy-writable i h = rw (full-ram, copy-target i h) (omega arith)
 
 copy-counter : fullCopy .counter ≡ 0xFF0000
-unfolding fullCopy filled begin resetState withLong withCounter withBothFlags setSlot setRegister
+unfolding fullCopy begin resetState withLong withCounter withBothFlags setSlot setRegister
 copy-counter = refl
 
-copy-spares : Spares 65536 ldir fullCopy
+copy-spares : Spares ldir fullCopy 65536
 copy-spares c i h = inl (rw (copy-target i h, copy-counter) (omega arith))
 
 seek-place : (i : ℕ) → i < 65536 → placeOf (length fullRam) (length seekRom) (elementOf cpir fullSeek i) 1 ≡ Ram i
 seek-place i h = rw (full-ram, seek-element i h) (place-ram 65536 (length seekRom) i 1 (omega arith))
 
-seek-there : ElementsThere 65536 cpir fullSeek fullRam seekRom
+seek-there : (i : ℕ) → i < 65536 → elementPlace cpir fullSeek fullRam seekRom i ≢ Missing
 seek-there i h e =
     let p = seek-place i h in
     let z : _≡_ {A = ℕ} 0 1 = cc in
@@ -114,22 +113,27 @@ unfolding loadOf
 seek-loads i h = ap (λ (p : Place). loadFrom p fullRam seekRom 1) (seek-place i h) ∙ ap Value (first-of fullRam i ∙ full-zero i h)
 
 seek-one : getRegister fullSeek Byte 1 ≡ 1
-unfolding fullSeek filled begin resetState longOf withLong withCounter withBothFlags withFlags getBits setBits slotIn setSlot slotOf registerAt setRegister
+unfolding fullSeek begin resetState longOf withLong withCounter withBothFlags withFlags getBits setBits slotIn setSlot slotOf registerAt setRegister
 seek-one = refl
 
-seek-none : NoneEqual 65536 cpir fullSeek fullRam seekRom
+seek-none : (i : ℕ) → i < 65536 → EqualAt cpir fullSeek fullRam seekRom i → ⊥
 seek-none i h q =
     let a = sym (seek-loads i h) ∙ q .1 ∙ ap Value seek-one in
     let z : _≡_ {A = ℕ} 0 1 = cc in
     omega arith
 
-pub copy-met : StartMet (tells ldir fullCopy fullRam fullRom atCount 65536)
-copy-met = (copy-at, rw copy-count (copy-there, copy-writable, copy-none 65536 ldir fullCopy fullRam fullRom refl), copy-count, copy-spares)
-
-pub seek-met : StartMet (tells cpir fullSeek fullRam seekRom atCount 65536)
-seek-met = (
-  seek-at,
-  rw seek-count (seek-there, (λ c. let z : _≡_ {A = ℕ} 0 1 = cc in absurd (omega arith)), seek-none),
-  seek-count,
-  λ c. let z : _≡_ {A = ℕ} 0 1 = cc in absurd (omega arith),
+copy-passes : Passes ldir fullCopy fullRam fullRom 65536
+copy-passes i h = (
+  copy-there i h,
+  (λ c. copy-writable i h),
+  λ q. let b = q .0 in let z : _≡_ {A = ℕ} 0 1 = cc in omega arith,
 )
+
+seek-passes : Passes cpir fullSeek fullRam seekRom 65536
+seek-passes i h = (seek-there i h, (λ c. let z : _≡_ {A = ℕ} 0 1 = cc in absurd (omega arith)), seek-none i h)
+
+pub copy-met : StartMet (tells ldir (machine fullCopy fullRam) fullRom atCount 65536)
+copy-met = (copy-at, rw copy-count copy-passes, copy-count, copy-spares)
+
+pub seek-met : StartMet (tells cpir (machine fullSeek fullRam) seekRom atCount 65536)
+seek-met = (seek-at, rw seek-count seek-passes, seek-count, λ c. let z : _≡_ {A = ℕ} 0 1 = cc in absurd (omega arith))

@@ -25,12 +25,20 @@ use Rattle.control.specs.Control.{jumpOf, controlOf}
 use Rattle.block.specs.Block.{counted, moved, copied, compared, roundOf, goesOn, endsAt}
 use Rattle.stack.specs.Stack.{stackOf}
 use Rattle.compute.specs.Compute.{putsOf}
-use Rattle.step.specs.Exec.{pastOf, effectOf, executedOf}
-use Rattle.step.specs.Step.{guarded, onceOf, tryOf}
-use Rattle.run.specs.Run.{goOf, runOf}
-use Rattle.cases.specs.Table.{Hold, filled, begin}
+use Rattle.exec.specs.Exec.{pastOf, effectOf, executedOf}
+use Rattle.turn.specs.Once.{onceOf}
+use Rattle.step.specs.Step.{guarded, tryOf}
+use Rattle.turn.specs.Many.{manyOf}
+use Rattle.run.specs.Run.{runOf}
+use Rattle.cases.specs.Table.{begin}
 use Rattle.cases.specs.Runs.{copyRuns, compareRuns, refused, onto, checks, RunsHold}
 
 pub runs-hold : RunsHold
-unfolding Hold filled begin copyRuns compareRuns refused onto checks byteOf flagsOf basic holdsOf onesOf evenOnes parityOf computedOf sumOf differenceOf plain andOf orOf xorOf operated placesOf shiftOf shiftBy incOf decOf valueOf bytesFrom replaced placeOf loadOf storeOf ramAfter codeAt resetState validOf longOf withLong withCounter withBank withBothFlags withFlags getBits setBits slotIn setSlot slotOf registerAt setRegister numberAt judge lookup placesRows registerRows memoryRows memory.copies memory.compares blocks indirectRows bankRows flagRows constantRows stackRows jumpRows relativeRows registerFormRows memoryFormRows memoryAtRows absoluteRows storeFormRows aloneRows memoryFirstRows firstRows decodeOf valueIn storing flagged jumpOf counted moved copied compared roundOf goesOn endsAt pastOf controlOf stackOf putsOf effectOf executedOf guarded onceOf tryOf goOf runOf
-runs-hold = ((refl, (refl, (refl, (refl, (refl, tt))))), (refl, (refl, (refl, (refl, (refl, (refl, (refl, (refl, tt)))))))), (refl, (refl, (refl, (refl, tt)))), (refl, (refl, tt)), (refl, (refl, (refl, (refl, (refl, (refl, tt)))))))
+unfolding begin copyRuns compareRuns refused onto checks byteOf flagsOf basic holdsOf onesOf evenOnes parityOf computedOf sumOf differenceOf plain andOf orOf xorOf operated placesOf shiftOf shiftBy incOf decOf valueOf bytesFrom replaced placeOf loadOf storeOf ramAfter codeAt resetState validOf longOf withLong withCounter withBank withBothFlags withFlags getBits setBits slotIn setSlot slotOf registerAt setRegister numberAt judge lookup placesRows registerRows memoryRows memory.copies memory.compares blocks indirectRows bankRows flagRows constantRows stackRows jumpRows relativeRows registerFormRows memoryFormRows memoryAtRows absoluteRows storeFormRows aloneRows memoryFirstRows firstRows decodeOf valueIn storing flagged jumpOf counted moved copied compared roundOf goesOn endsAt pastOf controlOf stackOf putsOf effectOf executedOf guarded onceOf tryOf manyOf runOf
+runs-hold = (
+  (refl, (refl, (refl, (refl, (refl, tt))))),
+  (refl, (refl, (refl, (refl, (refl, (refl, (refl, (refl, tt)))))))),
+  (refl, (refl, (refl, (refl, tt)))),
+  (refl, (refl, tt)),
+  (refl, (refl, (refl, (refl, (refl, (refl, tt)))))),
+)

@@ -2,11 +2,11 @@
 use Prim.Native.Nat.{ℕ, zero, suc, _+_, _-_, _^_, _<_, _≤_}
 use mathlib.Core.Path.{_≡_, refl, ap, sym, subst}
 use mathlib.Core.Logic.{_⊎_, inl, inr, ⊎-elim}
-use mathlib.Core.List.{List, [], _∷_}
+use mathlib.Core.List.{List}
 use mathlib.Core.Bool.{Bool, true, false, not, _&&_, _||_}
 use native.Mathlib.Omega.{arith}
-use lib.Dec.{T, T-not, leb, ltb, eqb, leb→le, ltb→lt, eqb→eq, eqb-refl}
-use lib.ListN.{length, getD}
+use lib.Dec.{T, T-not, leb, ltb, eqb, leb→le, ltb→lt, eqb-refl}
+use lib.ListN.{length}
 use Rattle.answer.specs.declared.Why.{Why}
 use Rattle.little.specs.Width.{bytesOf}
 use Rattle.memory.specs.Access.{loadOf, codeAt}
@@ -15,8 +15,8 @@ use Rattle.memory.specs.declared.Place.the-variants.{Ram, Rom, Missing}
 use Rattle.memory.specs.declared.Loaded.{Loaded}
 use Rattle.memory.specs.declared.Loaded.the-variants.{Value, Refused}
 use Rattle.state.specs.State.{validOf}
-use Rattle.state.specs.Sound.{Sound}
 use Rattle.state.specs.declared.State.{State}
+use Rattle.state.proofs.Sound.{and-left, and-right, fits, fits-says, soundTest, sound-by}
 use Rattle.code.specs.Listed.{decodeOf}
 use Rattle.code.specs.Memory.{form}
 use Rattle.code.specs.declared.Form.{Form}
@@ -25,17 +25,9 @@ use Rattle.code.specs.declared.Op.the-variants.{Blocks}
 use Rattle.code.specs.declared.Instruction.{Instruction}
 use Rattle.code.specs.declared.Decoded.the-variants.{Whole}
 use Rattle.block.specs.Block.{accumulator}
-use Rattle.run.specs.Repeat.{At, Spares, EqualAt, RefusedAt, elementOf, targetOf, elementPlace, countOf}
-use Rattle.run.specs.Endings.{atCount, atEqual, atRefusal, Passes}
+use Rattle.run.specs.Demand.{At, Spares, EqualAt, RefusedAt, elementOf, targetOf, elementPlace, countOf, atCount, atEqual, atRefusal, Passes}
+use Rattle.cases.specs.Table.{Machine}
 use Rattle.cases.specs.Evidence.{StartMet, tells}
-
-and-left : (a b : Bool) → T (a && b) → T a
-and-left true b t = tt
-and-left false b t = t
-
-and-right : (a b : Bool) → T (a && b) → T b
-and-right true b t = t
-and-right false b t = absurd t
 
 or-says : (a b : Bool) → T (a || b) → T a ⊎ T b
 or-says true b t = inl tt
@@ -45,7 +37,7 @@ either-le : (a b c d : ℕ) → T (leb a b || leb c d) → (a ≤ b) ⊎ (c ≤ 
 either-le a b c d t =
     ⊎-elim (λ (l : T (leb a b)). inl (leb→le a b l)) (λ (r : T (leb c d)). inr (leb→le c d r)) (or-says (leb a b) (leb c d) t)
 
--- ---- every number below n, and every number of a list
+-- ---- every number below n
 unfoldable pub below : ℕ → (ℕ → Bool) → Bool
 below zero p = true
 below (suc n) p = p 0 && below n (λ i. p (suc i))
@@ -55,16 +47,6 @@ unfolding below
 below-says zero p t i h = absurd (omega arith)
 below-says (suc n) p t zero h = and-left (p 0) (below n (λ i. p (suc i))) t
 below-says (suc n) p t (suc i) h = below-says n (λ j. p (suc j)) (and-right (p 0) (below n (λ j. p (suc j))) t) i (omega arith)
-
-unfoldable pub fits : ℕ → List ℕ → Bool
-fits m [] = true
-fits m (x ∷ l) = ltb x m && fits m l
-
-pub fits-says : (m : ℕ) → 0 < m → (l : List ℕ) → T (fits m l) → (i : ℕ) → getD l i 0 < m
-unfolding fits
-fits-says m h [] t i = h
-fits-says m h (x ∷ l) t zero = ltb→lt x m (and-left (ltb x m) (fits m l) t)
-fits-says m h (x ∷ l) t (suc i) = fits-says m h l (and-right (ltb x m) (fits m l) t) i
 
 -- ---- the elements and the targets of n rounds
 unfoldable pub present : Place → Bool
@@ -98,7 +80,7 @@ module _ (f : Form) (s : State) where
   abbrev pub sparedTest : ℕ → Bool
   sparedTest i = only (f .copies) (leb (targetOf f s i + bytesOf (f .size)) (s .counter) || leb (s .counter + 2) (targetOf f s i))
 
-  pub spared : (n : ℕ) → T (below n sparedTest) → Spares n f s
+  pub spared : (n : ℕ) → T (below n sparedTest) → Spares f s n
   spared n t c i h =
       either-le (targetOf f s i + bytesOf (f .size)) (s .counter) (s .counter + 2) (targetOf f s i)
       (only-says (f .copies) _ (below-says n sparedTest t i h) c)
@@ -117,46 +99,19 @@ module _ (f : Form) (s : State) (ram rom : List ℕ) where
   abbrev pub passTest : ℕ → Bool
   passTest i = thereTest i && (writableTest i && noneTest i)
 
-  pub passes : (n : ℕ) → T (below n passTest) → Passes n f s ram rom
-  passes n t = (
-    (λ i h e. missing-not (subst (λ (p : Place). T (present p)) e (and-left (thereTest i) _ (below-says n passTest t i h)))),
-    (λ c i h. leb→le _ _ (only-says (f .copies) _ (and-left (writableTest i) (noneTest i) (both i h)) c)),
-    λ i h q.
-        value-not (accumulator s (f .size))
-        (subst (λ (l : Loaded). T (differs l (accumulator s (f .size)))) (q .1)
-        (only-says (not (f .copies)) _ (and-right (writableTest i) (noneTest i) (both i h)) (ap not (q .0)))),
-  )
-    where
-      both : (i : ℕ) → i < n → T (writableTest i && noneTest i)
-      both i h = and-right (thereTest i) _ (below-says n passTest t i h)
+  pub passes : (n : ℕ) → T (below n passTest) → Passes f s ram rom n
+  passes n t i h =
+      let each = below-says n passTest t i h in
+      let both = and-right (thereTest i) _ each in (
+        (λ e. missing-not (subst (λ (p : Place). T (present p)) e (and-left (thereTest i) _ each))),
+        (λ c. leb→le _ _ (only-says (f .copies) _ (and-left (writableTest i) (noneTest i) both) c)),
+        λ q.
+            value-not (accumulator s (f .size))
+            (subst (λ (l : Loaded). T (differs l (accumulator s (f .size)))) (q .1)
+            (only-says (not (f .copies)) _ (and-right (writableTest i) (noneTest i) both) (ap not (q .0)))),
+      )
 
--- ---- the state, and the instruction at its counter
-abbrev pub soundTest : State → Bool
-soundTest s =
-    eqb (length (s .registers)) 20
-    && (fits (2 ^ 32) (s .registers)
-    && (ltb (s .counter) (2 ^ 32)
-    && (ltb (s .bank .0) (2 ^ 8)
-    && (ltb (s .level .0) (2 ^ 8)
-    && (ltb (s .flags) (2 ^ 8) && ltb (s .spare) (2 ^ 8))))))
-
-sound-by : (s : State) → T (soundTest s) → Sound s
-sound-by s t =
-    let a = and-right (eqb (length (s .registers)) 20) _ t in
-    let b = and-right (fits (2 ^ 32) (s .registers)) _ a in
-    let c = and-right (ltb (s .counter) (2 ^ 32)) _ b in
-    let d = and-right (ltb (s .bank .0) (2 ^ 8)) _ c in
-    let e = and-right (ltb (s .level .0) (2 ^ 8)) _ d in
-    record {
-      twenty = eqb→eq _ _ (and-left (eqb (length (s .registers)) 20) _ t);
-      fit = fits-says (2 ^ 32) (omega arith) (s .registers) (and-left (fits (2 ^ 32) (s .registers)) _ a);
-      counter-fit = ltb→lt _ _ (and-left (ltb (s .counter) (2 ^ 32)) _ b);
-      bank-fit = ltb→lt _ _ (and-left (ltb (s .bank .0) (2 ^ 8)) _ c);
-      level-fit = ltb→lt _ _ (and-left (ltb (s .level .0) (2 ^ 8)) _ d);
-      flags-fit = ltb→lt _ _ (and-left (ltb (s .flags) (2 ^ 8)) _ e);
-      spare-fit = ltb→lt _ _ (and-right (ltb (s .flags) (2 ^ 8)) _ e);
-    }
-
+-- ---- the machine, and the instruction at its counter
 abbrev pub block : Form → Instruction
 block f = record { op = Blocks f; size = f .size; operand = form (Indirect (f .from)) 0; length = 2 }
 
@@ -185,23 +140,30 @@ module _ (f : Form) (s : State) (ram rom : List ℕ) where
         repeats = again;
       }
 
-  -- ---- a start that tells each ending
-  module _ (t : T atTest) (v : validOf s ≡ true) (h : decodeOf (codeAt ram rom (s .counter)) ≡ Whole (block f)) (a : f .again ≡ true) where
+-- ---- a start that tells each ending
+module _ (f : Form) (x : Machine) (rom : List ℕ) where
+  abbrev s : State
+  s = x .state
+
+  abbrev ram : List ℕ
+  ram = x .ram
+
+  module _ (t : T (atTest f s ram rom)) (v : validOf s ≡ true) (h : decodeOf (codeAt ram rom (s .counter)) ≡ Whole (block f)) (a : f .again ≡ true) where
     pub count-met :
-        (n : ℕ) → countOf s ≡ n → T (below n (passTest f s ram rom)) → T (below n (sparedTest f s)) → StartMet (tells f s ram rom atCount n)
-    count-met n e x y = (at-by t v h a, subst (λ (k : ℕ). Passes k f s ram rom) (sym e) (passes f s ram rom n x), e, spared f s n y)
+        (n : ℕ) → countOf s ≡ n → T (below n (passTest f s ram rom)) → T (below n (sparedTest f s)) → StartMet (tells f x rom atCount n)
+    count-met n e y z = (at-by f s ram rom t v h a, subst (λ (k : ℕ). Passes f s ram rom k) (sym e) (passes f s ram rom n y), e, spared f s n z)
 
     pub equal-met :
         (i : ℕ) → T (ltb i (countOf s)) → T (below i (passTest f s ram rom)) → EqualAt f s ram rom i
-        → StartMet (tells f s ram rom (atEqual i) (i + 1))
-    equal-met i l x q = (
-      at-by t v h a,
-      (ltb→lt i (countOf s) l, passes f s ram rom i x, q),
+        → StartMet (tells f x rom (atEqual i) (i + 1))
+    equal-met i l y q = (
+      at-by f s ram rom t v h a,
+      (ltb→lt i (countOf s) l, passes f s ram rom i y, q),
       refl,
       λ c. let b = q .0 in let z : _≡_ {A = ℕ} 0 1 = cc in absurd (omega arith),
     )
 
     pub refusal-met :
         (n : ℕ) {w : Why} → T (ltb n (countOf s)) → T (below n (passTest f s ram rom)) → RefusedAt f s ram rom n w → T (below n (sparedTest f s))
-        → StartMet (tells f s ram rom (atRefusal n w) n)
-    refusal-met n l x r y = (at-by t v h a, (ltb→lt n (countOf s) l, passes f s ram rom n x, r), refl, spared f s n y)
+        → StartMet (tells f x rom (atRefusal n w) n)
+    refusal-met n l y r z = (at-by f s ram rom t v h a, (ltb→lt n (countOf s) l, passes f s ram rom n y, r), refl, spared f s n z)

@@ -1,85 +1,84 @@
 -- How a table of runs is written: what a run starts from, and all that it leaves.
-use Prim.Native.Nat.{ℕ, zero, suc}
-use mathlib.Core.Path.{_≡_}
-use mathlib.Core.List.{List, [], _∷_}
-use Rattle.answer.specs.declared.Answer.the-variants.{Done}
+use Rattle.little.specs.Words.{ℕ, _≡_, List, [], _∷_, replicate}
+use Rattle.answer.specs.declared.{Answer.Answer, Answer.the-variants.Done}
+use Rattle.little.specs.{declared.Size.Size, Bytes.replaced}
 use Rattle.little.specs.declared.Size.the-variants.{Byte, Word, Long}
-use Rattle.state.specs.State.{resetState, withLong, withCounter, withBank, withFlags, withBothFlags}
-use Rattle.state.specs.Register.{setRegister}
-use Rattle.state.specs.declared.State.{State}
-use Rattle.step.specs.Many.{Result, ends}
+use Rattle.state.specs.{declared.State.State, State.resetState, State.lent, State.withCounter, State.withBank, State.withFlags, Register.setRegister}
+use Rattle.turn.specs.Many.{ends}
 use Rattle.run.specs.Run.{runOf}
 
--- a run from a state and two memories, and what it must leave: the state, the bytes of RAM, the count and the answer
-pub record Case : Type 0 where
-  pub start : State
+-- a state, and the bytes of RAM
+pub record Machine : Type 0 where
+  pub state : State
   pub ram : List ℕ
-  pub rom : List ℕ
-  pub steps : ℕ
-  pub left : Result
 
--- every run of a table leaves just that
-unfoldable pub Hold : List Case → Type 0
-Hold [] = Unit {0}
-Hold (c ∷ cs) = (runOf (c .steps) (c .start) (c .ram) (c .rom) ≡ c .left) × Hold cs
+-- these two together
+abbrev pub machine : State → List ℕ → Machine
+machine s ram = record { state = s; ram = ram }
 
--- ---- how a state is written
--- the n first of the twenty registers hold 5A5A5A5A
-unfoldable pub filled : ℕ → State → State
-filled zero s = s
-filled (suc n) s = withLong (filled n s) n 0x5A5A5A5A
+-- this RAM; bank 0, level 7, counter 0 and this F; every register, XSP too, and F' hold what a wrong write would spoil
+unfoldable pub begin : ℕ → List ℕ → Machine
+begin f ram = machine (lent (resetState 0) (replicate 20 0x5A5A5A5A) 0 0 f 0x51) ram
 
--- bank 0, level 7, counter 0 and this F; every register, XSP too, and F' hold what a wrong write would spoil
-unfoldable pub begin : ℕ → State
-begin f = withBothFlags (filled 20 (resetState 0)) f 0x51
+-- what is different in a machine: nothing; one thing and then another; a register, F, the bank or the counter, set to a number;
+-- the bytes of RAM from an address on
+infixl 40 _&_
+pub data Setting : Type 0 where
+  nothing : Setting
+  _&_ : Setting → Setting → Setting
+  A WA BC DE HL IX XDE XHL XIX XIY XSP F Bank Counter : ℕ → Setting
+  Ram : ℕ → List ℕ → Setting
 
--- a state with something changed
+-- a machine with this state in the place of its own; with a register, by its size and code, set
+abbrev pub having : State → Machine → Machine
+having s m = machine s (m .ram)
+
+abbrev pub setting : Size → ℕ → ℕ → Machine → Machine
+setting z r v m = having (setRegister (m .state) z r v) m
+
+-- a machine with something changed
 infixl 30 _▹_
-abbrev pub _▹_ : State → (State → State) → State
-s ▹ change = change s
+abbrev pub _▹_ : Machine → Setting → Machine
+m ▹ nothing = m
+m ▹ (a & b) = m ▹ a ▹ b
+m ▹ A v = setting Byte 1 v m
+m ▹ WA v = setting Word 0 v m
+m ▹ BC v = setting Word 1 v m
+m ▹ DE v = setting Word 2 v m
+m ▹ HL v = setting Word 3 v m
+m ▹ IX v = setting Word 4 v m
+m ▹ XDE v = setting Long 2 v m
+m ▹ XHL v = setting Long 3 v m
+m ▹ XIX v = setting Long 4 v m
+m ▹ XIY v = setting Long 5 v m
+m ▹ XSP v = setting Long 7 v m
+m ▹ F v = having (withFlags (m .state) v) m
+m ▹ Bank n = having (withBank (m .state) n) m
+m ▹ Counter a = having (withCounter (m .state) a) m
+m ▹ Ram o bytes = machine (m .state) (replaced o bytes (m .ram))
 
--- registers by name, F, the bank and the counter, each set to a number
-abbrev pub A : ℕ → State → State
-A v s = setRegister s Byte 1 v
+-- ---- a run of so many steps from a machine and a ROM, and what it must leave: the machine, the count and the answer
+pub record Case : Type 0 where
+  pub steps : ℕ
+  pub start : Machine
+  pub rom : List ℕ
+  pub done : ℕ
+  pub after : Machine
+  pub answer : Answer
 
-abbrev pub WA : ℕ → State → State
-WA v s = setRegister s Word 0 v
+-- a row of a table: of the machine only what is named has changed
+abbrev pub row : ℕ → Machine → List ℕ → ℕ → Setting → Answer → Case
+row steps m rom done change a = record { steps = steps; start = m; rom = rom; done = done; after = m ▹ change; answer = a }
 
-abbrev pub BC : ℕ → State → State
-BC v s = setRegister s Word 1 v
+-- all steps are done, with no ROM
+abbrev pub does : ℕ → Machine → Setting → Case
+does steps m change = row steps m [] steps change Done
 
-abbrev pub XDE : ℕ → State → State
-XDE v s = setRegister s Long 2 v
+-- the run leaves just that
+abbrev pub ComesOut : Case → Type 0
+ComesOut c = runOf (c .steps) (c .start .state) (c .start .ram) (c .rom) ≡ ends (c .done) (c .after .state) (c .after .ram) (c .answer)
 
-abbrev pub XHL : ℕ → State → State
-XHL v s = setRegister s Long 3 v
-
-abbrev pub HL : ℕ → State → State
-HL v s = setRegister s Word 3 v
-
-abbrev pub IX : ℕ → State → State
-IX v s = setRegister s Word 4 v
-
-abbrev pub XIX : ℕ → State → State
-XIX v s = setRegister s Long 4 v
-
-abbrev pub XIY : ℕ → State → State
-XIY v s = setRegister s Long 5 v
-
-abbrev pub F : ℕ → State → State
-F v s = withFlags s v
-
-abbrev pub Bank : ℕ → State → State
-Bank n s = withBank s n
-
-abbrev pub Counter : ℕ → State → State
-Counter a s = withCounter s a
-
--- ---- how a row is written
--- a row of a table
-abbrev pub row : State → List ℕ → List ℕ → ℕ → Result → Case
-row s ram rom steps left = record { start = s; ram = ram; rom = rom; steps = steps; left = left }
-
--- RAM and no ROM, all steps are done and RAM is as it was; of the state only what is named has changed
-abbrev pub leavesRam : List ℕ → ℕ → State → (State → State) → Case
-leavesRam ram steps s change = row s ram [] steps (ends steps (s ▹ change) ram Done)
+-- something holds of each of a list
+abbrev pub OfEach : {X : Type 0} → (X → Type 0) → List X → Type 0
+OfEach P [] = Unit {0}
+OfEach P (x ∷ l) = P x × OfEach P l

@@ -14,7 +14,7 @@ use Rattle.code.specs.declared.Operand.{Operand}
 use Rattle.code.specs.Said.{Said, unlisted}
 use Rattle.code.specs.Rows.{Row, has, lookup}
 use Rattle.code.specs.Memory.{memoryRows, storeRows, copies, compares, copy, compare, blocks, blockRows}
-use Rattle.code.specs.Listed.{sizeOf, rowsBegun}
+use Rattle.code.specs.inner.Parts.{sizeOf, rowsBegun}
 use Rattle.code.proofs.Groups.{in-group}
 use Rattle.code.proofs.Tables.{in-arm}
 use Rattle.code.proofs.Holds.{both-true, either-true}

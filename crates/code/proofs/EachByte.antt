@@ -9,11 +9,10 @@ use Rattle.little.specs.Width.{bytesOf}
 use Rattle.little.specs.declared.Size.{Size}
 use Rattle.little.specs.declared.Size.the-variants.{Byte, Word, Long}
 use Rattle.alu.specs.declared.Arith.{Arith}
-use Rattle.alu.specs.declared.Shift.{Shift}
 use Rattle.code.specs.declared.Op.the-variants.{Controls, Stacks, Puts, Sets}
 use Rattle.code.specs.declared.Control.the-variants.{Ldf, Jr, Jrl}
 use Rattle.code.specs.declared.Stack.the-variants.{Push, Pop}
-use Rattle.code.specs.declared.Use.the-variants.{Number, From, Load, Compute, Inc, Dec, Shifted, Extz, Exts}
+use Rattle.code.specs.declared.Use.the-variants.{Number, From, Load, Compute}
 use Rattle.code.specs.declared.Side.the-variants.{First, Second, With}
 use Rattle.code.specs.declared.Base.{Base}
 use Rattle.code.specs.declared.Base.the-variants.{Indirect, Displaced, Absolute8, Absolute16, Absolute24}
@@ -21,13 +20,13 @@ use Rattle.code.specs.declared.Operand.{Operand}
 use Rattle.code.specs.declared.Operand.the-variants.{Register, Constant}
 use Rattle.code.specs.Said.{whole, number}
 use Rattle.code.specs.Rows.{Row, lookup, byRows}
-use Rattle.code.specs.Registers.{registerRows, placesRows}
+use Rattle.code.specs.Registers.{registerRows}
 use Rattle.code.specs.Memory.{form, memoryRows, storeRows, copies, compares, block, copy, compare, blocks, blockRows, indirectRows}
 use Rattle.code.specs.Listed.{withConstant, bankNumberRows, firstRows}
 use Rattle.code.specs.Range.{Holds, noByte, noLong, pointerRange}
-use Rattle.code.specs.Written.{sizeStep, arithNumber, shiftNumber, blockCode}
+use Rattle.code.specs.Written.{sizeStep, arithNumber, blockCode}
 use Rattle.code.proofs.FirstRows.{first}
-use Rattle.code.proofs.Tables.{table, by-size, by-arith, each-size, each-arith, each-shift, each-test, by-test}
+use Rattle.code.proofs.Tables.{table, by-size, by-arith, each-size, each-arith, each-test, by-test}
 use Rattle.code.proofs.Says.{Lists}
 
 -- ---- the first byte
@@ -84,34 +83,6 @@ module _ (z : Size) (o : Operand) where
   pub compute-constant : (a : Arith) → Lists (registerRows z o) (0xC8 + arithNumber a) (number (bytesOf z) (λ n. whole (Puts (Compute a (With n))) z o))
   unfolding registerRows lookup
   compute-constant = each-arith _ _ refl
-
-  pub inc : (n : ℕ) → n < 8 → Lists (registerRows z o) (0x60 + n) (whole (Puts (Inc n)) z o)
-  unfolding registerRows lookup
-  inc = table _ _ 8 refl
-
-  pub dec : (n : ℕ) → n < 8 → Lists (registerRows z o) (0x68 + n) (whole (Puts (Dec n)) z o)
-  unfolding registerRows lookup
-  dec = table _ _ 8 refl
-
-  pub shift : (t : Shift) → Lists (registerRows z o) (0xEC + shiftNumber t) (byRows (placesRows z o t))
-  unfolding registerRows lookup
-  shift = each-shift _ _ refl
-
-  pub places : (t : Shift) (n : ℕ) → n < 16 → Lists (placesRows z o t) n (whole (Puts (Shifted t n)) z o)
-  unfolding placesRows lookup
-  places t = table _ _ 16 refl
-
-pub extz : (z : Size) (o : Operand) → Holds (noByte z) → Lists (registerRows z o) 0x12 (whole (Puts Extz) z o)
-unfolding registerRows lookup
-extz Byte o h = absurd h
-extz Word o h = refl
-extz Long o h = refl
-
-pub exts : (z : Size) (o : Operand) → Holds (noByte z) → Lists (registerRows z o) 0x13 (whole (Puts Exts) z o)
-unfolding registerRows lookup
-exts Byte o h = absurd h
-exts Word o h = refl
-exts Long o h = refl
 
 -- ---- memory forms: the rows after one, of a size
 abbrev pub moreRows : Size → Base → List Row

@@ -18,7 +18,8 @@ use Rattle.code.specs.Said.{Said, whole, unlisted}
 use Rattle.code.specs.Rows.{Row, lookup, byRows}
 use Rattle.code.specs.Registers.{registerRows}
 use Rattle.code.specs.Memory.{form, memoryRows, indirectRows}
-use Rattle.code.specs.Listed.{withConstant, sizeOf, formWith, absoluteRows, bankRows, flagRows, constantRows, stackRows, jumpRows, relativeRows, registerFormRows, memoryFormRows, memoryAtRows, storeFormRows, aloneRows, memoryFirstRows, rowsBegun, firstRows}
+use Rattle.code.specs.Listed.{withConstant, formWith, absoluteRows, bankRows, flagRows, constantRows, stackRows, jumpRows, relativeRows, registerFormRows, memoryFormRows, memoryAtRows, storeFormRows, aloneRows, memoryFirstRows, firstRows}
+use Rattle.code.specs.inner.Parts.{sizeOf, rowsBegun}
 use Rattle.code.proofs.Groups.{Missed, Below, all-above}
 use Rattle.code.proofs.Tables.{table, besides, no-arm, in-run, in-arm, in-no-arm}
 

@@ -9,6 +9,7 @@ pub mod Prefix
 pub mod AllRows
 pub mod RowBytes
 pub mod Walk
+pub mod Codes
 pub mod Walked
 pub mod Begins
 pub mod Holds

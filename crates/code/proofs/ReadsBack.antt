@@ -18,7 +18,7 @@ use Rattle.code.specs.declared.Control.the-variants.{Nop, Incf, Decf, Ld
 use Rattle.code.specs.declared.Stack.{Stack}
 use Rattle.code.specs.declared.Stack.the-variants.{PushF, PopF, Push, Pop, Call16, Call24, Calr, Ret}
 use Rattle.code.specs.declared.Use.{Use}
-use Rattle.code.specs.declared.Use.the-variants.{Number, From, Load, Compute, Inc, Dec, Shifted, Extz, Exts}
+use Rattle.code.specs.declared.Use.the-variants.{Number, From, Load, Compute, Changed}
 use Rattle.code.specs.declared.Side.{Side}
 use Rattle.code.specs.declared.Side.the-variants.{First, Second, With}
 use Rattle.code.specs.declared.Base.{Base}
@@ -27,15 +27,16 @@ use Rattle.code.specs.declared.Operand.{Operand}
 use Rattle.code.specs.declared.Operand.the-variants.{Register, Constant, Memory}
 use Rattle.code.specs.Said.{Said, whole, number}
 use Rattle.code.specs.Rows.{Row, byRows}
-use Rattle.code.specs.Registers.{registerRows, placesRows}
+use Rattle.code.specs.Registers.{registerRows}
 use Rattle.code.specs.Memory.{form, memoryRows, storeRows}
 use Rattle.code.specs.Listed.{alone, withConstant, bankNumberRows, firstRows}
 use Rattle.alu.specs.declared.Arith.{Arith}
 use Rattle.code.specs.Range.{Holds, InRange, controlRange, stackRange, sideRange, useRange, onlyByte, noLong, aloneRange, pointerRange, constantBelow, registerBelow, baseRange, memoryRange, placeRange, blockRange}
-use Rattle.code.specs.Written.{codeOf, controlCode, stackCode, sideCode, useCode, placeCode, baseCode, sizeStep, arithNumber, shiftNumber, blockCode, constantIn, registerIn}
+use Rattle.code.specs.Written.{codeOf, controlCode, stackCode, sideCode, useCode, placeCode, baseCode, sizeStep, arithNumber, blockCode, constantIn, registerIn}
 use Rattle.code.proofs.FirstRows.{first}
 use Rattle.code.proofs.Says.{Says, Lists, byte, value, next}
-use Rattle.code.proofs.EachByte.{set, push, pop, short-jump, long-jump, bank-number, register-form, load-constant, load, into, compute, compute-constant, inc, dec, shift, places, extz, exts, moreRows, rowsOf, indirect, displaced, absolute-8, absolute-16, absolute-24, load-memory, compute-memory, compute-into, indirect-store, displaced-store, absolute-store, store, block-byte}
+use Rattle.code.proofs.RegisterRows.{of-change}
+use Rattle.code.proofs.EachByte.{set, push, pop, short-jump, long-jump, bank-number, register-form, load-constant, load, into, compute, compute-constant, moreRows, rowsOf, indirect, displaced, absolute-8, absolute-16, absolute-24, load-memory, compute-memory, compute-into, indirect-store, displaced-store, absolute-store, store, block-byte}
 
 -- the bytes p are this instruction
 abbrev Is : List ℕ → Op → Size → Operand → Type 0
@@ -200,11 +201,7 @@ of-use (Load r) z (Register n) h = register-byte z (Register n) (0x88 + r) (h .1
 of-use (Load r) z (Constant v) h = absurd (h .1)
 of-use (Load r) z (Memory m) h = memory-byte z (Memory m) (0x20 + r) (h .1) (λ more. load-memory z (Memory m) more r (h .0))
 of-use (Compute a other) z o h = of-side a other z o h
-of-use (Inc n) z o h = register-byte z o (0x60 + n) (h .1) (inc z o n (h .0))
-of-use (Dec n) z o h = register-byte z o (0x68 + n) (h .1) (dec z o n (h .0))
-of-use (Shifted t n) z o h = after-register z o (h .1) (next (byte (registerRows z o) (0xEC + shiftNumber t) (shift z o t)) (byte (placesRows z o t) n (places z o t n (h .0))))
-of-use Extz z o h = register-byte z o 0x12 (h .1) (extz z o (h .0))
-of-use Exts z o h = register-byte z o 0x13 (h .1) (exts z o (h .0))
+of-use (Changed how) z o h = after-register z o (h .1) (of-change how z o (h .0))
 
 pub reads : (op : Op) (z : Size) (o : Operand) → InRange op z o → Is (codeOf op z o) op z o
 unfolding codeOf

@@ -1,27 +1,43 @@
--- Laws of the byte after a register form's register, group by group.
-use Prim.Native.Nat.{ℕ, _/_, _%_, _≤_, _<_}
-use mathlib.Core.Path.{_≡_, refl}
-use native.Mathlib.Omega.{arith}
+-- All that is proved of the byte after a register form's register: what the source's groups of bytes say, the walk over its rows,
+-- and that a change is what its bytes say.
+use Prim.Native.Nat.{ℕ, _+_, _/_, _%_, _≤_, _<_}
+use mathlib.Core.Path.{_≡_, refl, ap₂}
 use mathlib.Core.List.{List, [], _∷_}
+use native.Mathlib.Omega.{arith}
+use native.Mathlib.Nat.{mod-lt}
+use borrow.Author.Tests.{eqb-true}
 use types.Run.{OneOf}
+use Rattle.little.specs.Bytes.{bytesFrom}
+use Rattle.little.specs.Width.{bytesOf}
 use Rattle.little.specs.declared.Size.{Size}
+use Rattle.little.specs.declared.Size.the-variants.{Byte, Word, Long}
+use Rattle.alu.specs.declared.Shift.{Shift}
+use Rattle.alu.specs.declared.change.Change.{Change}
+use Rattle.alu.specs.declared.change.Change.the-variants.{Inc, Dec, ShiftBy, Extz, Exts}
 use Rattle.code.specs.declared.Op.the-variants.{Puts}
-use Rattle.code.specs.declared.Use.the-variants.{From, Load, Compute, Inc, Dec}
+use Rattle.code.specs.declared.Use.the-variants.{From, Load, Compute, Changed}
 use Rattle.code.specs.declared.Side.the-variants.{First, With}
 use Rattle.code.specs.declared.Operand.{Operand}
+use Rattle.code.specs.declared.Operand.the-variants.{Register}
 use Rattle.code.specs.Said.{whole, unlisted, number}
 use Rattle.code.specs.Rows.{lookup, byRows}
-use Rattle.code.specs.Registers.{registerRows, placesRows, arithOf, shiftKind}
-use Rattle.little.specs.Width.{bytesOf}
+use Rattle.code.specs.Registers.{registerRows, placesRows, arithOf, shiftKind, notByte}
+use Rattle.code.specs.Range.{Holds, changeRange, noByte}
+use Rattle.code.specs.Written.{codeOf, changeCode, sizeStep, shiftNumber}
 use Rattle.code.proofs.Groups.{in-group, Missed}
-use Rattle.code.proofs.Tables.{in-arm, in-no-arm}
+use Rattle.code.proofs.Tables.{table, each-shift, in-arm, in-no-arm}
+use Rattle.code.proofs.Judge.{bytes-bounds}
+use Rattle.code.proofs.RowBytes.{run-in, columns-in, arith-back, shift-back, computes}
+use Rattle.code.proofs.Says.{Says, Lists, byte, next}
+use Rattle.code.proofs.Walk.{Can, Walk, Rows, by-rows}
 
+-- ---- group by group, as the source asks
 module _ (z : Size) (o : Operand) where
-  pub inc : (b : ℕ) → b / 8 ≡ 12 → lookup (registerRows z o) b ≡ whole (Puts (Inc (b % 8))) z o
+  pub inc : (b : ℕ) → b / 8 ≡ 12 → lookup (registerRows z o) b ≡ whole (Puts (Changed (Inc (b % 8)))) z o
   unfolding registerRows lookup
   inc = in-arm _ _ (12 ∷ []) refl
 
-  pub dec : (b : ℕ) → b / 8 ≡ 13 → lookup (registerRows z o) b ≡ whole (Puts (Dec (b % 8))) z o
+  pub dec : (b : ℕ) → b / 8 ≡ 13 → lookup (registerRows z o) b ≡ whole (Puts (Changed (Dec (b % 8)))) z o
   unfolding registerRows lookup
   dec = in-arm _ _ (13 ∷ []) refl
 
@@ -64,3 +80,104 @@ module _ (z : Size) (o : Operand) where
   pub no-register : (b : ℕ) → b < 256 → Missed register-arms (b / 8) → lookup (registerRows z o) b ≡ unlisted
   unfolding registerRows lookup
   no-register = in-no-arm _ (λ b. unlisted) register-arms 256 refl
+
+-- ---- the walk over them, after the byte a of the register
+can-place : (z : Size) (o : Operand) (kind : Shift) → Can (byRows (placesRows z o kind))
+unfolding placesRows lookup
+can-place z o kind = (0, omega arith, tt)
+
+can-register : (z : Size) (o : Operand) → Can (byRows (registerRows z o))
+unfolding registerRows lookup
+can-register z o = (0x88, omega arith, tt)
+
+module _ (Y : Type 0) (z : Size) (r a : ℕ) (e : a ≡ 0xC8 + sizeStep z + r) (q : r < 8) where
+  two : (x y : ℕ) → x ≡ y → a ∷ x ∷ [] ≡ (0xC8 + sizeStep z + r) ∷ y ∷ []
+  two x y f = ap₂ (λ (c d : ℕ). c ∷ d ∷ []) e f
+
+  more : (x y v : ℕ) → x ≡ y → a ∷ x ∷ bytesFrom (bytesOf z) v ≡ (0xC8 + sizeStep z + r) ∷ y ∷ bytesFrom (bytesOf z) v
+  more x y v f = ap₂ (λ (c d : ℕ). c ∷ d ∷ bytesFrom (bytesOf z) v) e f
+
+  places-rows : (shift : Shift) (b : ℕ) → b ≡ 0xEC + shiftNumber shift → Rows Y (placesRows z (Register r) shift) 3 (a ∷ b ∷ [])
+  unfolding placesRows codeOf
+  places-rows shift b f = (λ n h. let x = run-in 0 15 n h in (omega arith, ap₂ (λ (c d : ℕ). c ∷ d ∷ n ∷ []) e f, λ y. (omega arith, q)), tt)
+
+  extension : {p : List ℕ} (how : Change) (y : Size) → p ≡ codeOf (Puts (Changed how)) y (Register r) → ((y : Size) → Holds (noByte y) → Holds (changeRange how y)) → Walk Y (notByte y (whole (Puts (Changed how)) y (Register r))) 2 p
+  extension how Byte f g = tt
+  extension how Word f g = (omega arith, f, λ y. (g Word tt, q))
+  extension how Long f g = (omega arith, f, λ y. (g Long tt, q))
+
+  register-rows : Rows Y (registerRows z (Register r)) 2 (a ∷ [])
+  unfolding registerRows codeOf
+  register-rows =
+      let n : bytesOf z ≤ 4 = bytes-bounds z (bytesOf z) refl .1 in
+      let l : 2 ≤ 6 = omega arith in (
+        λ b h. (λ v. tt, λ v g. (omega arith, more b 0x03 v (eqb-true b 0x03 h), λ y. (g y, q))),
+        (
+          λ b h. (l, two b _ (let x = run-in 0x88 0x8F b h in omega arith), λ y. (mod-lt b (omega arith), q)),
+          (
+            λ b h. (l, two b _ (let x = run-in 0x98 0x9F b h in omega arith), λ y. (mod-lt b (omega arith), q)),
+            (
+              λ b h. (l, two b _ (let x = columns-in 0x80 b h in computes b (x .0 .0) (x .0 .1) (x .1)), λ y. (mod-lt b (omega arith), q)),
+              (
+                λ b h. (λ v. tt, λ v g. (omega arith, more b _ v (let x = run-in 0xC8 0xCF b h in rw (arith-back (b % 8) (mod-lt b (omega arith))) (omega arith)), λ y. (g y, q))),
+                (
+                  λ b h. (l, two b _ (let x = run-in 0x60 0x67 b h in omega arith), λ y. (mod-lt b (omega arith), q)),
+                  (
+                    λ b h. (l, two b _ (let x = run-in 0x68 0x6F b h in omega arith), λ y. (mod-lt b (omega arith), q)),
+                    (
+                      λ b h. by-rows Y (placesRows z (Register r) (shiftKind (b % 4))) 2 (a ∷ b ∷ []) (can-place z (Register r) (shiftKind (b % 4))) (places-rows (shiftKind (b % 4)) b (let x = run-in 0xEC 0xEF b h in rw (shift-back (b % 4) (mod-lt b (omega arith))) (omega arith))),
+                      (
+                        λ b h. extension Extz z (two b 0x12 (eqb-true b 0x12 h)) (λ y w. w),
+                        (
+                          λ b h. extension Exts z (two b 0x13 (eqb-true b 0x13 h)) (λ y w. w),
+                          tt,
+                        ),
+                      ),
+                    ),
+                  ),
+                ),
+              ),
+            ),
+          ),
+        ),
+      )
+
+  pub register-walk : Walk Y (byRows (registerRows z (Register r))) 1 (a ∷ [])
+  register-walk = by-rows Y (registerRows z (Register r)) 1 (a ∷ []) (can-register z (Register r)) register-rows
+
+-- ---- a change within its range is what its bytes say after the register's
+module _ (z : Size) (o : Operand) where
+  inc-byte : (n : ℕ) → n < 8 → Lists (registerRows z o) (0x60 + n) (whole (Puts (Changed (Inc n))) z o)
+  unfolding registerRows lookup
+  inc-byte = table _ _ 8 refl
+
+  dec-byte : (n : ℕ) → n < 8 → Lists (registerRows z o) (0x68 + n) (whole (Puts (Changed (Dec n))) z o)
+  unfolding registerRows lookup
+  dec-byte = table _ _ 8 refl
+
+  shift-byte : (t : Shift) → Lists (registerRows z o) (0xEC + shiftNumber t) (byRows (placesRows z o t))
+  unfolding registerRows lookup
+  shift-byte = each-shift _ _ refl
+
+  places-byte : (t : Shift) (n : ℕ) → n < 16 → Lists (placesRows z o t) n (whole (Puts (Changed (ShiftBy t n))) z o)
+  unfolding placesRows lookup
+  places-byte t = table _ _ 16 refl
+
+extz-byte : (z : Size) (o : Operand) → Holds (noByte z) → Lists (registerRows z o) 0x12 (whole (Puts (Changed Extz)) z o)
+unfolding registerRows lookup
+extz-byte Byte o h = absurd h
+extz-byte Word o h = refl
+extz-byte Long o h = refl
+
+exts-byte : (z : Size) (o : Operand) → Holds (noByte z) → Lists (registerRows z o) 0x13 (whole (Puts (Changed Exts)) z o)
+unfolding registerRows lookup
+exts-byte Byte o h = absurd h
+exts-byte Word o h = refl
+exts-byte Long o h = refl
+
+pub of-change : (how : Change) (z : Size) (o : Operand) → Holds (changeRange how z) → Says (byRows (registerRows z o)) (changeCode how) (whole (Puts (Changed how)) z o)
+of-change (Inc n) z o h = byte (registerRows z o) (0x60 + n) (inc-byte z o n h)
+of-change (Dec n) z o h = byte (registerRows z o) (0x68 + n) (dec-byte z o n h)
+of-change (ShiftBy t n) z o h = next (byte (registerRows z o) (0xEC + shiftNumber t) (shift-byte z o t)) (byte (placesRows z o t) n (places-byte z o t n h))
+of-change Extz z o h = byte (registerRows z o) 0x12 (extz-byte z o h)
+of-change Exts z o h = byte (registerRows z o) 0x13 (exts-byte z o h)

@@ -14,7 +14,11 @@ use Rattle.little.proofs.Laws.{length-bytes, value-bytes}
 use Rattle.code.specs.Said.{Said, number, judge}
 use Rattle.code.specs.Rows.{Row, lookup, byRows}
 use Rattle.code.proofs.Prefix.{step-next, step-number}
-use Rattle.code.proofs.Begins.{bytes-append}
+
+pub bytes-append : (p q : List ℕ) → Bytes p → Bytes q → Bytes (p ++ q)
+bytes-append [] q g h k = h k
+bytes-append (b ∷ p) q g h zero = g 0
+bytes-append (b ∷ p) q g h (suc k) = bytes-append p q (λ j. g (suc j)) h k
 
 -- where j is said, and then the bytes p come, k is said
 pub record Says (j : Said) (p : List ℕ) (k : Said) : Type 0 where

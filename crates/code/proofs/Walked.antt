@@ -18,7 +18,8 @@ use Rattle.code.specs.Listed.{firstRows, decodeOf}
 use Rattle.code.specs.Written.{codeOf}
 use Rattle.code.specs.Laws.{LengthFits, LengthIs, Ranges, BlockLength, KeepsBytes, NoTwins}
 use Rattle.code.proofs.Prefix.{within, grows, after-next, after-number}
-use Rattle.code.proofs.Walk.{Fine, Walk, first-rows}
+use Rattle.code.proofs.Walk.{Fine, Walk}
+use Rattle.code.proofs.Codes.{first-rows}
 
 -- ---- a part of bytes is of bytes, and a number in n of them is below 256 to the n
 pub bytes-take : (n : ℕ) (l : List ℕ) → Bytes l → Bytes (take n l)
@@ -66,12 +67,12 @@ module _ (s : List ℕ) where
       let a = after-next g s i (Whole x) tt h in
       let b = getD s i 0 in
       let m : length (p ++ (b ∷ [])) ≡ i + 1 = rw length-append (omega arith) in
-      met x (g b) (i + 1) (p ++ (b ∷ [])) m (λ y. ap (λ (q : List ℕ). q ++ (b ∷ [])) (f y) ∙ one-more i (a .0)) (w b) (a .1)
+      met x (g b) (i + 1) (p ++ (b ∷ [])) m (λ y. ap (λ (q : List ℕ). q ++ (b ∷ [])) (f y) ∙ one-more i (a .0)) (w .1 b) (a .1)
   met x (number n g) i p l f w h =
       let a = after-number g s i (Whole x) tt n h in
       let v = valueOf (take n (drop i s)) in
       let m : length (p ++ bytesFrom n v) ≡ i + n = rw (length-append p (bytesFrom n v), length-bytes n v) (omega arith) in
-      met x (g v) (i + n) (p ++ bytesFrom n v) m (λ y. ap (λ (q : List ℕ). q ++ bytesFrom n v) (f y) ∙ n-more y i n (a .0)) (w v (value-below s i n (a .0))) (a .1)
+      met x (g v) (i + n) (p ++ bytesFrom n v) m (λ y. ap (λ (q : List ℕ). q ++ bytesFrom n v) (f y) ∙ n-more y i n (a .0)) (w .1 v (value-below s i n (a .0))) (a .1)
 
   walked : (x : Instruction) → decodeOf s ≡ Whole x → Met x
   unfolding decodeOf

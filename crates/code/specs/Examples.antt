@@ -1,26 +1,23 @@
 -- Codes and what they are: some of each bullet in its order, some that are short, and some that are not listed.
-use Prim.Native.Nat.{ℕ}
-use mathlib.Core.Path.{_≡_, refl}
-use mathlib.Core.Bool.{true, false}
-use mathlib.Core.List.{List, [], _∷_, map}
+use Rattle.little.specs.Words.{ℕ, _≡_, refl, true, false, List, [], _∷_, map}
 use Rattle.little.specs.Bytes.{valueOf}
 use Rattle.little.specs.declared.Size.the-variants.{Byte, Word, Long}
-use Rattle.alu.specs.declared.Arith.the-variants.{Add, Adc, Sub, And, Xor, Or, Cp}
 use Rattle.alu.specs.declared.Shift.the-variants.{Sla, Sra}
+use Rattle.alu.specs.declared.Arith.the-variants.{Add, Adc, Sub, And, Xor, Or, Cp}
+use Rattle.alu.specs.declared.change.Change.the-variants.{Inc, Dec, ShiftBy, Extz, Exts}
+use Rattle.code.specs.{declared.Operand.the-variants.Register, declared.Operand.the-variants.Constant, declared.Decoded.Decoded}
+use Rattle.code.specs.{declared.Decoded.the-variants.Short, declared.Decoded.the-variants.Unlisted, Said.judge, Said.numberAt, Said.wholeOf}
+use Rattle.code.specs.{Rows.lookup, Registers.registerRows, Registers.placesRows, Memory.form, Memory.memoryRows, Memory.storeRows}
+use Rattle.code.specs.{Memory.copies, Memory.compares, Memory.blocks, Memory.indirectRows, Listed.absoluteRows, Listed.bankNumberRows}
+use Rattle.code.specs.{Listed.bankRows, Listed.flagRows, Listed.constantRows, Listed.stackRows, Listed.jumpRows, Listed.relativeRows}
+use Rattle.code.specs.{Listed.registerFormRows, Listed.memoryFormRows, Listed.memoryAtRows, Listed.storeFormRows, Listed.aloneRows}
+use Rattle.code.specs.{Listed.memoryFirstRows, Listed.firstRows, Listed.decodeOf}
 use Rattle.code.specs.declared.Op.the-variants.{Controls, Stacks, Puts, Sets, Blocks}
 use Rattle.code.specs.declared.Control.the-variants.{Nop, Incf, Decf, Ldf, Zcf, Exf, Jp24, Jr, Jrl}
 use Rattle.code.specs.declared.Stack.the-variants.{PopF, Push, Pop, Call16, Calr, Ret}
-use Rattle.code.specs.declared.Use.the-variants.{Number, From, Load, Compute, Inc, Dec, Shifted, Extz, Exts}
+use Rattle.code.specs.declared.Use.the-variants.{Number, From, Load, Compute, Changed}
 use Rattle.code.specs.declared.Side.the-variants.{First, Second, With}
 use Rattle.code.specs.declared.Base.the-variants.{Indirect, Displaced, Absolute8, Absolute16, Absolute24}
-use Rattle.code.specs.declared.Operand.the-variants.{Register, Constant}
-use Rattle.code.specs.declared.Decoded.{Decoded}
-use Rattle.code.specs.declared.Decoded.the-variants.{Short, Unlisted}
-use Rattle.code.specs.Said.{judge, numberAt, wholeOf}
-use Rattle.code.specs.Rows.{lookup}
-use Rattle.code.specs.Registers.{registerRows, placesRows}
-use Rattle.code.specs.Memory.{form, memoryRows, storeRows, copies, compares, blocks, indirectRows}
-use Rattle.code.specs.Listed.{absoluteRows, bankNumberRows, bankRows, flagRows, constantRows, stackRows, jumpRows, relativeRows, registerFormRows, memoryFormRows, memoryAtRows, storeFormRows, aloneRows, memoryFirstRows, firstRows, decodeOf}
 
 -- bytes, and what they are
 pub record Example : Type 0 where
@@ -35,47 +32,40 @@ s is d = record { code = s; means = d }
 abbrev pub examples : List Example
 examples =
     -- NOP, INCF, DECF, LDF
-    ((0x00 ∷ []) is wholeOf (Controls Nop) Byte (Constant 0) 1) ∷
-    ((0x0C ∷ []) is wholeOf (Controls Incf) Byte (Constant 0) 1) ∷
-    ((0x0D ∷ []) is wholeOf (Controls Decf) Byte (Constant 0) 1) ∷
-    ((0x17 ∷ 0x03 ∷ []) is wholeOf (Controls Ldf) Byte (Constant 3) 2) ∷
+    ((0x00 ∷ []) is wholeOf (Controls Nop) Byte (Constant 0) 1) ∷ ((0x0C ∷ []) is wholeOf (Controls Incf) Byte (Constant 0) 1) ∷
+    ((0x0D ∷ []) is wholeOf (Controls Decf) Byte (Constant 0) 1) ∷ ((0x17 ∷ 0x03 ∷ []) is wholeOf (Controls Ldf) Byte (Constant 3) 2) ∷
     -- flags
-    ((0x13 ∷ []) is wholeOf (Controls Zcf) Byte (Constant 0) 1) ∷
-    ((0x16 ∷ []) is wholeOf (Controls Exf) Byte (Constant 0) 1) ∷
+    ((0x13 ∷ []) is wholeOf (Controls Zcf) Byte (Constant 0) 1) ∷ ((0x16 ∷ []) is wholeOf (Controls Exf) Byte (Constant 0) 1) ∷
     ((0x19 ∷ []) is wholeOf (Stacks PopF) Byte (Constant 0) 1) ∷
     -- constants
-    ((0x21 ∷ 0x05 ∷ []) is wholeOf (Sets 1) Byte (Constant 5) 2) ∷
-    ((0x34 ∷ 0x34 ∷ 0x12 ∷ []) is wholeOf (Sets 4) Word (Constant 0x1234) 3) ∷
+    ((0x21 ∷ 0x05 ∷ []) is wholeOf (Sets 1) Byte (Constant 5) 2) ∷ ((0x34 ∷ 0x34 ∷ 0x12 ∷ []) is wholeOf (Sets 4) Word (Constant 0x1234) 3) ∷
     ((0x47 ∷ 0x78 ∷ 0x56 ∷ 0x34 ∷ 0x12 ∷ []) is wholeOf (Sets 7) Long (Constant 0x12345678) 5) ∷
     -- stack
-    ((0x2E ∷ []) is wholeOf (Stacks Push) Word (Register 6) 1) ∷
-    ((0x38 ∷ []) is wholeOf (Stacks Push) Long (Register 0) 1) ∷
+    ((0x2E ∷ []) is wholeOf (Stacks Push) Word (Register 6) 1) ∷ ((0x38 ∷ []) is wholeOf (Stacks Push) Long (Register 0) 1) ∷
     ((0x5E ∷ []) is wholeOf (Stacks Pop) Long (Register 6) 1) ∷
     -- jumps and calls
     ((0x1B ∷ 0x56 ∷ 0x34 ∷ 0x12 ∷ []) is wholeOf (Controls Jp24) Byte (Constant 0x123456) 4) ∷
     ((0x1C ∷ 0x34 ∷ 0x12 ∷ []) is wholeOf (Stacks Call16) Byte (Constant 0x1234) 3) ∷
-    ((0x1E ∷ 0xFE ∷ 0xFF ∷ []) is wholeOf (Stacks Calr) Byte (Constant 0xFFFE) 3) ∷
-    ((0x0E ∷ []) is wholeOf (Stacks Ret) Byte (Constant 0) 1) ∷
+    ((0x1E ∷ 0xFE ∷ 0xFF ∷ []) is wholeOf (Stacks Calr) Byte (Constant 0xFFFE) 3) ∷ ((0x0E ∷ []) is wholeOf (Stacks Ret) Byte (Constant 0) 1) ∷
     -- relative jumps
     ((0x68 ∷ 0x32 ∷ []) is wholeOf (Controls (Jr 8)) Byte (Constant 0x32) 2) ∷
     ((0x7E ∷ 0x00 ∷ 0x80 ∷ []) is wholeOf (Controls (Jrl 14)) Byte (Constant 0x8000) 3) ∷
     -- register forms
     ((0xC9 ∷ 0x03 ∷ 0x05 ∷ []) is wholeOf (Puts (Number 5)) Byte (Register 1) 3) ∷
     ((0xEF ∷ 0x03 ∷ 0x04 ∷ 0x03 ∷ 0x02 ∷ 0x01 ∷ []) is wholeOf (Puts (Number 0x01020304)) Long (Register 7) 6) ∷
-    ((0xDB ∷ 0x8C ∷ []) is wholeOf (Puts (Load 4)) Word (Register 3) 2) ∷
-    ((0xDB ∷ 0x9C ∷ []) is wholeOf (Puts (From 4)) Word (Register 3) 2) ∷
+    ((0xDB ∷ 0x8C ∷ []) is wholeOf (Puts (Load 4)) Word (Register 3) 2) ∷ ((0xDB ∷ 0x9C ∷ []) is wholeOf (Puts (From 4)) Word (Register 3) 2) ∷
     ((0xDC ∷ 0xC3 ∷ []) is wholeOf (Puts (Compute And (First 3))) Word (Register 4) 2) ∷
     ((0xDC ∷ 0xE3 ∷ []) is wholeOf (Puts (Compute Or (First 3))) Word (Register 4) 2) ∷
     ((0xDC ∷ 0xD3 ∷ []) is wholeOf (Puts (Compute Xor (First 3))) Word (Register 4) 2) ∷
     ((0xC9 ∷ 0xC8 ∷ 0x01 ∷ []) is wholeOf (Puts (Compute Add (With 1))) Byte (Register 1) 3) ∷
     ((0xC9 ∷ 0xCA ∷ 0x01 ∷ []) is wholeOf (Puts (Compute Sub (With 1))) Byte (Register 1) 3) ∷
-    ((0xD8 ∷ 0x61 ∷ []) is wholeOf (Puts (Inc 1)) Word (Register 0) 2) ∷
-    ((0xD8 ∷ 0x68 ∷ []) is wholeOf (Puts (Dec 0)) Word (Register 0) 2) ∷
-    ((0xDB ∷ 0xEC ∷ 0x04 ∷ []) is wholeOf (Puts (Shifted Sla 4)) Word (Register 3) 3) ∷
-    ((0xDB ∷ 0xED ∷ 0x04 ∷ []) is wholeOf (Puts (Shifted Sra 4)) Word (Register 3) 3) ∷
-    ((0xC9 ∷ 0xEC ∷ 0x00 ∷ []) is wholeOf (Puts (Shifted Sla 0)) Byte (Register 1) 3) ∷
-    ((0xE9 ∷ 0x12 ∷ []) is wholeOf (Puts Extz) Long (Register 1) 2) ∷
-    ((0xD9 ∷ 0x13 ∷ []) is wholeOf (Puts Exts) Word (Register 1) 2) ∷
+    ((0xD8 ∷ 0x61 ∷ []) is wholeOf (Puts (Changed (Inc 1))) Word (Register 0) 2) ∷
+    ((0xD8 ∷ 0x68 ∷ []) is wholeOf (Puts (Changed (Dec 0))) Word (Register 0) 2) ∷
+    ((0xDB ∷ 0xEC ∷ 0x04 ∷ []) is wholeOf (Puts (Changed (ShiftBy Sla 4))) Word (Register 3) 3) ∷
+    ((0xDB ∷ 0xED ∷ 0x04 ∷ []) is wholeOf (Puts (Changed (ShiftBy Sra 4))) Word (Register 3) 3) ∷
+    ((0xC9 ∷ 0xEC ∷ 0x00 ∷ []) is wholeOf (Puts (Changed (ShiftBy Sla 0))) Byte (Register 1) 3) ∷
+    ((0xE9 ∷ 0x12 ∷ []) is wholeOf (Puts (Changed Extz)) Long (Register 1) 2) ∷
+    ((0xD9 ∷ 0x13 ∷ []) is wholeOf (Puts (Changed Exts)) Word (Register 1) 2) ∷
     -- memory forms
     ((0x84 ∷ 0x25 ∷ []) is wholeOf (Puts (Load 5)) Byte (form (Indirect 4) 0) 2) ∷
     ((0x9D ∷ 0xFF ∷ 0x25 ∷ []) is wholeOf (Puts (Load 5)) Word (form (Displaced 5) 0xFF) 3) ∷
@@ -92,32 +82,14 @@ examples =
     ((0x84 ∷ 0x15 ∷ []) is wholeOf (Blocks (record { copies = false; size = Byte; up = true; again = true; to = 4; from = 4 })) Byte (form (Indirect 4) 0) 2) ∷
     ((0x97 ∷ 0x16 ∷ []) is wholeOf (Blocks (record { copies = false; size = Word; up = false; again = false; to = 7; from = 7 })) Word (form (Indirect 7) 0) 2) ∷
     -- short
-    (([]) is Short) ∷
-    ((0x17 ∷ []) is Short) ∷
-    ((0x42 ∷ 0x01 ∷ 0x02 ∷ 0x03 ∷ []) is Short) ∷
-    ((0xDB ∷ 0xEC ∷ []) is Short) ∷
-    ((0xC9 ∷ 0xC8 ∷ []) is Short) ∷
-    ((0xC1 ∷ 0x34 ∷ []) is Short) ∷
-    ((0xC1 ∷ 0x34 ∷ 0x12 ∷ []) is Short) ∷
-    ((0x83 ∷ []) is Short) ∷
+    (([]) is Short) ∷ ((0x17 ∷ []) is Short) ∷ ((0x42 ∷ 0x01 ∷ 0x02 ∷ 0x03 ∷ []) is Short) ∷ ((0xDB ∷ 0xEC ∷ []) is Short) ∷
+    ((0xC9 ∷ 0xC8 ∷ []) is Short) ∷ ((0xC1 ∷ 0x34 ∷ []) is Short) ∷ ((0xC1 ∷ 0x34 ∷ 0x12 ∷ []) is Short) ∷ ((0x83 ∷ []) is Short) ∷
     ((0xF2 ∷ []) is Short) ∷
     -- unlisted
-    ((0x2F ∷ []) is Unlisted) ∷
-    ((0x3F ∷ []) is Unlisted) ∷
-    ((0x4F ∷ []) is Unlisted) ∷
-    ((0x5F ∷ []) is Unlisted) ∷
-    ((0x01 ∷ []) is Unlisted) ∷
-    ((0x17 ∷ 0x04 ∷ []) is Unlisted) ∷
-    ((0xDB ∷ 0xEC ∷ 0x10 ∷ []) is Unlisted) ∷
-    ((0xC8 ∷ 0x12 ∷ []) is Unlisted) ∷
-    ((0x84 ∷ 0x10 ∷ []) is Unlisted) ∷
-    ((0x80 ∷ 0x14 ∷ []) is Unlisted) ∷
-    ((0x93 ∷ 0x18 ∷ []) is Unlisted) ∷
-    ((0xA3 ∷ 0x11 ∷ []) is Unlisted) ∷
-    ((0xFF ∷ []) is Unlisted) ∷
-    ((0xB3 ∷ 0x20 ∷ []) is Unlisted) ∷
-    ((0xC3 ∷ []) is Unlisted) ∷
-    []
+    ((0x2F ∷ []) is Unlisted) ∷ ((0x3F ∷ []) is Unlisted) ∷ ((0x4F ∷ []) is Unlisted) ∷ ((0x5F ∷ []) is Unlisted) ∷ ((0x01 ∷ []) is Unlisted) ∷
+    ((0x17 ∷ 0x04 ∷ []) is Unlisted) ∷ ((0xDB ∷ 0xEC ∷ 0x10 ∷ []) is Unlisted) ∷ ((0xC8 ∷ 0x12 ∷ []) is Unlisted) ∷ ((0x84 ∷ 0x10 ∷ []) is Unlisted) ∷
+    ((0x80 ∷ 0x14 ∷ []) is Unlisted) ∷ ((0x93 ∷ 0x18 ∷ []) is Unlisted) ∷ ((0xA3 ∷ 0x11 ∷ []) is Unlisted) ∷ ((0xFF ∷ []) is Unlisted) ∷
+    ((0xB3 ∷ 0x20 ∷ []) is Unlisted) ∷ ((0xC3 ∷ []) is Unlisted) ∷ []
 
 -- all of them are so, by computation
 pub decoded : map (λ e. decodeOf (e .code)) examples ≡ map (λ e. e .means) examples

@@ -1,22 +1,9 @@
 -- What holds of every code: statements, each proved in proofs/.
-use Prim.Native.Nat.{ℕ, _≤_}
-use mathlib.Core.Path.{_≡_}
-use mathlib.Core.Bool.{true}
-use mathlib.Core.Logic.{_↔_}
-use mathlib.Core.List.{List, [], _∷_, _++_}
-use lib.ListN.{length, take}
-use Rattle.little.specs.declared.Size.{Size}
-use Rattle.code.specs.declared.Form.{Form}
-use Rattle.code.specs.declared.Op.{Op}
-use Rattle.code.specs.declared.Op.the-variants.{Blocks}
-use Rattle.code.specs.declared.Operand.{Operand}
-use Rattle.code.specs.declared.Instruction.{Instruction}
+use Rattle.little.specs.Words.{ℕ, _≤_, _≡_, true, _↔_, List, [], _∷_, _++_, length, take}
+use Rattle.little.specs.{declared.Size.Size, Bytes.Bytes}
+use Rattle.code.specs.{declared.Form.Form, declared.Op.Op, declared.Op.the-variants.Blocks, declared.Operand.Operand}
+use Rattle.code.specs.{declared.Instruction.Instruction, Listed.decodeOf, Said.wholeOf, Range.inRange, Range.InRange, Written.codeOf}
 use Rattle.code.specs.declared.Decoded.the-variants.{Whole, Short, Unlisted}
-use Rattle.little.specs.Bytes.{Bytes}
-use Rattle.code.specs.Listed.{decodeOf}
-use Rattle.code.specs.Said.{wholeOf}
-use Rattle.code.specs.Range.{inRange, InRange}
-use Rattle.code.specs.Written.{codeOf}
 
 -- an instruction has 1 to 6 bytes, and they are all there
 abbrev pub LengthFits : Type 0

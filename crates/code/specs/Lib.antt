@@ -3,7 +3,7 @@ pub mod Rows
 pub mod Registers
 pub mod Memory
 pub mod Listed
-pub mod Parts
+pub mod inner
 pub mod Range
 pub mod Written
 pub mod Laws

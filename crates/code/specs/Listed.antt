@@ -1,23 +1,15 @@
 -- The listed codes, bullet by bullet, and the decoder.
-use Prim.Native.Nat.{ℕ, _+_, _/_, _%_}
-use mathlib.Core.Bool.{cond, _||_}
-use mathlib.Core.List.{List, [], _∷_, _++_}
-use lib.Dec.{eqb}
+use Rattle.little.specs.Words.{ℕ, _+_, _%_, List, [], _∷_, _++_}
 use Rattle.little.specs.declared.Size.{Size}
 use Rattle.little.specs.declared.Size.the-variants.{Byte, Word, Long}
-use Rattle.code.specs.declared.Op.{Op}
+use Rattle.code.specs.{declared.Op.Op, declared.Base.Base, declared.Operand.Operand, declared.Operand.the-variants.Register}
+use Rattle.code.specs.{declared.Operand.the-variants.Constant, declared.Decoded.Decoded, Said.Said, Said.whole, Said.number, Said.judge}
+use Rattle.code.specs.{Rows.one, Rows.run, Rows.Row, Rows._⇒_, Rows.byRows, Registers.registerRows, Memory.form, Memory.memoryRows}
+use Rattle.code.specs.{Memory.storeRows, Memory.indirectRows}
 use Rattle.code.specs.declared.Op.the-variants.{Controls, Stacks, Sets}
 use Rattle.code.specs.declared.Control.the-variants.{Nop, Incf, Decf, Ldf, Rcf, Scf, Ccf, Zcf, Exf, Jp16, Jp24, Jr, Jrl}
 use Rattle.code.specs.declared.Stack.the-variants.{PushF, PopF, Push, Pop, Call16, Call24, Calr, Ret}
-use Rattle.code.specs.declared.Base.{Base}
 use Rattle.code.specs.declared.Base.the-variants.{Indirect, Displaced, Absolute8, Absolute16, Absolute24}
-use Rattle.code.specs.declared.Operand.{Operand}
-use Rattle.code.specs.declared.Operand.the-variants.{Register, Constant}
-use Rattle.code.specs.declared.Decoded.{Decoded}
-use Rattle.code.specs.Said.{Said, whole, number, judge}
-use Rattle.code.specs.Rows.{one, run, Row, _⇒_, byRows}
-use Rattle.code.specs.Registers.{registerRows}
-use Rattle.code.specs.Memory.{form, memoryRows, storeRows, blockRows, indirectRows}
 
 -- an operation that is said by one byte alone
 abbrev pub alone : Op → Said
@@ -26,10 +18,6 @@ alone op = whole op Byte (Constant 0)
 -- an operation and a constant of n bytes
 abbrev pub withConstant : Op → Size → ℕ → Said
 withConstant op z n = number n (λ v. whole op z (Constant v))
-
--- the size of an operand, by the high digit of the first byte: word for 9 and D, long for A and E, and byte for any other
-unfoldable pub sizeOf : ℕ → Size
-sizeOf d = cond (eqb d 0x9 || eqb d 0xD) Word (cond (eqb d 0xA || eqb d 0xE) Long Byte)
 
 -- a byte 00 to 03
 unfoldable pub bankNumberRows : List Row
@@ -140,14 +128,6 @@ aloneRows = bankRows ++ (flagRows ++ (constantRows ++ (stackRows ++ (jumpRows ++
 -- a memory form's
 unfoldable pub memoryFirstRows : List Row
 memoryFirstRows = memoryFormRows ++ (memoryAtRows ++ storeFormRows)
-
--- the byte after the form that the first byte b begins: a store's after B and F, or any other's with the copies and compares after (R)
-unfoldable pub rowsBegun : ℕ → Operand → List Row
-rowsBegun b o =
-    let k = b / 8 in
-    let z = sizeOf (8 + b / 16 % 4) in
-    cond (eqb (b / 16 % 4) 3) (storeRows o)
-    (memoryRows z o ++ cond (eqb k 16 || eqb k 18 || eqb k 20) (blockRows z (b % 8)) [])
 
 -- all bullets
 unfoldable pub firstRows : List Row

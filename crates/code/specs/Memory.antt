@@ -1,21 +1,12 @@
 -- The byte after a memory form's address.
-use Prim.Native.Nat.{ℕ, _/_, _%_}
-use mathlib.Core.List.{List, [], _∷_, _++_}
-use mathlib.Core.Bool.{Bool, true, false, cond}
-use lib.Dec.{leb, eqb}
+use Rattle.little.specs.Words.{ℕ, _/_, _%_, List, [], _∷_, _++_, Bool, true, false, cond, leb, eqb}
 use Rattle.little.specs.declared.Size.{Size}
 use Rattle.little.specs.declared.Size.the-variants.{Byte, Word, Long}
-use Rattle.code.specs.declared.Form.{Form}
-use Rattle.code.specs.declared.Op.the-variants.{Puts, Blocks}
+use Rattle.code.specs.{declared.Form.Form, declared.Op.the-variants.Puts, declared.Op.the-variants.Blocks, declared.Side.the-variants.First}
+use Rattle.code.specs.{declared.Side.the-variants.Second, declared.Base.Base, declared.Base.the-variants.Indirect, declared.Operand.Operand}
+use Rattle.code.specs.{declared.Operand.the-variants.Memory, Said.Said, Said.whole, Rows.one, Rows.run, Rows.columns, Rows.Row, Rows._⇒_}
+use Rattle.code.specs.{Registers.arithOf}
 use Rattle.code.specs.declared.Use.the-variants.{From, Load, Compute}
-use Rattle.code.specs.declared.Side.the-variants.{First, Second}
-use Rattle.code.specs.declared.Base.{Base}
-use Rattle.code.specs.declared.Base.the-variants.{Indirect}
-use Rattle.code.specs.declared.Operand.{Operand}
-use Rattle.code.specs.declared.Operand.the-variants.{Memory}
-use Rattle.code.specs.Said.{Said, whole}
-use Rattle.code.specs.Rows.{one, run, columns, Row, _⇒_}
-use Rattle.code.specs.Registers.{arithOf}
 
 -- 20+R load; 80, 90 .. F0 +R: ADD .. CP of R with memory; 88, 98 .. F8 +R the same, memory with R
 unfoldable pub memoryRows : Size → Operand → List Row

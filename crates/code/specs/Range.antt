@@ -1,26 +1,16 @@
 -- What a whole instruction can hold: each code and number within its range, its size and its operand of its kind.
-use Prim.Native.Nat.{ℕ, _<_, _^_}
-use mathlib.Core.Path.{_≡_}
-use mathlib.Core.Bool.{Bool, true, false, _&&_, _||_}
-use mathlib.Core.Logic.{_⊎_}
-use lib.Dec.{ltb, eqb}
-use Rattle.little.specs.Width.{bytesOf}
-use Rattle.little.specs.declared.Size.{Size}
+use Rattle.little.specs.Words.{ℕ, _<_, _^_, _≡_, Bool, true, false, _&&_, _||_, _⊎_, ltb, eqb}
+use Rattle.little.specs.{declared.Size.Size, Width.bytesOf}
 use Rattle.little.specs.declared.Size.the-variants.{Byte, Word, Long}
-use Rattle.code.specs.declared.Form.{Form}
-use Rattle.code.specs.declared.Op.{Op}
+use Rattle.alu.specs.declared.change.Change.{Change}
+use Rattle.alu.specs.declared.change.Change.the-variants.{Inc, Dec, ShiftBy, Extz, Exts}
+use Rattle.code.specs.declared.{Form.Form, Op.Op, Control.Control, Stack.Stack, Use.Use, Side.Side, Base.Base, Operand.Operand}
 use Rattle.code.specs.declared.Op.the-variants.{Controls, Stacks, Puts, Sets, Blocks}
-use Rattle.code.specs.declared.Control.{Control}
 use Rattle.code.specs.declared.Control.the-variants.{Nop, Incf, Decf, Ldf, Rcf, Scf, Ccf, Zcf, Exf, Jp16, Jp24, Jr, Jrl}
-use Rattle.code.specs.declared.Stack.{Stack}
 use Rattle.code.specs.declared.Stack.the-variants.{PushF, PopF, Push, Pop, Call16, Call24, Calr, Ret}
-use Rattle.code.specs.declared.Use.{Use}
-use Rattle.code.specs.declared.Use.the-variants.{Number, From, Load, Compute, Inc, Dec, Shifted, Extz, Exts}
-use Rattle.code.specs.declared.Side.{Side}
+use Rattle.code.specs.declared.Use.the-variants.{Number, From, Load, Compute, Changed}
 use Rattle.code.specs.declared.Side.the-variants.{First, Second, With}
-use Rattle.code.specs.declared.Base.{Base}
 use Rattle.code.specs.declared.Base.the-variants.{Indirect, Displaced, Absolute8, Absolute16, Absolute24}
-use Rattle.code.specs.declared.Operand.{Operand}
 use Rattle.code.specs.declared.Operand.the-variants.{Register, Constant, Memory}
 
 infix 50 _below_ _equals_
@@ -165,16 +155,19 @@ sideRange (First r) z o = r below 8 and placeRange o
 sideRange (Second r) z o = r below 8 and memoryRange o
 sideRange (With n) z o = n below 256 ^ bytesOf z and registerBelow 8 o
 
+abbrev pub changeRange : Change → Size → Range
+changeRange (Inc n) z = n below 8
+changeRange (Dec n) z = n below 8
+changeRange (ShiftBy kind n) z = n below 16
+changeRange Extz z = noByte z
+changeRange Exts z = noByte z
+
 abbrev pub useRange : Use → Size → Operand → Range
 useRange (Number n) z o = n below 256 ^ bytesOf z and registerBelow 8 o
 useRange (From r) z o = r below 8 and placeRange o
 useRange (Load r) z o = r below 8 and placeRange o
 useRange (Compute a other) z o = sideRange other z o
-useRange (Inc n) z o = n below 8 and registerBelow 8 o
-useRange (Dec n) z o = n below 8 and registerBelow 8 o
-useRange (Shifted t n) z o = n below 16 and registerBelow 8 o
-useRange Extz z o = noByte z and registerBelow 8 o
-useRange Exts z o = noByte z and registerBelow 8 o
+useRange (Changed how) z o = changeRange how z and registerBelow 8 o
 
 abbrev pub rangeOf : Op → Size → Operand → Range
 rangeOf (Controls what) z o = controlRange what z o

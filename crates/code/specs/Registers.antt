@@ -1,19 +1,15 @@
 -- The byte after a register form's register.
-use Prim.Native.Nat.{ℕ, zero, suc, _/_, _%_}
-use mathlib.Core.List.{List, [], _∷_}
-use Rattle.little.specs.Width.{bytesOf}
-use Rattle.little.specs.declared.Size.{Size}
+use Rattle.little.specs.Words.{ℕ, zero, suc, _/_, _%_, List, [], _∷_}
+use Rattle.little.specs.{declared.Size.Size, Width.bytesOf}
 use Rattle.little.specs.declared.Size.the-variants.{Byte, Word, Long}
-use Rattle.alu.specs.declared.Arith.{Arith}
+use Rattle.alu.specs.declared.{Arith.Arith, Shift.Shift}
 use Rattle.alu.specs.declared.Arith.the-variants.{Add, Adc, Sub, Sbc, And, Xor, Or, Cp}
-use Rattle.alu.specs.declared.Shift.{Shift}
 use Rattle.alu.specs.declared.Shift.the-variants.{Sla, Sra, Sll, Srl}
-use Rattle.code.specs.declared.Op.the-variants.{Puts}
-use Rattle.code.specs.declared.Use.the-variants.{Number, From, Load, Compute, Inc, Dec, Shifted, Extz, Exts}
-use Rattle.code.specs.declared.Side.the-variants.{First, With}
-use Rattle.code.specs.declared.Operand.{Operand}
-use Rattle.code.specs.Said.{Said, whole, unlisted, number}
-use Rattle.code.specs.Rows.{one, run, columns, Row, _⇒_, byRows}
+use Rattle.alu.specs.declared.change.Change.the-variants.{Inc, Dec, ShiftBy, Extz, Exts}
+use Rattle.code.specs.{declared.Op.the-variants.Puts, declared.Side.the-variants.First, declared.Side.the-variants.With}
+use Rattle.code.specs.{declared.Operand.Operand, Said.Said, Said.whole, Said.unlisted, Said.number, Rows.one, Rows.run, Rows.columns, Rows.Row}
+use Rattle.code.specs.{Rows._⇒_, Rows.byRows}
+use Rattle.code.specs.declared.Use.the-variants.{Number, From, Load, Compute, Changed}
 
 -- ADD ADC SUB SBC AND XOR OR CP by number, 0 to 7
 abbrev pub arithOf : ℕ → Arith
@@ -35,7 +31,7 @@ shiftKind (suc (suc (suc n))) = Srl
 
 -- a byte 00 to 0F
 unfoldable pub placesRows : Size → Operand → Shift → List Row
-placesRows z o shift = (run 0x00 0x0F ⇒ λ n. whole (Puts (Shifted shift n)) z o) ∷ []
+placesRows z o shift = (run 0x00 0x0F ⇒ λ n. whole (Puts (Changed (ShiftBy shift n))) z o) ∷ []
 
 -- words and longs only
 abbrev pub notByte : Size → Said → Said
@@ -52,9 +48,9 @@ registerRows z o =
     ∷ (run 0x98 0x9F ⇒ λ b. whole (Puts (From (b % 8))) z o)
     ∷ (columns 0x80 ⇒ λ b. whole (Puts (Compute (arithOf (b / 16 % 8)) (First (b % 8)))) z o)
     ∷ (run 0xC8 0xCF ⇒ λ b. number (bytesOf z) (λ n. whole (Puts (Compute (arithOf (b % 8)) (With n))) z o))
-    ∷ (run 0x60 0x67 ⇒ λ b. whole (Puts (Inc (b % 8))) z o)
-    ∷ (run 0x68 0x6F ⇒ λ b. whole (Puts (Dec (b % 8))) z o)
+    ∷ (run 0x60 0x67 ⇒ λ b. whole (Puts (Changed (Inc (b % 8)))) z o)
+    ∷ (run 0x68 0x6F ⇒ λ b. whole (Puts (Changed (Dec (b % 8)))) z o)
     ∷ (run 0xEC 0xEF ⇒ λ b. byRows (placesRows z o (shiftKind (b % 4))))
-    ∷ (one 0x12 ⇒ λ b. notByte z (whole (Puts Extz) z o))
-    ∷ (one 0x13 ⇒ λ b. notByte z (whole (Puts Exts) z o))
+    ∷ (one 0x12 ⇒ λ b. notByte z (whole (Puts (Changed Extz)) z o))
+    ∷ (one 0x13 ⇒ λ b. notByte z (whole (Puts (Changed Exts)) z o))
     ∷ []

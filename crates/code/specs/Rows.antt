@@ -1,8 +1,5 @@
 -- A list of codes as data: a row has the bytes that it is for, and what each of them says.
-use Prim.Native.Nat.{ℕ, _/_, _%_}
-use mathlib.Core.List.{List, [], _∷_}
-use mathlib.Core.Bool.{Bool, cond, _&&_}
-use lib.Dec.{leb, eqb}
+use Rattle.little.specs.Words.{ℕ, _/_, _%_, List, [], _∷_, Bool, cond, _&&_, leb, eqb}
 use Rattle.code.specs.Said.{Said, unlisted, next}
 
 -- the bytes of a row

@@ -1,14 +1,7 @@
 -- Code bytes, judged one at a time.
-use Prim.Native.Nat.{ℕ, _+_}
-use mathlib.Core.List.{List}
-use mathlib.Core.Bool.{cond}
-use lib.ListN.{length, getD, take, drop}
-use lib.Dec.{ltb, leb}
-use Rattle.little.specs.Bytes.{valueOf}
-use Rattle.little.specs.declared.Size.{Size}
-use Rattle.code.specs.declared.Op.{Op}
-use Rattle.code.specs.declared.Operand.{Operand}
-use Rattle.code.specs.declared.Decoded.{Decoded}
+use Rattle.little.specs.Words.{ℕ, _+_, List, cond, length, getD, take, drop, ltb, leb}
+use Rattle.little.specs.{declared.Size.Size, Bytes.valueOf}
+use Rattle.code.specs.declared.{Op.Op, Operand.Operand, Decoded.Decoded}
 use Rattle.code.specs.declared.Decoded.the-variants.{Whole, Short, Unlisted}
 use Rattle.code.specs.declared.Found.{Found}
 use Rattle.code.specs.declared.Found.the-variants.{Value, Missing}

@@ -1,28 +1,18 @@
 -- The bytes that an instruction is read from: it keeps all that they said.
-use Prim.Native.Nat.{ℕ, _+_, _*_}
-use mathlib.Core.List.{List, [], _∷_, _++_}
-use mathlib.Core.Bool.{Bool, cond}
-use Rattle.little.specs.Bytes.{bytesFrom}
-use Rattle.little.specs.Width.{bytesOf}
-use Rattle.little.specs.declared.Size.{Size}
+use Rattle.little.specs.Words.{ℕ, _+_, _*_, List, [], _∷_, _++_, Bool, cond}
+use Rattle.little.specs.{declared.Size.Size, Bytes.bytesFrom, Width.bytesOf}
 use Rattle.little.specs.declared.Size.the-variants.{Byte, Word, Long}
-use Rattle.alu.specs.declared.Arith.{Arith}
+use Rattle.alu.specs.declared.{Arith.Arith, Shift.Shift, change.Change.Change}
 use Rattle.alu.specs.declared.Arith.the-variants.{Add, Adc, Sub, Sbc, And, Xor, Or, Cp}
-use Rattle.alu.specs.declared.Shift.{Shift}
 use Rattle.alu.specs.declared.Shift.the-variants.{Sla, Sra, Sll, Srl}
-use Rattle.code.specs.declared.Op.{Op}
+use Rattle.alu.specs.declared.change.Change.the-variants.{Inc, Dec, ShiftBy, Extz, Exts}
+use Rattle.code.specs.declared.{Op.Op, Control.Control, Stack.Stack, Use.Use, Side.Side, Base.Base, Operand.Operand}
 use Rattle.code.specs.declared.Op.the-variants.{Controls, Stacks, Puts, Sets, Blocks}
-use Rattle.code.specs.declared.Control.{Control}
 use Rattle.code.specs.declared.Control.the-variants.{Nop, Incf, Decf, Ldf, Rcf, Scf, Ccf, Zcf, Exf, Jp16, Jp24, Jr, Jrl}
-use Rattle.code.specs.declared.Stack.{Stack}
 use Rattle.code.specs.declared.Stack.the-variants.{PushF, PopF, Push, Pop, Call16, Call24, Calr, Ret}
-use Rattle.code.specs.declared.Use.{Use}
-use Rattle.code.specs.declared.Use.the-variants.{Number, From, Load, Compute, Inc, Dec, Shifted, Extz, Exts}
-use Rattle.code.specs.declared.Side.{Side}
+use Rattle.code.specs.declared.Use.the-variants.{Number, From, Load, Compute, Changed}
 use Rattle.code.specs.declared.Side.the-variants.{First, Second, With}
-use Rattle.code.specs.declared.Base.{Base}
 use Rattle.code.specs.declared.Base.the-variants.{Indirect, Displaced, Absolute8, Absolute16, Absolute24}
-use Rattle.code.specs.declared.Operand.{Operand}
 use Rattle.code.specs.declared.Operand.the-variants.{Register, Constant, Memory}
 
 -- 10H in a code's first byte for each step of the size
@@ -91,6 +81,14 @@ sideCode a (First r) z = (0x80 + 16 * arithNumber a + r) ∷ []
 sideCode a (Second r) z = (0x88 + 16 * arithNumber a + r) ∷ []
 sideCode a (With n) z = (0xC8 + arithNumber a) ∷ bytesFrom (bytesOf z) n
 
+-- a change, after the operand's bytes
+abbrev pub changeCode : Change → List ℕ
+changeCode (Inc n) = (0x60 + n) ∷ []
+changeCode (Dec n) = (0x68 + n) ∷ []
+changeCode (ShiftBy kind n) = (0xEC + shiftNumber kind) ∷ n ∷ []
+changeCode Extz = 0x12 ∷ []
+changeCode Exts = 0x13 ∷ []
+
 -- a register into the operand: 98+R after a register; 40+R, 50+R, 60+R after a memory form in the row of the stores
 abbrev pub fromCode : ℕ → Size → Operand → List ℕ
 fromCode r z (Register n) = placeCode (sizeStep z) (Register n) ++ ((0x98 + r) ∷ [])
@@ -128,11 +126,7 @@ useCode (Number n) z o = placeCode (sizeStep z) o ++ (0x03 ∷ bytesFrom (bytesO
 useCode (From r) z o = fromCode r z o
 useCode (Load r) z o = placeCode (sizeStep z) o ++ ((loadCode o + r) ∷ [])
 useCode (Compute a other) z o = placeCode (sizeStep z) o ++ sideCode a other z
-useCode (Inc n) z o = placeCode (sizeStep z) o ++ ((0x60 + n) ∷ [])
-useCode (Dec n) z o = placeCode (sizeStep z) o ++ ((0x68 + n) ∷ [])
-useCode (Shifted t n) z o = placeCode (sizeStep z) o ++ ((0xEC + shiftNumber t) ∷ n ∷ [])
-useCode Extz z o = placeCode (sizeStep z) o ++ (0x12 ∷ [])
-useCode Exts z o = placeCode (sizeStep z) o ++ (0x13 ∷ [])
+useCode (Changed how) z o = placeCode (sizeStep z) o ++ changeCode how
 
 unfoldable pub codeOf : Op → Size → Operand → List ℕ
 codeOf (Controls what) z o = controlCode what o

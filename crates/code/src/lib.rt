@@ -5,10 +5,10 @@ ghost use lib.ListN.{length, getD, take, drop};
 ghost use Rattle.little.specs.Bytes.{valueOf};
 ghost use Rattle.code.specs.Said.{numberAt, wholeOf, judge};
 ghost use Rattle.code.specs.Rows.{lookup};
-ghost use Rattle.code.specs.Parts.{aloneAs, countAs, extendAs, registerAs, memoryAs};
+ghost use Rattle.code.specs.inner.Parts.{aloneAs, registerAs, memoryAs};
 ghost use Rattle.code.specs.Listed.{memoryFirstRows, decodeOf};
 use alu::Arith;
-use alu::Shift;
+use alu::Change;
 use little::Size;
 
 pub mod first;
@@ -89,11 +89,7 @@ pub enum Use {
     From(u8), // the register of a code
     Load(u8), // the operand's value, into the register of a code
     Compute(Arith, Side),
-    Inc(u8),
-    Dec(u8),
-    Shifted(Shift, u8),
-    Extz,
-    Exts,
+    Changed(Change), // what is made of the operand's value alone
 }
 
 // What is done, by the kind of work. A code or a number in it stood after the operand's bytes.
@@ -136,9 +132,7 @@ pub enum OfRegister {
     Load(u8, usize),
     Compute(Arith, u8, usize), // with the register of a code, which is the first and gets the result
     With(Arith, u32, usize),
-    Count(bool, u8, usize), // INC or DEC
-    Shifted(Shift, u8, usize),
-    Extend(bool, usize), // EXTS or EXTZ
+    Changed(Change, usize),
     Short,
     Unlisted,
 }
@@ -226,18 +220,6 @@ fn puts(how: Use, size: Size, operand: Operand, length: usize) -> Decoded
     whole(Op::Puts(how), size, operand, length)
 }
 
-fn count(up: bool, n: u8) -> Use
-    ensures { λ r. ⌜ r ≡ countAs up n ⌝ }
-{
-    if up { Use::Inc(n) } else { Use::Dec(n) }
-}
-
-fn extension(signed: bool) -> Use
-    ensures { λ r. ⌜ r ≡ extendAs signed ⌝ }
-{
-    if signed { Use::Exts } else { Use::Extz }
-}
-
 // What was read, as an instruction.
 fn whole_alone(read: Alone) -> Decoded
     ensures { λ r. ⌜ r ≡ aloneAs read ⌝ }
@@ -265,9 +247,7 @@ fn whole_of_register(read: OfRegister, size: Size, operand: Operand) -> Decoded
         OfRegister::Load(r, n) => puts(Use::Load(r), size, operand, n),
         OfRegister::Compute(op, r, n) => puts(Use::Compute(op, Side::First(r)), size, operand, n),
         OfRegister::With(op, v, n) => puts(Use::Compute(op, Side::With(v)), size, operand, n),
-        OfRegister::Count(up, k, n) => puts(count(up, k), size, operand, n),
-        OfRegister::Shifted(shift, k, n) => puts(Use::Shifted(shift, k), size, operand, n),
-        OfRegister::Extend(signed, n) => puts(extension(signed), size, operand, n),
+        OfRegister::Changed(how, n) => puts(Use::Changed(how), size, operand, n),
         OfRegister::Short => Decoded::Short,
         OfRegister::Unlisted => Decoded::Unlisted,
     }

@@ -6,12 +6,14 @@ ghost use lib.ListN.{length};
 ghost use Rattle.code.specs.Said.{Said, judge};
 ghost use Rattle.code.specs.Rows.{lookup, byRows};
 ghost use Rattle.code.specs.Registers.{registerRows, placesRows, arithOf, shiftKind, notByte};
-ghost use Rattle.code.specs.Parts.{extendAs, registerAs};
+ghost use Rattle.code.specs.inner.Parts.{registerAs};
 use crate::Found;
 use crate::OfRegister;
 use crate::Op;
 use crate::Operand;
+use crate::Use;
 use alu::Arith;
+use alu::Change;
 use alu::Shift;
 use little::Size;
 
@@ -69,14 +71,14 @@ fn compute_constant(code: &[u8], size: Size, c: u8) -> OfRegister
     }
 }
 
-// An extension: of words and longs only.
-fn extended(signed: bool, size: Size) -> OfRegister
-    ensures { λ d. ⌜ ((o : Operand) (s : List ℕ) → registerAs d size o ≡ judge (notByte size (Said.whole (Op.Puts (extendAs signed)) size o)) s 2) ⌝ }
+// A change of words and longs only.
+fn not_byte(how: Change, size: Size) -> OfRegister
+    ensures { λ d. ⌜ ((o : Operand) (s : List ℕ) → registerAs d size o ≡ judge (notByte size (Said.whole (Op.Puts (Use.Changed how)) size o)) s 2) ⌝ }
 {
     match size {
         Size::Byte => OfRegister::Unlisted,
-        Size::Word => OfRegister::Extend(signed, 2),
-        Size::Long => OfRegister::Extend(signed, 2),
+        Size::Word => OfRegister::Changed(how, 2),
+        Size::Long => OfRegister::Changed(how, 2),
     }
 }
 
@@ -86,8 +88,8 @@ fn extension(size: Size, c: u8) -> OfRegister
     ensures { λ d. ⌜ ((o : Operand) (s : List ℕ) → registerAs d size o ≡ judge (lookup (registerRows size o) c) s 2) ⌝ }
 {
     match c {
-        0x12 => extended(false, size),
-        0x13 => extended(true, size),
+        0x12 => not_byte(Change::Extz, size),
+        0x13 => not_byte(Change::Exts, size),
         _ => OfRegister::Unlisted,
     }
 }
@@ -103,7 +105,7 @@ fn shifted(code: &[u8], size: Size, shift: Shift) -> OfRegister
     if 15 < places {
         return OfRegister::Unlisted;
     }
-    OfRegister::Shifted(shift, places, 3)
+    OfRegister::Changed(Change::ShiftBy(shift, places), 3)
 }
 
 // EC SLA, ED SRA, EE SLL, EF SRL, and nothing else from E8 to EF.
@@ -126,8 +128,8 @@ fn second(code: &[u8], size: Size, c: u8) -> OfRegister
     match c / 8 {
         0 => load_constant(code, size, c),
         2 => extension(size, c),
-        12 => OfRegister::Count(true, n, 2),
-        13 => OfRegister::Count(false, n, 2),
+        12 => OfRegister::Changed(Change::Inc(n), 2),
+        13 => OfRegister::Changed(Change::Dec(n), 2),
         17 => OfRegister::Load(n, 2),
         19 => OfRegister::From(n, 2),
         16 | 18 | 20 | 22 | 24 | 26 | 28 | 30 => OfRegister::Compute(arith_of(c / 16 % 8), n, 2),

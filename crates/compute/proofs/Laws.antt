@@ -7,10 +7,10 @@ use Rattle.answer.specs.declared.Answer.the-variants.{Done, Refused}
 use Rattle.little.specs.declared.Size.{Size}
 use Rattle.memory.specs.Access.{storeOf, ramAfter}
 use Rattle.state.specs.declared.State.{State}
-use Rattle.operand.specs.Try.{after, leaves}
+use Rattle.operand.specs.Try.{leaves, after}
 use Rattle.operand.specs.Operand.{storing}
 use Rattle.operand.proofs.Laws.{stored, not-stored}
-use Rattle.compute.specs.Compute.{keptOr}
+use Rattle.compute.specs.inner.Form.{keptOr}
 
 module _ (ram rom : List ℕ) (a : ℕ) (z : Size) (v : ℕ) where
   pub store-answered : (s : State) → after (storeOf ram rom a z) s (ramAfter ram rom a z v) ≡ leaves s ram (storing s ram rom a z v)

@@ -1,1 +1,2 @@
 pub mod Compute
+pub mod inner

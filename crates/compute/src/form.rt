@@ -1,9 +1,10 @@
 // What is put where one operand is in memory, at an address: a refused load or store changes nothing.
 ghost use mathlib.Core.Path.{_≡_};
 ghost use Rattle.state.specs.declared.State.{State};
-ghost use Rattle.state.specs.State.{banked, bankedWith};
-ghost use Rattle.operand.specs.Try.{Does};
-ghost use Rattle.compute.specs.Compute.{loadedFrom, storedTo, firstWith, secondWith, keptOr};
+ghost use Rattle.state.specs.State.{banked};
+ghost use Rattle.state.specs.inner.Lent.{bankedWith};
+ghost use Rattle.operand.specs.inner.Does.{Does};
+ghost use Rattle.compute.specs.inner.Form.{loadedFrom, storedTo, firstWith, secondWith, keptOr};
 use crate::operated;
 use crate::stores;
 use alu::Arith;

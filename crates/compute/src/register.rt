@@ -1,23 +1,20 @@
 // What is put where the operand is a register: no memory refuses it.
 ghost use mathlib.Core.Path.{_≡_};
-ghost use mathlib.Core.Bool.{cond};
 ghost use mathlib.Core.List.{List};
 ghost use Prim.Native.Nat.{ℕ};
 ghost use Rattle.code.specs.declared.Operand.the-variants.{Register};
 ghost use Rattle.code.specs.declared.Side.the-variants.{First, With};
-ghost use Rattle.code.specs.declared.Use.the-variants.{Compute, Inc, Dec, Shifted, Extz, Exts};
+ghost use Rattle.code.specs.declared.Use.the-variants.{Compute, Changed};
 ghost use Rattle.state.specs.declared.State.{State};
-ghost use Rattle.state.specs.State.{banked, bankedWith};
+ghost use Rattle.state.specs.State.{banked};
+ghost use Rattle.state.specs.inner.Lent.{bankedWith};
 ghost use Rattle.state.specs.Register.{registerAt, setRegister};
-ghost use Rattle.operand.specs.Try.{Does};
+ghost use Rattle.operand.specs.inner.Does.{Does};
 ghost use Rattle.compute.specs.Compute.{putsOf};
-use crate::counted;
-use crate::extended;
 use crate::operated;
-use crate::shifted;
 use crate::stores;
 use alu::Arith;
-use alu::Shift;
+use alu::Change;
 use answer::Answer;
 use little::Size;
 use state::Bank;
@@ -66,42 +63,13 @@ pub fn with(op: Arith, n: u32, size: Size, r: u8, bank: Bank, flags: &mut u8, re
     }
 }
 
-// INC or DEC of the register r by n.
-pub fn count(up: bool, n: u8, size: Size, r: u8, bank: Bank, flags: &mut u8, regs: &mut [u32; 20])
-    ensures { λ _. ⌜ ((s : State) (ram rom : List ℕ) → Does (λ t m. putsOf (cond up (Inc n) (Dec n)) size (Register r) t m rom)
+// A change of the register r.
+pub fn change(how: Change, size: Size, r: u8, bank: Bank, flags: &mut u8, regs: &mut [u32; 20])
+    ensures { λ _. ⌜ ((s : State) (ram rom : List ℕ) → Does (λ t m. putsOf (Changed how) size (Register r) t m rom)
         (bankedWith s (now (regs .entry)) bank (now (flags .entry))) ram
         Answer.Done (bankedWith s (now (regs .exit)) bank (now (flags .exit))) ram) ⌝ }
 {
     let v = state::read(&*regs, bank, size, r);
-    let w = counted(up, n, size, v, flags);
+    let w = alu::changed(how, size, v, flags);
     state::write(regs, bank, size, r, w);
-}
-
-// A shift of the register r.
-pub fn shift(
-    kind: Shift,
-    n: u8,
-    size: Size,
-    r: u8,
-    bank: Bank,
-    flags: &mut u8,
-    regs: &mut [u32; 20],
-)
-    ensures { λ _. ⌜ ((s : State) (ram rom : List ℕ) → Does (λ t m. putsOf (Shifted kind n) size (Register r) t m rom)
-        (bankedWith s (now (regs .entry)) bank (now (flags .entry))) ram
-        Answer.Done (bankedWith s (now (regs .exit)) bank (now (flags .exit))) ram) ⌝ }
-{
-    let v = state::read(&*regs, bank, size, r);
-    let w = shifted(kind, size, v, n, flags);
-    state::write(regs, bank, size, r, w);
-}
-
-// EXTS or EXTZ of the register r.
-pub fn extend(signed: bool, size: Size, r: u8, bank: Bank, regs: &mut [u32; 20])
-    ensures { λ _. ⌜ ((s : State) (ram rom : List ℕ) → Does (λ t m. putsOf (cond signed Exts Extz) size (Register r) t m rom)
-        (banked s (now (regs .entry)) bank) ram
-        Answer.Done (banked s (now (regs .exit)) bank) ram) ⌝ }
-{
-    let v = state::read(&*regs, bank, size, r);
-    state::write(regs, bank, size, r, extended(signed, size, v));
 }

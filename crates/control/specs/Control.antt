@@ -1,16 +1,10 @@
 -- Banks, flags and jumps: what changes the counter, the bank and the flags alone.
-use Prim.Native.Nat.{ℕ, _+_}
-use mathlib.Core.Bool.{cond}
-use mathlib.Core.List.{List}
-use Rattle.alu.specs.Condition.{holdsOf}
-use Rattle.alu.specs.Flag.{rcfOf, scfOf, ccfOf, zcfOf}
-use Rattle.state.specs.State.{withBank, withCounter}
-use Rattle.state.specs.declared.State.{State}
+use Rattle.little.specs.Words.{ℕ, _+_, cond, List}
+use Rattle.alu.specs.{Condition.holdsOf, Flag.rcfOf, Flag.scfOf, Flag.ccfOf, Flag.zcfOf}
+use Rattle.state.specs.{declared.State.State, State.withBank, State.withCounter}
 use Rattle.code.specs.declared.Control.{Control}
 use Rattle.code.specs.declared.Control.the-variants.{Nop, Incf, Decf, Ldf, Rcf, Scf, Ccf, Zcf, Exf, Jp16, Jp24, Jr, Jrl}
-use Rattle.operand.specs.Try.{Try, did}
-use Rattle.operand.specs.Flag.{flagsIn, flagged, exchanged}
-use Rattle.operand.specs.Operand.{displaced}
+use Rattle.operand.specs.{Try.Try, Try.did, Flag.flagsIn, Flag.flagged, Flag.exchanged, Operand.displaced}
 
 -- the counter is `to` where the condition cc holds; else it stays past the jump
 unfoldable pub jumpOf : State → List ℕ → ℕ → ℕ → Try

@@ -5,13 +5,15 @@ ghost use Prim.Native.Nat.{ℕ, _+_, _%_, _^_};
 ghost use Rattle.little.specs.Width.{bitsOf};
 ghost use Rattle.alu.specs.Flag.{byteOf};
 ghost use Rattle.state.specs.declared.State.{State};
-ghost use Rattle.state.specs.State.{controlled, flaggedAt};
-ghost use Rattle.operand.specs.Try.{Does};
+ghost use Rattle.state.specs.inner.Lent.{controlled, flaggedAt};
+ghost use Rattle.operand.specs.inner.Does.{Does};
 ghost use Rattle.operand.specs.Operand.{displaced};
 ghost use Rattle.control.specs.Control.{jumpOf, controlOf};
 use alu::Flags;
 use answer::Answer;
 use code::Control;
+use little::ADDRESSES;
+use little::SPACE;
 use little::Size;
 use operand::displace;
 
@@ -19,8 +21,8 @@ use operand::displace;
 pub fn past(counter: &mut u32, n: usize)
     ensures { λ _. ⌜ now (counter .exit) ≡ (now (counter .entry) + n) % 2 ^ 24 ⌝ }
 {
-    let m = (n % 16777216) as u32;
-    *counter = std::num::wrapping_add_u32(*counter, m) % 16777216;
+    let m = (n % SPACE) as u32;
+    *counter = std::num::wrapping_add_u32(*counter, m) % ADDRESSES;
 }
 
 // A jump by a displacement of a size, where its condition holds.
@@ -39,7 +41,7 @@ pub fn jump(flags: u8, counter: &mut u32, cc: u8, size: Size, d: u32) -> Answer
 fn go(counter: &mut u32, to: u32) -> Answer
     ensures { λ a. ⌜ (a ≡ Answer.Done) × (now (counter .exit) ≡ to % 2 ^ 24) ⌝ }
 {
-    *counter = to % 16777216;
+    *counter = to % ADDRESSES;
     Answer::Done
 }
 

@@ -21,11 +21,11 @@ use Rattle.state.specs.Register.{getRegister}
 use Rattle.state.specs.Sr.{srOf}
 use Rattle.step.specs.declared.Stepped.{Stepped}
 use Rattle.step.specs.Reset.{resetOf}
-use Rattle.step.specs.declared.turn.Ran.{Ran}
-use Rattle.step.specs.Many.{Result, result}
+use Rattle.turn.specs.declared.Ran.{Ran}
+use Rattle.turn.specs.Many.{Result, result}
 use Rattle.run.specs.Run.{runOf}
 use Rattle.line.specs.Text.{digitOf, hexOf, decimalIn, decimalOf, following, lineOf}
-use Rattle.line.specs.Lines.{written, Lendable, emptyLine, withByte, grown, counts, whereOf, registerOf, registersOf, refusedLine, ranLine, zeros, resultLine, unlessRefused, lineFor, LineMeets}
+use Rattle.line.specs.Lines.{written, emptyLine, withByte, grown, whereOf, registerOf, registersOf, refusedLine, ranLine, zeros, lineAfter, lineFor, LineMeets}
 
 -- ---- two additions are one
 grown-joins : (l : Line) (a b : List ℕ) → grown (grown l a) b ≡ grown l (a ++ b)
@@ -93,6 +93,9 @@ grown-written l (b ∷ a) e h =
       now-long = k .now-long ∙ omega arith;
       room = k .room;
     })
+
+abbrev Lendable : Line → Type 0
+Lendable l = (l .length ≤ length (l .text)) × (l .length ≡ length (written l))
 
 pub whole : (a : List ℕ) → length a ≤ 127 → (written (grown emptyLine a) ≡ a) × Lendable (grown emptyLine a)
 whole a h =
@@ -205,17 +208,17 @@ ran-short s d a =
 -- ---- what each function adds
 pub counts-made :
     (d n : ℕ) {v0 : Line} (v1 : Line) {v2 v3 : Line} → v0 ≡ emptyLine → v1 ≡ grown v0 (decimalOf d) → v2 ≡ grown v1 (32 ∷ []) →
-    v3 ≡ grown v2 (decimalOf n) → v3 ≡ grown emptyLine (counts d n)
+    v3 ≡ grown v2 (decimalOf n) → v3 ≡ grown emptyLine (decimalOf d ++ following (decimalOf n ∷ []))
 counts-made d n v1 e0 e1 e2 e3 =
     two emptyLine (decimalOf d) (following (decimalOf n ∷ [])) refl (e1 ∙ ap (λ (x : Line). grown x (decimalOf d)) e0) (field v1 (decimalOf n) e2 e3)
 
-pub refused-made : (w : Why) {n : ℕ} {v u : Line} → n ≡ whyNumber w → v ≡ grown emptyLine (counts 0 n) → u ≡ grown v (10 ∷ []) → u ≡ grown emptyLine (refusedLine w)
+pub refused-made : (w : Why) {n : ℕ} {v u : Line} → n ≡ whyNumber w → v ≡ grown emptyLine (decimalOf 0 ++ following (decimalOf n ∷ [])) → u ≡ grown v (10 ∷ []) → u ≡ grown emptyLine (refusedLine w)
 unfolding refusedLine
 refused-made w g e h =
-    line-made emptyLine (decimalOf 0) (decimalOf (whyNumber w) ∷ []) (e ∙ ap (λ (n : ℕ). grown emptyLine (counts 0 n)) g) h
+    line-made emptyLine (decimalOf 0) (decimalOf (whyNumber w) ∷ []) (e ∙ ap (λ (n : ℕ). grown emptyLine (decimalOf 0 ++ following (decimalOf n ∷ []))) g) h
 
 pub ran-made :
-    (s : State) (d : ℕ) (a : Answer) {n : ℕ} {v1 v2 v3 v4 : Line} → n ≡ numberOf a → v1 ≡ grown emptyLine (counts d n) →
+    (s : State) (d : ℕ) (a : Answer) {n : ℕ} {v1 v2 v3 v4 : Line} → n ≡ numberOf a → v1 ≡ grown emptyLine (decimalOf d ++ following (decimalOf n ∷ [])) →
     v2 ≡ grown v1 (following (whereOf s)) → v3 ≡ grown v2 (following (registersOf s)) → v4 ≡ grown v3 (10 ∷ []) → v4 ≡ grown emptyLine (ranLine s d a)
 unfolding ranLine
 ran-made s d a g e1 e2 e3 e4 =
@@ -223,7 +226,7 @@ ran-made s d a g e1 e2 e3 e4 =
     let x = decimalOf (numberOf a) ∷ [] in
     line-made emptyLine f (x ++ (whereOf s ++ registersOf s))
     (more emptyLine f (x ++ whereOf s) (registersOf s)
-    (more emptyLine f x (whereOf s) (e1 ∙ ap (λ (n : ℕ). grown emptyLine (counts d n)) g) e2) e3)
+    (more emptyLine f x (whereOf s) (e1 ∙ ap (λ (n : ℕ). grown emptyLine (decimalOf d ++ following (decimalOf n ∷ []))) g) e2) e3)
     e4
 
 -- ---- the program
@@ -245,14 +248,14 @@ module _ (image : List ℕ) where
     unfolding lineFor
     for-ran q m e f =
         rw (le-ltb 32768 (length image) few, reset-answer e)
-        (sym (ap resultLine (f ∙ ap (λ (x : Stepped). runOf 1000 (x .state) zeros image) is)))
+        (sym (ap (lineAfter Done) (f ∙ ap (λ (x : Stepped). runOf 1000 (x .state) zeros image) is)))
 
 -- every line is short enough to be written whole
 pub for-short : (image : List ℕ) → length (lineFor image) ≤ 127
 unfolding lineFor
 for-short image = go (ltb 32768 (length image)) (resetOf zeros image .answer) (runOf 1000 (resetOf zeros image .state) zeros image)
   where
-    go : (b : Bool) (a : Answer) (r : Result) → length (cond b (refusedLine TooLong) (unlessRefused a (resultLine r))) ≤ 127
+    go : (b : Bool) (a : Answer) (r : Result) → length (cond b (refusedLine TooLong) (lineAfter a r)) ≤ 127
     go true a r = refused-short TooLong
     go false (Refused w) r = refused-short w
     go false Done r = ran-short (r .state) (r .done) (r .answer)
@@ -260,4 +263,4 @@ for-short image = go (ltb 32768 (length image)) (resetOf zeros image .answer) (r
 pub line-whole : (image : List ℕ) {r : Line} → r ≡ grown emptyLine (lineFor image) → LineMeets image r
 line-whole image e =
     let w = subst (λ (r : Line). (written r ≡ lineFor image) × Lendable r) (sym e) (whole (lineFor image) (for-short image)) in
-    (e, w .0, w .1)
+    (e, w .0, w .1 .0, w .1 .1)

@@ -15,12 +15,14 @@ use Rattle.code.specs.Said.{numberAt, judge}
 use Rattle.control.specs.Control.{controlOf}
 use Rattle.stack.specs.Stack.{stackOf}
 use Rattle.compute.specs.Compute.{putsOf}
-use Rattle.step.specs.Exec.{pastOf, effectOf, executedOf}
+use Rattle.exec.specs.Exec.{pastOf, effectOf, executedOf}
 use Rattle.operand.specs.Flag.{flagged}
 use Rattle.operand.specs.Operand.{valueIn, storing}
 use Rattle.step.specs.Reset.{resetOf}
-use Rattle.step.specs.Step.{guarded, onceOf, tryOf}
-use Rattle.run.specs.Run.{goOf, runOf}
+use Rattle.turn.specs.Once.{onceOf}
+use Rattle.step.specs.Step.{guarded, tryOf}
+use Rattle.turn.specs.Many.{manyOf}
+use Rattle.run.specs.Run.{runOf}
 use Rattle.line.specs.Lines.{ranLine, lineFor}
 use Rattle.line.specs.Text.{hexOf, decimalIn}
 use Rattle.line.specs.Statements.{Settled, ExampleLine}
@@ -29,5 +31,5 @@ pub settled : Settled
 settled image r r' e f = e .0 ∙ sym (f .0)
 
 pub example-line : ExampleLine
-unfolding valueOf loadOf codeAt placeOf getBits setBits slotIn setSlot slotOf registerAt setRegister zeroState resetState validOf longOf withLong withCounter withBothFlags withFlags byteOf flagsOf operated computedOf sumOf bankNumberRows bankRows flagRows constantRows stackRows jumpRows relativeRows registerFormRows absoluteRows memoryFormRows memoryAtRows storeFormRows aloneRows memoryFirstRows firstRows decodeOf placesRows registerRows lookup numberAt judge pastOf controlOf stackOf putsOf effectOf executedOf flagged valueIn storing resetOf guarded onceOf tryOf goOf runOf ranLine lineFor hexOf decimalIn
+unfolding valueOf loadOf codeAt placeOf getBits setBits slotIn setSlot slotOf registerAt setRegister zeroState resetState validOf longOf withLong withCounter withBothFlags withFlags byteOf flagsOf operated computedOf sumOf bankNumberRows bankRows flagRows constantRows stackRows jumpRows relativeRows registerFormRows absoluteRows memoryFormRows memoryAtRows storeFormRows aloneRows memoryFirstRows firstRows decodeOf placesRows registerRows lookup numberAt judge pastOf controlOf stackOf putsOf effectOf executedOf flagged valueIn storing resetOf guarded onceOf tryOf manyOf runOf ranLine lineFor hexOf decimalIn
 example-line = refl

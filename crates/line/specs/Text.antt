@@ -1,8 +1,5 @@
 -- Numbers as text, in ASCII, and fields with one space between.
-use Prim.Native.Nat.{ℕ, zero, suc, _+_, _/_, _%_}
-use mathlib.Core.List.{List, [], _∷_, _++_}
-use mathlib.Core.Bool.{cond}
-use lib.Dec.{ltb}
+use Rattle.little.specs.Words.{ℕ, zero, suc, _+_, _/_, _%_, List, [], _∷_, _++_, cond, ltb}
 
 -- 0 to 9, then A to F
 abbrev pub digitOf : ℕ → ℕ

@@ -1,15 +1,15 @@
 // The line that the program prints for a ROM image.
 ghost use mathlib.Core.Path.{_≡_};
-ghost use mathlib.Core.List.{[], _∷_};
+ghost use mathlib.Core.List.{[], _∷_, _++_};
 ghost use Prim.Native.Nat.{_%_};
 ghost use Rattle.line.specs.Text.{digitOf, decimalIn, decimalOf, hexOf, following};
-ghost use Rattle.line.specs.Lines.{emptyLine, grown, counts, whereOf, registerOf, registersOf, refusedLine, ranLine, LineMeets};
+ghost use Rattle.line.specs.Lines.{emptyLine, grown, whereOf, registerOf, registersOf, refusedLine, ranLine, LineMeets};
 use answer::Answer;
 use answer::Why;
 use little::Size;
 use state::State;
 use state::status::sr;
-use step::turn::Ran;
+use turn::Ran;
 
 // A text that grows at its end. 128 bytes are more than the longest line has; past them nothing is added.
 pub struct Line {
@@ -80,7 +80,7 @@ fn hex(l: Line, n: u32, places: u8) -> Line
 
 // Steps and number.
 fn counted(done: u32, number: u8) -> Line
-    ensures { λ r. ⌜ r ≡ grown emptyLine (counts done number) ⌝ }
+    ensures { λ r. ⌜ r ≡ grown emptyLine (decimalOf done ++ following (decimalOf number ∷ [])) ⌝ }
 {
     decimal(add(decimal(empty(), done), b' '), number as u32)
 }

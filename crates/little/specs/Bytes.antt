@@ -1,7 +1,5 @@
 -- Numbers as bytes, low byte first.
-use Prim.Native.Nat.{ℕ, zero, suc, _+_, _*_, _/_, _%_, _^_, _<_}
-use mathlib.Core.List.{List, [], _∷_, _++_}
-use lib.ListN.{length, getD, take, drop}
+use Rattle.little.specs.Words.{ℕ, zero, suc, _+_, _*_, _/_, _%_, _^_, _<_, List, [], _∷_, _++_, length, getD, take, drop}
 
 -- every number of the list is a byte
 abbrev pub Bytes : List ℕ → Type 0

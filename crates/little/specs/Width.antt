@@ -1,5 +1,5 @@
 -- The three sizes of an operand.
-use Prim.Native.Nat.{ℕ}
+use Rattle.little.specs.Words.{ℕ}
 use Rattle.little.specs.declared.Size.{Size}
 use Rattle.little.specs.declared.Size.the-variants.{Byte, Word, Long}
 

@@ -4,6 +4,15 @@ ghost use lib.ListN.{length, getD, take};
 ghost use Rattle.little.specs.Width.{bytesOf};
 ghost use Rattle.little.specs.Bytes.{valueOf, bytesFrom};
 
+// The weight of the top byte of a long.
+pub const TOP_BYTE: u32 = 0x100_0000;
+
+// How many addresses there are: an address is a long without its top byte.
+pub const ADDRESSES: u32 = TOP_BYTE;
+
+// The same as a length: of a memory that had them all.
+pub const SPACE: usize = ADDRESSES as usize;
+
 pub enum Size {
     Byte,
     Word,
@@ -36,7 +45,7 @@ pub fn read(part: &[u8]) -> u32
     let b1 = byte_at(part, 1);
     let b2 = byte_at(part, 2);
     let b3 = byte_at(part, 3);
-    b0 + 256 * b1 + 65536 * b2 + 16777216 * b3
+    b0 + 256 * b1 + 65536 * b2 + TOP_BYTE * b3
 }
 
 // Fills the part with the low bytes of v.

@@ -1,17 +1,11 @@
 -- Loads, stores and fetches.
-use Prim.Native.Nat.{ℕ, _+_}
-use mathlib.Core.List.{List, []}
-use lib.ListN.{length, take, drop}
+use Rattle.little.specs.Words.{ℕ, _+_, List, [], length, take, drop}
 use Rattle.answer.specs.declared.Answer.{Answer}
+use Rattle.little.specs.{declared.Size.Size, Width.bytesOf, Bytes.valueOf, Bytes.bytesFrom, Bytes.replaced}
+use Rattle.memory.specs.{declared.Place.Place, declared.Loaded.Loaded, Place.placeOf}
+use Rattle.memory.specs.declared.Place.the-variants.{Ram, Rom, Missing}
 use Rattle.answer.specs.declared.Answer.the-variants as answer
 use Rattle.answer.specs.declared.Why.the-variants as why
-use Rattle.little.specs.declared.Size.{Size}
-use Rattle.little.specs.Width.{bytesOf}
-use Rattle.little.specs.Bytes.{valueOf, bytesFrom, replaced}
-use Rattle.memory.specs.Place.{placeOf}
-use Rattle.memory.specs.declared.Place.{Place}
-use Rattle.memory.specs.declared.Place.the-variants.{Ram, Rom, Missing}
-use Rattle.memory.specs.declared.Loaded.{Loaded}
 use Rattle.memory.specs.declared.Loaded.the-variants as loaded
 
 -- the place of an operand of a size, in two memories

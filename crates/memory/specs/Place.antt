@@ -1,7 +1,5 @@
 -- Where an operand lies.
-use Prim.Native.Nat.{ℕ, _+_, _-_, _^_}
-use mathlib.Core.Bool.{cond, _&&_}
-use lib.Dec.{leb}
+use Rattle.little.specs.Words.{ℕ, _+_, _-_, _^_, cond, _&&_, leb}
 use Rattle.memory.specs.declared.Place.{Place}
 use Rattle.memory.specs.declared.Place.the-variants.{Ram, Rom, Missing}
 

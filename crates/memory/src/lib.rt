@@ -7,6 +7,7 @@ ghost use Prim.Native.Nat.{_≤_};
 ghost use Rattle.memory.specs.Access.{loadFrom, loadOf, storeTo, storeOf, ramWith, ramAfter, codeAt, standsAt};
 use answer::Answer;
 use answer::Why;
+use little::SPACE;
 use little::Size;
 
 // Where an operand lies, as an offset into its memory.
@@ -26,8 +27,8 @@ pub fn find(ram_len: usize, rom_len: usize, address: u32, n: usize) -> Place
             return Place::Ram(at);
         }
     }
-    if at <= 16777216 {
-        let above = 16777216 - at;
+    if at <= SPACE {
+        let above = SPACE - at;
         if above <= rom_len {
             if n <= above {
                 return Place::Rom(rom_len - above);

@@ -1,11 +1,11 @@
 -- What each call comes to, case by case.
-use Prim.Native.Nat.{ℕ, zero, suc, _+_, _<_, _≤_}
+use Prim.Native.Nat.{ℕ, zero, suc, _<_, _≤_}
 use mathlib.Core.Path.{_≡_, refl, ap, sym, _∙_, subst}
 use mathlib.Core.List.{List}
 use mathlib.Core.Bool.{Bool, true, false, cond}
 use native.Mathlib.Omega.{arith}
 use lib.ListN.{length}
-use lib.Dec.{ltb, eqb}
+use lib.Dec.{eqb}
 use borrow.Author.Tests.{lt-ltb, le-ltb, eq-eqb, eqb-true}
 use Rattle.answer.specs.declared.Answer.{Answer}
 use Rattle.answer.specs.declared.Answer.the-variants.{Done, Refused}
@@ -19,35 +19,30 @@ use Rattle.memory.specs.declared.Loaded.the-variants as loaded
 use Rattle.state.specs.State.{validOf, zeroState}
 use Rattle.state.specs.Sound.{Sound}
 use Rattle.state.specs.declared.State.{State}
-use Rattle.state.proofs.Valid.{Valid, valid-says, valid-from, valid-reset, and-true}
+use Rattle.state.proofs.Valid.{Valid, valid-says, valid-from, valid-zero, valid-reset, and-true}
 use Rattle.saved.specs.declared.Restored.{Restored}
-use Rattle.saved.specs.Record.{recordOf, saveAnswer, saveBytes, stateAt, fixedAt, isRecord, restoredOf, refusedRecord}
+use Rattle.saved.specs.Record.{recordLength, recordOf, saveAnswer, saveBytes, stateAt, fixedAt, isRecord, restoredOf, refusedRecord}
 use Rattle.step.specs.declared.Stepped.{Stepped}
 use Rattle.operand.specs.Try.{Try, did, no, Outcome, leaves}
 use Rattle.step.specs.Result.{refusedWith}
-use Rattle.step.specs.Step.{tooLong, guarded, tryOf, stepOf}
+use Rattle.step.specs.Step.{tooLong, tryOf, stepOf}
 use Rattle.step.specs.Reset.{resetFrom, resetOf}
-use Rattle.step.proofs.Statements.{keeps-valid}
-use Rattle.step.specs.declared.turn.Ran.{Ran}
-use Rattle.step.specs.Many.{Result, result, ends}
-use Rattle.run.specs.Run.{afterChecks, goOf, runOf}
-use Rattle.run.proofs.Laws.{go-did, go-no}
-use Rattle.run.proofs.Joins.{one-step-run}
-use Rattle.module.specs.Calls.{roomAnswer, whereDone, resetAnswer, resetBytes, openedOf, stepLeft, runLeft, runDone, CResetMeets, CStepMeets, CRunMeets}
+use Rattle.facts.proofs.Statements.{keeps-valid}
+use Rattle.turn.specs.declared.Ran.{Ran}
+use Rattle.turn.specs.Many.{Result, result}
+use Rattle.run.specs.Run.{runOf}
+use Rattle.run.proofs.Joins.{Began, none, first, began, run-zero, one-step-run}
+use Rattle.module.specs.Calls.{whereDone, resetAnswer, resetBytes, openedOf, stepLeft, runLeft, runDone, CResetMeets, CStepMeets, CRunMeets}
 
 -- ---- the states that are written are valid
-zero-valid : Valid zeroState
-unfolding zeroState
-zero-valid = record { counter = omega arith; bank = omega arith; level = omega arith; flags = refl; spare = refl }
-
 reset-valid : (ram rom : List ℕ) → Valid (resetOf ram rom .state)
 unfolding resetOf
 reset-valid ram rom = go (tooLong (length ram) (length rom)) (access.loadOf ram rom 0xFFFF00 Long)
   where
     go : (b : Bool) (l : Loaded) → Valid (cond b (refusedWith zeroState TooLong) (resetFrom l) .state)
-    go true l = zero-valid
+    go true l = valid-zero
     go false (loaded.Value v) = valid-reset v
-    go false (loaded.Refused w) = zero-valid
+    go false (loaded.Refused w) = valid-zero
 
 -- what every accepted step keeps, every step and every run keep
 module _ (P : State → Type 0) (kept : (s : State) (ram rom : List ℕ) (t : State) (m : List ℕ) → tryOf s ram rom ≡ did t m → P s → P t) where
@@ -59,23 +54,13 @@ module _ (P : State → Type 0) (kept : (s : State) (ram rom : List ℕ) (t : St
       go (did u m) e = kept s ram rom u m e ok
       go (no w) e = ok
 
-  go-keeps : (n d : ℕ) (s : State) (ram rom : List ℕ) → P s → P (goOf n d s ram rom .state)
-  unfolding goOf
-  go-keeps zero d s ram rom ok = ok
-  go-keeps (suc n) d s ram rom ok = go (tryOf s ram rom) refl (λ u m v. go-keeps n (d + 1) u m rom v)
-    where
-      go : (t : Try) → tryOf s ram rom ≡ t → ((u : State) (m : List ℕ) → P u → P (goOf n (d + 1) u m rom .state)) → P (goOf (suc n) d s ram rom .state)
-      go (did u m) e later = subst (λ (r : Result). P (r .state)) (sym (go-did n d s ram rom u m e)) (later u m (kept s ram rom u m e ok))
-      go (no w) e later = subst (λ (r : Result). P (r .state)) (sym (go-no n d s ram rom w e)) ok
-
   run-keeps : (n : ℕ) (s : State) (ram rom : List ℕ) → P s → P (runOf n s ram rom .state)
-  unfolding runOf
-  run-keeps n s ram rom ok = go (ltb 1000000 n) (guarded s ram rom (did s ram))
+  run-keeps zero s ram rom ok = subst (λ (r : Result). P (r .state)) (sym (run-zero s ram rom .1)) ok
+  run-keeps (suc n) s ram rom ok = go (λ u m v. run-keeps n u m rom v) (began n s ram rom)
     where
-      go : (b : Bool) (t : Try) → P (cond b (ends 0 s ram (Refused TooMany)) (afterChecks t s ram (goOf n 0 s ram rom)) .state)
-      go true t = ok
-      go false (did u m) = go-keeps n 0 s ram rom ok
-      go false (no w) = ok
+      go : ((u : State) (m : List ℕ) → P u → P (runOf n u m rom .state)) → Began n s ram rom → P (runOf (suc n) s ram rom .state)
+      go more (none a e) = subst (λ (r : Result). P (r .state)) (sym e) ok
+      go more (first u m f e) = subst (λ (r : Result). P (r .state)) (sym e) (more u m (kept s ram rom u m f ok))
 
 try-keeps : (s : State) (ram rom : List ℕ) (t : State) (m : List ℕ) → tryOf s ram rom ≡ did t m → Valid t × (Sound s → Sound t)
 unfolding stepOf
@@ -96,35 +81,35 @@ pub run-sound : (n : ℕ) (s : State) (ram rom : List ℕ) → Sound s → Sound
 run-sound = run-keeps Sound (λ s ram rom t m e ok. try-keeps s ram rom t m e .1 ok)
 
 -- ---- a record that is opened
-load-done : (b : List ℕ) → restoredOf b .answer ≡ Done → Valid (restoredOf b .state) × (length b ≡ 88)
+load-done : (b : List ℕ) → restoredOf b .answer ≡ Done → Valid (restoredOf b .state) × (length b ≡ recordLength)
 unfolding restoredOf
 load-done b h = go (isRecord b) refl h
   where
     go : (x : Bool) → isRecord b ≡ x → cond x (record { answer = Done; state = stateAt b }) (refusedRecord Invalid) .answer ≡ Done →
-        Valid (cond x (record { answer = Done; state = stateAt b }) (refusedRecord Invalid) .state) × (length b ≡ 88)
+        Valid (cond x (record { answer = Done; state = stateAt b }) (refusedRecord Invalid) .state) × (length b ≡ recordLength)
     go true e f =
-        let a = and-true (eqb (length b) 88) _ e in
+        let a = and-true (eqb (length b) recordLength) _ e in
         (valid-says (stateAt b) (and-true (validOf (stateAt b)) (fixedAt b) (a .1) .0), eqb-true _ _ (a .0))
     go false e f = let z : _≡_ {A = ℕ} 0 1 = cc in absurd (omega arith)
 
-opened-done : (b : List ℕ) (m n : ℕ) → openedOf b m n .answer ≡ Done → Valid (openedOf b m n .state) × (length b ≡ 88)
+opened-done : (b : List ℕ) (m n : ℕ) → openedOf b m n .answer ≡ Done → Valid (openedOf b m n .state) × (length b ≡ recordLength)
 unfolding openedOf
 opened-done b m n h = go (tooLong m n) h
   where
     go : (x : Bool) → cond x (record { answer = Refused TooLong; state = zeroState }) (restoredOf b) .answer ≡ Done →
-        Valid (cond x (record { answer = Refused TooLong; state = zeroState }) (restoredOf b) .state) × (length b ≡ 88)
+        Valid (cond x (record { answer = Refused TooLong; state = zeroState }) (restoredOf b) .state) × (length b ≡ recordLength)
     go true f = let z : _≡_ {A = ℕ} 0 1 = cc in absurd (omega arith)
     go false f = load-done b f
 
 -- ---- a valid state is saved wherever there is room
-saves : (s : State) (b : List ℕ) → Valid s → (saveAnswer s (length b) ≡ roomAnswer (length b)) × (saveBytes s b ≡ cond (eqb (length b) 88) (recordOf s) b)
+saves : (s : State) (b : List ℕ) → Valid s → (saveAnswer s (length b) ≡ cond (eqb (length b) recordLength) Done (Refused Invalid)) × (saveBytes s b ≡ cond (eqb (length b) recordLength) (recordOf s) b)
 unfolding saveAnswer saveBytes
 saves s b ok = (rw (valid-from s ok) refl, rw (valid-from s ok) refl)
 
-saved-whole : (s : State) (b : List ℕ) → Valid s → length b ≡ 88 → (saveAnswer s (length b) ≡ Done) × (saveBytes s b ≡ recordOf s)
+saved-whole : (s : State) (b : List ℕ) → Valid s → length b ≡ recordLength → (saveAnswer s (length b) ≡ Done) × (saveBytes s b ≡ recordOf s)
 saved-whole s b ok e =
     let k = saves s b ok in
-    let t = eq-eqb (length b) 88 e in
+    let t = eq-eqb (length b) recordLength e in
     (k .0 ∙ rw t refl, k .1 ∙ rw t refl)
 
 pub opened-long : (b : List ℕ) (m n : ℕ) → tooLong m n ≡ true → openedOf b m n ≡ refusedRecord TooLong
@@ -149,7 +134,7 @@ module _ (b ram rom : List ℕ) (r : Stepped) (is : r ≡ resetOf ram rom) where
   reset-saves a e g h =
       let f : resetOf ram rom .answer ≡ Done = ap (λ (y : Stepped). y .answer) (sym is) ∙ a in
       let k = saves (resetOf ram rom .state) b (reset-valid ram rom) in
-      (rw (f, h, e, is, k .0) refl, rw (f, g, is, k .1) (room _ _ (eqb (length b) 88)))
+      (rw (f, h, e, is, k .0) refl, rw (f, g, is, k .1) (room _ _ (eqb (length b) recordLength)))
     where
       room : (x y : List ℕ) (t : Bool) → cond t x y ≡ whereDone (cond t Done (Refused Invalid)) x y
       room x y true = refl
@@ -159,9 +144,6 @@ module _ (b ram rom : List ℕ) (r : Stepped) (is : r ≡ resetOf ram rom) where
 -- what a run leaves, but for its count
 abbrev uncounted : Result → Outcome
 uncounted r = record { state = r .state; ram = r .ram; answer = r .answer }
-
-run-of-one : (s : State) (ram rom : List ℕ) → uncounted (runOf 1 s ram rom) ≡ stepOf s ram rom
-run-of-one s ram rom = ap uncounted (one-step-run s ram rom)
 
 module _ (b ram rom : List ℕ) (o : Restored) (is : o ≡ openedOf b (length ram) (length rom)) where
   opened-answer : {a : Answer} → o .answer ≡ a → openedOf b (length ram) (length rom) .answer ≡ a
@@ -173,7 +155,7 @@ module _ (b ram rom : List ℕ) (o : Restored) (is : o ≡ openedOf b (length ra
 
   module _ (r : Ran) (m : List ℕ) (good : o .answer ≡ Done) (e : result r m ≡ runOf 1 (o .state) ram rom) where
     here : uncounted (result r m) ≡ stepOf (openedOf b (length ram) (length rom) .state) ram rom
-    here = ap uncounted e ∙ run-of-one (o .state) ram rom ∙ ap (λ (x : Restored). stepOf (x .state) ram rom) is
+    here = ap uncounted e ∙ one-step-run (o .state) ram rom ∙ ap (λ (x : Restored). stepOf (x .state) ram rom) is
 
     pub step-no : {n : ℕ} (w : Why) → r .answer ≡ Refused w → n ≡ whyNumber w → CStepMeets b ram rom n b m
     unfolding stepLeft

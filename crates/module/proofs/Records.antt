@@ -1,11 +1,11 @@
 -- A run on a record is the run from the state in it; so two runs in a row are one, and a refused one is refused again.
-use Prim.Native.Nat.{ℕ, zero, suc, _+_, _^_, _<_, _≤_}
+use Prim.Native.Nat.{ℕ, zero, suc, _+_, _-_, _<_, _≤_}
 use mathlib.Core.Path.{_≡_, refl, ap, sym, _∙_, subst}
 use mathlib.Core.Logic.{_⊎_, inl, inr, ⊎-elim}
 use mathlib.Core.List.{List}
 use mathlib.Core.Bool.{Bool, true, false}
 use native.Mathlib.Omega.{arith}
-use lib.ListN.{length, getD, take, drop}
+use lib.ListN.{length}
 use lib.Dec.{ltb, eqb}
 use borrow.Author.Tests.{le-ltb, ltb-true, ltb-false}
 use Rattle.answer.specs.declared.Answer.{Answer}
@@ -13,52 +13,29 @@ use Rattle.answer.specs.declared.Answer.the-variants.{Done, Refused}
 use Rattle.answer.specs.declared.Why.{Why}
 use Rattle.answer.specs.declared.Why.the-variants.{TooMany, TooLong, Invalid, NoCode, Unlisted, Missing, ToRom}
 use Rattle.answer.specs.Number.{whyNumber, numberOf}
-use Rattle.little.specs.Bytes.{Bytes, valueOf}
-use Rattle.little.proofs.Laws.{four}
+use Rattle.little.specs.Bytes.{Bytes}
 use Rattle.state.specs.State.{validOf}
 use Rattle.state.specs.Sound.{Sound}
 use Rattle.state.specs.declared.State.{State}
 use Rattle.state.proofs.Valid.{Valid, valid-says, valid-from, and-true}
 use Rattle.saved.specs.declared.Restored.{Restored}
-use Rattle.saved.specs.Record.{recordOf, longsAt, stateAt, fixedAt, isRecord, restoredOf, refusedRecord}
-use Rattle.saved.proofs.Numbers.{bytes-drop}
-use Rattle.saved.proofs.RoundTrip.{saved-reads-back, read-saves-back}
-use Rattle.operand.specs.Try.{Try, did, no, leaves}
+use Rattle.saved.specs.Record.{recordLength, recordOf, stateAt, fixedAt, isRecord, restoredOf, refusedRecord}
+use Rattle.saved.proofs.RoundTrip.{saved-reads-back, read-saves-back, sound-at}
+use Rattle.operand.specs.Try.{Try, did, no, Outcome, leaves}
 use Rattle.step.specs.Step.{tooLong, tryOf, stepOf}
-use Rattle.step.specs.Many.{Result, ends}
-use Rattle.run.specs.Run.{goOf, runOf}
-use Rattle.run.specs.Statements.{asRun}
-use Rattle.run.proofs.Laws.{run-long, run-goes, go-none, go-did, go-no}
+use Rattle.turn.specs.Many.{Result, ends}
+use Rattle.run.specs.Run.{runOf}
+use Rattle.run.proofs.Laws.{run-long, run-goes}
+use Rattle.turn.proofs.ManySteps.{many-none}
 use Rattle.run.proofs.Laws as run
-use Rattle.run.proofs.Joins.{Checks, pass, fail, checks, one-step-run, runs-join, run-stops, count-is-true}
-use Rattle.module.specs.Calls.{Left, left, openedOf, unless, stepped, stepLeft, runOpened, ranLeft, doneWhere, runLeft, runDone, CRunMeets}
-use Rattle.module.specs.Statements.{HasState, RunOnRecord, StepIsRun, RunCounts, nextLeft, nextDone, JoinedRuns, RefusedAgain}
+use Rattle.run.proofs.Joins.{Checks, pass, fail, checks, one-step-run, run-is-steps, runs-join, run-stops, count-is-true}
+use Rattle.module.specs.Calls.{Left, left, openedOf, unless, stepped, stepLeft, runOpened, ranLeft, whereDone, runLeft, runDone, CRunMeets}
+use Rattle.module.specs.Statements.{HasState, RunOnRecord, StepIsRun, RunCounts, JoinedRuns, RefusedAgain}
+use Rattle.module.specs.Demand.{CallLeaves}
 use Rattle.module.proofs.Laws.{run-sound, run-valid, run-many, opened-long, opened-loads}
 use Rattle.module.proofs.Laws as call
 
 -- ---- the state in a record of bytes
-value-four : (l : List ℕ) → Bytes l → valueOf (take 4 l) < 2 ^ 32
-value-four l h = omega (arith, four l, h 0, h 1, h 2, h 3)
-
-longs-fit : (n : ℕ) (l : List ℕ) → Bytes l → (i : ℕ) → getD (longsAt n l) i 0 < 2 ^ 32
-unfolding longsAt
-longs-fit zero l h i = omega arith
-longs-fit (suc n) l h zero = value-four l h
-longs-fit (suc n) l h (suc i) = longs-fit n (drop 4 l) (bytes-drop 4 l h) i
-
-sound-at : (l : List ℕ) → Bytes l → Sound (stateAt l)
-unfolding stateAt longsAt
-sound-at l h =
-    record {
-      twenty = refl;
-      fit = longs-fit 20 l h;
-      counter-fit = value-four (drop 80 l) (bytes-drop 80 l h);
-      bank-fit = omega arith;
-      level-fit = omega arith;
-      flags-fit = omega arith;
-      spare-fit = h 86;
-    }
-
 -- a record that is opened: it is written again as itself, and the state in it is good
 pub record Opens (b : List ℕ) (s : State) : Type 0 where
   pub load : restoredOf b ≡ record { answer = Done; state = s }
@@ -72,7 +49,7 @@ opens b h = go (isRecord b) refl
   where
     go : (x : Bool) → isRecord b ≡ x → Opens b (stateAt b) ⊎ (restoredOf b ≡ refusedRecord Invalid)
     go true e =
-        let a = and-true (eqb (length b) 88) _ e in
+        let a = and-true (eqb (length b) recordLength) _ e in
         inl (record {
           load = rw e refl;
           back = read-saves-back b h e;
@@ -92,39 +69,38 @@ pub saved-opens : (s : State) → Sound s → Valid s → Opens (recordOf s) s
 saved-opens s ok v = record { load = saved-reads-back s ok (valid-from s v); back = refl; sound = ok; valid = v }
 
 -- ---- a run on it
--- what a run on a record leaves is what this result leaves
-abbrev pub Meets : ℕ → List ℕ → List ℕ → List ℕ → Result → Type 0
-Meets n b ram rom r = CRunMeets n b ram rom (numberOf (r .answer)) (recordOf (r .state)) (r .ram) (r .done)
-
 run-here :
     (n : ℕ) (b ram rom : List ℕ) (s : State) → n ≤ 1000000 → openedOf b (length ram) (length rom) ≡ record { answer = Done; state = s } →
-    Meets n b ram rom (runOf n s ram rom)
+    CallLeaves b ram rom n (runOf n s ram rom)
 unfolding runLeft runDone
 run-here n b ram rom s few h = (rw (le-ltb 1000000 n few, h) refl, rw (le-ltb 1000000 n few, h) refl)
 
-pub meets : (n : ℕ) (b ram rom : List ℕ) (s : State) → Opens b s → Meets n b ram rom (runOf n s ram rom)
+pub meets : (n : ℕ) (b ram rom : List ℕ) (s : State) → Opens b s → CallLeaves b ram rom n (runOf n s ram rom)
 meets n b ram rom s o = go (ltb 1000000 n) (tooLong (length ram) (length rom)) refl refl
   where
-    none : (w : Why) → CRunMeets n b ram rom (whyNumber w) b ram 0 → runOf n s ram rom ≡ ends 0 s ram (Refused w) → Meets n b ram rom (runOf n s ram rom)
-    none w h e = subst (Meets n b ram rom) (sym e) (subst (λ (x : List ℕ). CRunMeets n b ram rom (whyNumber w) x ram 0) (sym (o .back)) h)
+    none : (w : Why) → CRunMeets n b ram rom (whyNumber w) b ram 0 → runOf n s ram rom ≡ ends 0 s ram (Refused w) → CallLeaves b ram rom n (runOf n s ram rom)
+    none w h e = subst (CallLeaves b ram rom n) (sym e) (subst (λ (x : List ℕ). CRunMeets n b ram rom (whyNumber w) x ram 0) (sym (o .back)) h)
 
-    go : (x y : Bool) → ltb 1000000 n ≡ x → tooLong (length ram) (length rom) ≡ y → Meets n b ram rom (runOf n s ram rom)
+    go : (x y : Bool) → ltb 1000000 n ≡ x → tooLong (length ram) (length rom) ≡ y → CallLeaves b ram rom n (runOf n s ram rom)
     go true y e f = let many = ltb-true 1000000 n e in none TooMany (run-many n b ram rom many refl) (run.run-many s ram rom n many)
     go false true e f =
         let few = ltb-false 1000000 n e in
         none TooLong (call.run-stops n b ram rom few (refusedRecord TooLong) (sym (opened-long b _ _ f)) TooLong refl refl) (run-long s ram rom n few f)
     go false false e f = run-here n b ram rom s (ltb-false 1000000 n e) (opened-loads b _ _ f ∙ o .load)
 
-pub run-on-record : RunOnRecord
-run-on-record n b s ram rom h = let m = meets n b ram rom s (held b s h) in (sym (m .0), sym (m .1))
+pub run-on-record : (b ram rom : List ℕ) → RunOnRecord b ram rom
+run-on-record b ram rom n s h = let m = meets n b ram rom s (held b s h) in (sym (m .0), sym (m .1))
 
 -- ---- a step is a run of one
 -- a refused step leaves the record, and a refused run writes it again as itself
-stepped-run : (b ram rom : List ℕ) (s : State) → recordOf s ≡ b → stepped (stepOf s ram rom) b ≡ ranLeft (asRun (stepOf s ram rom))
+abbrev outcomeLeft : Outcome → Left
+outcomeLeft o = left (numberOf (o .answer)) (recordOf (o .state)) (o .ram)
+
+stepped-run : (b ram rom : List ℕ) (s : State) → recordOf s ≡ b → stepped (stepOf s ram rom) b ≡ outcomeLeft (stepOf s ram rom)
 unfolding stepOf
 stepped-run b ram rom s back = go (tryOf s ram rom)
   where
-    go : (t : Try) → stepped (leaves s ram t) b ≡ ranLeft (asRun (leaves s ram t))
+    go : (t : Try) → stepped (leaves s ram t) b ≡ outcomeLeft (leaves s ram t)
     go (did u m) = refl
     go (no w) = ap (λ (l : List ℕ). left (whyNumber w) l ram) (sym back)
 
@@ -134,7 +110,7 @@ step-here :
 unfolding stepLeft
 step-here b ram rom s h = rw h refl
 
-pub step-is-run : StepIsRun
+pub step-is-run : (b ram rom : List ℕ) → StepIsRun b ram rom
 step-is-run b ram rom h = go (tooLong (length ram) (length rom)) refl (opens b h)
   where
     closed : (w : Why) → openedOf b (length ram) (length rom) ≡ refusedRecord w → stepLeft b ram rom ≡ runLeft 1 b ram rom
@@ -150,60 +126,48 @@ step-is-run b ram rom h = go (tooLong (length ram) (length rom)) refl (opens b h
         let s = stateAt b in
         step-here b ram rom s (opened-loads b _ _ e ∙ o .load)
         ∙ stepped-run b ram rom s (o .back)
-        ∙ sym (ap ranLeft (one-step-run s ram rom))
+        ∙ sym (ap outcomeLeft (one-step-run s ram rom))
         ∙ meets 1 b ram rom s o .0
 
 -- ---- a refused run
 -- the step that stopped it is refused
-go-refused : (n d : ℕ) (s : State) (ram rom : List ℕ) (w : Why) → goOf n d s ram rom .answer ≡ Refused w →
-    tryOf (goOf n d s ram rom .state) (goOf n d s ram rom .ram) rom ≡ no w
-go-refused zero d s ram rom w a =
-    let e = ap (λ (r : Result). r .answer) (go-none d s ram rom) in let z : _≡_ {A = ℕ} 0 1 = cc in absurd (omega arith)
-go-refused (suc n) d s ram rom w a = go (tryOf s ram rom) refl (λ t m. go-refused n (d + 1) t m rom w)
-  where
-    at : Result → Try
-    at r = tryOf (r .state) (r .ram) rom
-
-    go : (t : Try) → tryOf s ram rom ≡ t
-        → ((u : State) (m : List ℕ) → goOf n (d + 1) u m rom .answer ≡ Refused w → at (goOf n (d + 1) u m rom) ≡ no w)
-        → at (goOf (suc n) d s ram rom) ≡ no w
-    go (did u m) e later =
-        let f = go-did n d s ram rom u m e in
-        ap at f ∙ later u m (sym (ap (λ (r : Result). r .answer) f) ∙ a)
-    go (no x) e later =
-        let f = go-no n d s ram rom x e in
-        let y : Refused x ≡ Refused w = sym (ap (λ (r : Result). r .answer) f) ∙ a in
-        let z : no x ≡ no w = cc in
-        ap at f ∙ e ∙ z
-
 run-refused : (n : ℕ) (s : State) (ram rom : List ℕ) (w : Why) → n ≤ 1000000 → runOf n s ram rom .answer ≡ Refused w →
     tryOf (runOf n s ram rom .state) (runOf n s ram rom .ram) rom ≡ no w
-run-refused n s ram rom w few a = go (checks s ram rom)
+run-refused zero s ram rom w few a = go (checks s ram rom)
+  where
+    go : Checks s ram rom → tryOf (runOf 0 s ram rom .state) (runOf 0 s ram rom .ram) rom ≡ no w
+    go (fail x f t) =
+        let e = f 0 few in
+        let y : Refused x ≡ Refused w = sym (ap (λ (r : Result). r .answer) e) ∙ a in
+        let z : no x ≡ no w = cc in
+        ap (λ (r : Result). tryOf (r .state) (r .ram) rom) e ∙ t ∙ z
+    go (pass l v) =
+        let e = ap (λ (r : Result). r .answer) (run-goes s ram rom 0 few l v ∙ many-none 0 s ram rom) in
+        let z : _≡_ {A = ℕ} 0 1 = cc in absurd (omega arith)
+run-refused (suc n) s ram rom w few a = go (λ t m. run-refused n t m rom w (omega arith)) (tryOf s ram rom) refl
   where
     at : Result → Try
     at r = tryOf (r .state) (r .ram) rom
 
-    go : Checks s ram rom → at (runOf n s ram rom) ≡ no w
-    go (fail x f t) =
-        let e = f n few in
+    one : {r : Result} → runOf (n + 1) s ram rom ≡ r → runOf (suc n) s ram rom ≡ r
+    one e = let k : suc n ≡ n + 1 = omega arith in ap (λ (x : ℕ). runOf x s ram rom) k ∙ e
+
+    go : ((u : State) (m : List ℕ) → runOf n u m rom .answer ≡ Refused w → at (runOf n u m rom) ≡ no w) →
+        (t : Try) → tryOf s ram rom ≡ t → at (runOf (suc n) s ram rom) ≡ no w
+    go more (did u m) f =
+        let e = one (run-is-steps s ram rom n few .0 u m f) in
+        ap at e ∙ more u m (sym (ap (λ (r : Result). r .answer) e) ∙ a)
+    go more (no x) f =
+        let e = one (run-is-steps s ram rom n few .1 x f) in
         let y : Refused x ≡ Refused w = sym (ap (λ (r : Result). r .answer) e) ∙ a in
         let z : no x ≡ no w = cc in
-        ap at e ∙ t ∙ z
-    go (pass l v) =
-        let e = run-goes s ram rom n few l v in
-        ap at e ∙ go-refused n 0 s ram rom w (sym (ap (λ (r : Result). r .answer) e) ∙ a)
+        ap at e ∙ f ∙ z
 
 -- and so is every run from there
 stays : (m : ℕ) (s : State) (ram rom : List ℕ) (w : Why) → 0 < m → m ≤ 1000000 → tryOf s ram rom ≡ no w → runOf m s ram rom ≡ ends 0 s ram (Refused w)
-stays zero s ram rom w pos few e = absurd (omega arith)
-stays (suc m) s ram rom w pos few e = go (checks s ram rom)
-  where
-    go : Checks s ram rom → runOf (suc m) s ram rom ≡ ends 0 s ram (Refused w)
-    go (fail x f t) =
-        let y : no x ≡ no w = sym t ∙ e in
-        let z : Refused x ≡ Refused w = cc in
-        f (suc m) few ∙ ap (ends 0 s ram) z
-    go (pass l v) = run-goes s ram rom (suc m) few l v ∙ go-no m 0 s ram rom w e
+stays m s ram rom w pos few e =
+    let k : m ≡ m - 1 + 1 = omega arith in
+    ap (λ (x : ℕ). runOf x s ram rom) k ∙ run-is-steps s ram rom (m - 1) (omega arith) .1 w e
 
 -- ---- a call on any record: refused at the start however many steps it is asked for, or a run from the state in it
 pub data Start (b ram rom : List ℕ) : Type 0 where
@@ -233,17 +197,23 @@ done-by : (a : Answer) → numberOf a ≡ 0 → a ≡ Done
 done-by Done h = refl
 done-by (Refused w) h = not-zero w h
 
-pub run-counts : RunCounts
+pub run-counts : (b ram rom : List ℕ) → RunCounts b ram rom
 unfolding runLeft runDone
-run-counts n b ram rom h =
+run-counts b ram rom n h =
     let s = runOpened n b ram rom .state in
-    go (runOpened n b ram rom .answer) (runOf n s ram rom) (count-is-true n s ram rom .0) h
+    go (runOpened n b ram rom .answer) (runOf n s ram rom) (count-is-true s ram rom n .0) h
   where
-    go : (a : Answer) (r : Result) → (r .answer ≡ Done → r .done ≡ n) → unless a b ram (ranLeft r) .number ≡ 0 → doneWhere a (r .done) ≡ n
+    go : (a : Answer) (r : Result) → (r .answer ≡ Done → r .done ≡ n) → unless a b ram (ranLeft r) .number ≡ 0 → whereDone a (r .done) 0 ≡ n
     go Done r true-count z = true-count (done-by (r .answer) z)
     go (Refused w) r true-count z = not-zero w z
 
 -- ---- a second run of m steps, on what a first of n left
+abbrev nextLeft : ℕ → Left → List ℕ → Left
+nextLeft m l rom = runLeft m (l .bytes) (l .ram) rom
+
+abbrev nextDone : ℕ → Left → List ℕ → ℕ
+nextDone m l rom = runDone m (l .bytes) (l .ram) rom
+
 module _ (n m : ℕ) (b ram rom : List ℕ) (few : n ≤ 1000000) where
   -- where the first did not start, the second does not
   second-shut :
@@ -277,8 +247,8 @@ module _ (n m : ℕ) (b ram rom : List ℕ) (few : n ≤ 1000000) where
         let f : ranLeft (ends 0 (r .state) (r .ram) (Refused w)) ≡ ranLeft r = ap (λ (x : Answer). ranLeft (ends 0 (r .state) (r .ram) x)) (sym a) in
         (second .0 ∙ ap ranLeft e ∙ f ∙ meets n b ram rom s o .0, second .1 ∙ ap (λ (x : Result). x .done) e)
 
-pub refused-again : RefusedAgain
-refused-again n m b ram rom h few bad pos less = go (start b ram rom h)
+pub refused-again : (b ram rom : List ℕ) → RefusedAgain b ram rom
+refused-again b ram rom n m h few bad pos less = go (start b ram rom h)
   where
     Again : Type 0
     Again = (nextLeft m (runLeft n b ram rom) rom ≡ runLeft n b ram rom) × (nextDone m (runLeft n b ram rom) rom ≡ 0)
@@ -291,8 +261,8 @@ refused-again n m b ram rom h few bad pos less = go (start b ram rom h)
         by Done a = absurd (bad (sym (ap (λ (l : Left). l .number) (meets n b ram rom s o .0)) ∙ ap numberOf a))
         by (Refused w) a = second-refused n m b ram rom few s o w a pos less
 
-pub joined-runs : JoinedRuns
-joined-runs n m b ram rom h most c = go (start b ram rom h)
+pub joined-runs : (b ram rom : List ℕ) → JoinedRuns b ram rom
+joined-runs b ram rom n m h most c = go (start b ram rom h)
   where
     Joined : Type 0
     Joined =
@@ -312,15 +282,15 @@ joined-runs n m b ram rom h most c = go (start b ram rom h)
             let p = meets n b ram rom s o in
             let q = meets (n + m) b ram rom s o in
             let t = second n m b ram rom (omega arith) s o in
-            let j = runs-join n m s ram rom most a in
+            let j = runs-join s ram rom n m most a in
             let k = ap (λ (x : Result). x .done) j in
-            let i = count-is-true n s ram rom .0 a in
+            let i = count-is-true s ram rom n .0 a in
             (sym (q .0) ∙ ap ranLeft j ∙ sym (t .0), omega (arith, q .1, k, t .1, i, p .1))
         by (Refused w) a (inl z) = not-zero w (sym (ap numberOf a) ∙ ap (λ (l : Left). l .number) (meets n b ram rom s o .0) ∙ z)
         by (Refused w) a (inr pos) =
             let p = meets n b ram rom s o in
             let q = meets (n + m) b ram rom s o in
             let t = second-refused n m b ram rom (omega arith) s o w a pos (omega arith) in
-            let j = run-stops n m s ram rom w most a in
+            let j = run-stops s ram rom n m w most a in
             let k = ap (λ (x : Result). x .done) j in
             (sym (q .0) ∙ ap ranLeft j ∙ p .0 ∙ sym (t .0), omega (arith, q .1, k, t .1, p .1))

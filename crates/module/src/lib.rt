@@ -1,4 +1,4 @@
-// What C and Rust call. A state crosses as its saved record of 88 bytes, an answer as its number, and nothing is kept between calls.
+// What C and Rust call. A state crosses as its saved record, an answer as its number, and nothing is kept between calls.
 ghost use mathlib.Core.Path.{_≡_};
 ghost use Rattle.module.specs.Calls.{openedOf, CResetMeets, CStepMeets, CRunMeets};
 use answer::Answer;
@@ -62,7 +62,7 @@ pub extern "C" fn tlcs900h_run(
     ensures { λ r. ⌜ CRunMeets steps (now (bytes .entry)) (now (ram .entry)) (now (rom .entry)) r (now (bytes .exit)) (now (ram .exit)) (now (done .exit)) ⌝ }
 {
     *done = 0;
-    if 1000000 < steps {
+    if run::MOST_STEPS < steps {
         return answer::why_number(Why::TooMany);
     }
     let o = opened(&*bytes, ram.len(), rom.len());

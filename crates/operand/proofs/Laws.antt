@@ -17,7 +17,7 @@ use Rattle.little.specs.Width.{bitsOf}
 use Rattle.memory.specs.Access.{storeOf, ramAfter}
 use Rattle.memory.proofs.Laws.{refused-keeps}
 use Rattle.state.specs.declared.State.{State}
-use Rattle.operand.specs.Try.{Try, did, no, Outcome, after, leaves, andThen}
+use Rattle.operand.specs.Try.{Try, did, no, Outcome, leaves, andThen, after}
 use Rattle.operand.specs.Operand.{displaced, storing}
 use Rattle.operand.specs.Round.{less}
 

@@ -1,8 +1,6 @@
 -- The flags in the state: F as six flags, changed and packed again.
-use Rattle.alu.specs.Flag.{byteOf, flagsOf}
-use Rattle.alu.specs.declared.Flags.{Flags}
-use Rattle.state.specs.State.{withFlags, withBothFlags}
-use Rattle.state.specs.declared.State.{State}
+use Rattle.alu.specs.{declared.Flags.Flags, Flag.byteOf, Flag.flagsOf}
+use Rattle.state.specs.{declared.State.State, State.withFlags, State.withBothFlags}
 
 -- the six flags of a state
 abbrev pub flagsIn : State → Flags

@@ -1,22 +1,12 @@
 -- The operand of an instruction: its address, its value, and a value put there.
-use Prim.Native.Nat.{ℕ, _+_, _-_, _%_, _^_}
-use mathlib.Core.List.{List}
-use mathlib.Core.Bool.{cond}
-use Rattle.answer.specs.declared.Answer.{Answer}
-use Rattle.answer.specs.declared.Answer.the-variants.{Done, Refused}
-use Rattle.little.specs.declared.Size.{Size}
-use Rattle.little.specs.declared.Size.the-variants.{Long}
+use Rattle.little.specs.Words.{ℕ, _+_, _-_, _%_, _^_, List, cond}
+use Rattle.answer.specs.declared.{Answer.Answer, Answer.the-variants.Done, Answer.the-variants.Refused}
+use Rattle.little.specs.declared.{Size.Size, Size.the-variants.Long}
 use Rattle.alu.specs.Width.{negative}
-use Rattle.memory.specs.Access.{loadOf, storeOf, ramAfter}
-use Rattle.memory.specs.declared.Loaded.{Loaded}
-use Rattle.memory.specs.declared.Loaded.the-variants.{Value}
-use Rattle.state.specs.Register.{registerAt, setRegister}
-use Rattle.state.specs.declared.Bank.{Bank}
-use Rattle.state.specs.declared.State.{State}
-use Rattle.code.specs.declared.Base.{Base}
+use Rattle.memory.specs.{declared.Loaded.Loaded, declared.Loaded.the-variants.Value, Access.loadOf, Access.storeOf, Access.ramAfter}
+use Rattle.state.specs.{declared.Bank.Bank, declared.State.State, Register.registerAt, Register.setRegister}
+use Rattle.code.specs.declared.{Base.Base, MemoryForm.MemoryForm, Operand.Operand}
 use Rattle.code.specs.declared.Base.the-variants.{Indirect, Displaced, Absolute8, Absolute16, Absolute24}
-use Rattle.code.specs.declared.MemoryForm.{MemoryForm}
-use Rattle.code.specs.declared.Operand.{Operand}
 use Rattle.code.specs.declared.Operand.the-variants.{Register, Constant, Memory}
 use Rattle.operand.specs.Try.{Try, did, no}
 

@@ -1,13 +1,9 @@
 -- A step that is tried, and what a call leaves.
-use Prim.Native.Nat.{ℕ}
-use mathlib.Core.Path.{_≡_}
-use mathlib.Core.List.{List}
-use Rattle.answer.specs.declared.Why.{Why}
-use Rattle.answer.specs.declared.Answer.{Answer}
-use Rattle.answer.specs.declared.Answer.the-variants.{Done, Refused}
+use Rattle.little.specs.Words.{ℕ, List}
+use Rattle.answer.specs.declared.{Why.Why, Answer.Answer, Answer.the-variants.Done, Answer.the-variants.Refused}
 use Rattle.memory.specs.declared.Loaded.{Loaded}
-use Rattle.memory.specs.declared.Loaded.the-variants as loaded
 use Rattle.state.specs.declared.State.{State}
+use Rattle.memory.specs.declared.Loaded.the-variants as loaded
 
 -- it is done, with the state and the bytes of RAM after it, or it is refused
 pub data Try : Type 0 where
@@ -26,12 +22,8 @@ after a s ram = record { state = s; ram = ram; answer = a }
 
 -- what a tried step leaves: a refused one the state and the RAM that were given
 abbrev pub leaves : State → List ℕ → Try → Outcome
-leaves s ram (did t m) = record { state = t; ram = m; answer = Done }
-leaves s ram (no w) = record { state = s; ram = ram; answer = Refused w }
-
--- what a function does on a state and RAM: it answers a, and leaves t and m
-abbrev pub Does : (State → List ℕ → Try) → State → List ℕ → Answer → State → List ℕ → Type 0
-Does tried s ram a t m = after a t m ≡ leaves s ram (tried s ram)
+leaves s ram (did t m) = after Done t m
+leaves s ram (no w) = after (Refused w) s ram
 
 -- a tried step, and then a change of the state where it is done
 abbrev pub andThen : Try → (State → State) → Try

@@ -6,6 +6,7 @@ ghost use Rattle.operand.specs.Operand.{displaced, pointerIn, addressFro
 ghost use Rattle.code.specs.Written.{registerIn, constantIn};
 use code::Base;
 use code::Operand;
+use little::ADDRESSES;
 use little::Size;
 use state::Bank;
 
@@ -27,15 +28,15 @@ pub fn displace(size: Size, x: u32, d: u32) -> u32
     let half = sign(size);
     if half <= d {
         let below = std::num::wrapping_sub_u32(d - half, half);
-        return std::num::wrapping_add_u32(x, below) % 16777216;
+        return std::num::wrapping_add_u32(x, below) % ADDRESSES;
     }
-    std::num::wrapping_add_u32(x, d) % 16777216
+    std::num::wrapping_add_u32(x, d) % ADDRESSES
 }
 
 pub fn pointer(bank: Bank, regs: &[u32; 20], r: u8) -> u32
     ensures { λ a. ⌜ a ≡ pointerIn (now (regs .entry)) bank r ⌝ }
 {
-    state::read(regs, bank, Size::Long, r) % 16777216
+    state::read(regs, bank, Size::Long, r) % ADDRESSES
 }
 
 // The address that a memory form's base and number say.
@@ -45,9 +46,9 @@ pub fn address(bank: Bank, regs: &[u32; 20], base: Base, n: u32) -> u32
     match base {
         Base::Indirect(r) => pointer(bank, regs, r),
         Base::Displaced(r) => displace(Size::Byte, state::read(regs, bank, Size::Long, r), n),
-        Base::Absolute8 => n % 16777216,
-        Base::Absolute16 => n % 16777216,
-        Base::Absolute24 => n % 16777216,
+        Base::Absolute8 => n % ADDRESSES,
+        Base::Absolute16 => n % ADDRESSES,
+        Base::Absolute24 => n % ADDRESSES,
     }
 }
 

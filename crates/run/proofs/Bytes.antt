@@ -3,8 +3,8 @@ use Prim.Native.Nat.{ℕ, zero, suc, _+_, _/_, _^_, _<_, _≤_}
 use mathlib.Core.Path.{_≡_, refl, subst}
 use mathlib.Core.List.{List, [], _∷_, _++_}
 use native.Mathlib.Omega.{arith}
-use lib.ListN.{length, take, drop}
-use lib.Seq.{getD-drop}
+use lib.ListN.{length, take, drop, length-drop}
+use lib.Seq.{getD-drop, length-take-le}
 use Rattle.little.specs.declared.Size.{Size}
 use Rattle.little.specs.declared.Size.the-variants.{Byte, Word, Long}
 use Rattle.little.specs.Width.{bitsOf, bytesOf}
@@ -16,8 +16,6 @@ use Rattle.memory.specs.declared.Loaded.the-variants.{Value}
 use Rattle.memory.specs.declared.Place.{Place}
 use Rattle.memory.specs.declared.Place.the-variants.{Ram, Rom, Missing}
 use Rattle.memory.proofs.Laws.{ram-fits, rom-fits}
-use lib.Seq.{length-take-le}
-use lib.ListN.{length-drop}
 
 pub bytes-none : Bytes []
 bytes-none i = omega arith

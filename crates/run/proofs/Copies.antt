@@ -29,16 +29,16 @@ use Rattle.operand.specs.Operand.{pointerOf, storing}
 use Rattle.operand.specs.Round.{less, plus}
 use Rattle.block.specs.Block.{copied, roundOf}
 use Rattle.block.proofs.Rounds.{round-copies}
-use Rattle.step.specs.Many.{Result}
+use Rattle.turn.specs.Many.{Result}
 use Rattle.run.specs.Run.{runOf}
-use Rattle.run.specs.Repeat.{At, roundsOf, countOf, passed, elementOf, targetOf}
+use Rattle.run.specs.Demand.{At, roundsOf, countOf, passed, elementOf, targetOf}
 use Rattle.run.specs.Search.{Target, bytesMoved, CopyMoves, CopySpreads}
 use Rattle.run.proofs.Bytes.{bytes-append, bytes-take, bytes-drop}
 use Rattle.run.proofs.Registers.{once}
 use Rattle.run.proofs.Rounds.{Pointers, Rounded, copied-rounded, same-did}
 use Rattle.run.proofs.Counts.{rounds-none, rounds-did}
 use Rattle.run.proofs.Steps.{at-pointers, at-valid}
-use Rattle.run.proofs.Demand.{copy-repeats}
+use Rattle.run.proofs.Demand.{copy-none, to-the-end}
 use Rattle.run.proofs.Search.{up-passed}
 
 -- ---- a list with parts replaced
@@ -321,7 +321,7 @@ up-at f x i e h =
 ends-within : (i k n : ℕ) → i < k → i * n + n ≤ k * n
 ends-within i k n h = let m : suc i * n ≤ k * n = mul-le-mul-right n h in let e = suc-mul i n in omega (arith, m, e)
 
-module _ (f : Form) (s : State) (ram rom : List ℕ) (a : At f s ram rom) (copies : f .copies ≡ true) (up : f .up ≡ true) (to : Target f s ram)
+module _ (f : Form) (s : State) (ram rom : List ℕ) (a : At f s ram rom) (copies : f .copies ≡ true) (up : f .up ≡ true) (to : Target f s ram rom)
     (source : pointerOf s (f .from) + bytesMoved f s ≤ length ram) where
   source-at : (i : ℕ) → i < countOf s → elementOf f s i ≡ pointerOf s (f .from) + i * bytesOf (f .size)
   source-at i h =
@@ -342,21 +342,24 @@ module _ (f : Form) (s : State) (ram rom : List ℕ) (a : At f s ram rom) (copie
   all-done : (t : State) × (m : List ℕ) × (roundsOf (countOf s) f s ram rom ≡ did t m) × (runOf (countOf s) s ram rom .ram ≡ m)
   all-done =
       let x =
-      copy-repeats f s ram rom a copies
-      (λ i h.
-      let e = ends-within i (countOf s) (bytesOf (f .size)) h in
-      let p = source-at i h in
-      not-missing (place-ram (length ram) (length rom) (elementOf f s i) (bytesOf (f .size)) (omega (arith, e, p, source))))
-      (λ c i h.
-      let e = ends-within i (countOf s) (bytesOf (f .size)) h in
-      let p = target-at i h in
-      let t = to .inRam in
-      omega (arith, e, p, t))
-      (λ c i h.
-      let e = ends-within i (countOf s) (bytesOf (f .size)) h in
-      let p = target-at i h in
-      ⊎-elim (λ (y : pointerOf s (f .to) + bytesMoved f s ≤ s .counter). inl (omega (arith, e, p, y)))
-      (λ (y : s .counter + 2 ≤ pointerOf s (f .to)). inr (omega (arith, e, p, y))) (to .spares)) in
+      to-the-end f s ram rom a
+      (record {
+        there = λ i h.
+            let e = ends-within i (countOf s) (bytesOf (f .size)) h in
+            let p = source-at i h in
+            not-missing (place-ram (length ram) (length rom) (elementOf f s i) (bytesOf (f .size)) (omega (arith, e, p, source)));
+        writable = λ c i h.
+            let e = ends-within i (countOf s) (bytesOf (f .size)) h in
+            let p = target-at i h in
+            let t = to .inRam in
+            omega (arith, e, p, t);
+        spared = λ c i h.
+            let e = ends-within i (countOf s) (bytesOf (f .size)) h in
+            let p = target-at i h in
+            ⊎-elim (λ (y : pointerOf s (f .to) + bytesMoved f s ≤ s .counter). inl (omega (arith, e, p, y)))
+            (λ (y : s .counter + 2 ≤ pointerOf s (f .to)). inr (omega (arith, e, p, y))) (to .spares);
+      })
+      (copy-none (countOf s) f s ram rom copies) in
       (x .0, x .1, x .2, ap (λ (r : Result). r .ram) (x .3))
 
   moving : Moving f s ram
@@ -371,12 +374,12 @@ module _ (f : Form) (s : State) (ram rom : List ℕ) (a : At f s ram rom) (copie
         within = a .ramFits;
       }
 
-pub copy-moves : CopyMoves
+pub copy-moves : (f : Form) (s : State) (ram rom : List ℕ) → CopyMoves f s ram rom
 copy-moves f s ram rom a copies up to source apart =
     let x = all-done f s ram rom a copies up to source in
     x .3 ∙ moves (countOf s) f s ram rom (x .0) (x .1) (moving f s ram rom a copies up to source) source (to .inRam) apart (x .2)
 
-pub copy-spreads : CopySpreads
+pub copy-spreads : (f : Form) (s : State) (ram rom : List ℕ) → CopySpreads f s ram rom
 copy-spreads f s ram rom a copies up byte to next-to =
     let one : bytesOf (f .size) ≡ 1 = ap bytesOf byte in
     let t = to .inRam in

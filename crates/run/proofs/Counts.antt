@@ -17,7 +17,7 @@ use Rattle.code.specs.declared.Form.{Form}
 use Rattle.operand.specs.Try.{did, no}
 use Rattle.operand.specs.Round.{less, plus}
 use Rattle.block.specs.Block.{countIn, moreIn, roundOf, equalIn, goesOn}
-use Rattle.run.specs.Repeat.{roundsOf, countOf, passed}
+use Rattle.run.specs.Demand.{roundsOf, countOf, passed}
 use Rattle.run.proofs.Registers.{once}
 
 -- ---- the count

@@ -1,7 +1,7 @@
--- Every start tells one ending, as specs/Endings.antt states it.
+-- Every start tells one ending and comes to it, as specs/Demand.antt states it.
 use Prim.Native.Nat.{ℕ, zero, suc, _+_, _<_, _≤_}
 use mathlib.Core.Path.{_≡_, refl, ap, sym, _∙_, subst}
-use mathlib.Core.Logic.{_≢_}
+use mathlib.Core.Logic.{_≢_, inr}
 use mathlib.Core.List.{List}
 use mathlib.Core.Bool.{Bool, true, false}
 use native.Mathlib.Omega.{arith}
@@ -20,11 +20,11 @@ use Rattle.memory.proofs.Laws.{place-ram, ram-fits}
 use Rattle.state.specs.declared.State.{State}
 use Rattle.code.specs.declared.Form.{Form}
 use Rattle.block.specs.Block.{accumulator}
-use Rattle.run.specs.Repeat.{At, ElementsThere, Spares, EqualAt, RefusedAt, noElement, noTarget, romTarget, countOf, elementOf, targetOf, elementPlace, targetPlace}
-use Rattle.run.specs.Demand.{EndsAfter, GoesOnAfter}
-use Rattle.run.specs.Endings.{Ending, atCount, atEqual, atRefusal, Passes, Told, roundsDone, ComesTo, OneTold, NoOtherTold, EndsAsTold, EveryStart}
+use Rattle.run.specs.Run.{RunLeaves}
+use Rattle.run.specs.Demand.{At, Spares, EqualAt, RefusedAt, noElement, noTarget, romTarget, countOf, elementOf, targetOf, elementPlace, targetPlace, EndsAfter, GoesOnAfter, Ending, atCount, atEqual, atRefusal, Passes, Told, roundsDone, ComesTo, EndsAsTold, EveryStart, NotBefore}
+use Rattle.run.proofs.Repeats.{Clear, clear}
 use Rattle.run.proofs.Rounds.{loaded-there, missing-load}
-use Rattle.run.proofs.Demand.{copy-repeats, compare-finds, compare-exhausts, not-before, stops-by-start}
+use Rattle.run.proofs.Demand.{compare-clear, ended-run, to-the-end, goes-on-after, stops-after}
 
 -- what holds of the first n and of number n holds of the first n + 1
 one-longer : (P : ℕ → Type 0) (n : ℕ) → ((i : ℕ) → i < n → P i) → P n → (i : ℕ) → i < suc n → P i
@@ -87,29 +87,21 @@ module _ (f : Form) (s : State) (ram rom : List ℕ) where
       go Missing e = refused why.Missing (noElement e)
 
   -- ---- the search for the first that ends it: k rounds are left, and nothing ends it in the first n
-  passes-more : (n : ℕ) → Passes n f s ram rom → Fine n → Passes (suc n) f s ram rom
-  passes-more n p x = (
-    one-longer (λ i. elementPlace f s ram rom i ≢ Missing) n (p .0) (x .0),
-    (λ c. one-longer (λ i. targetOf f s i + bytesOf (f .size) ≤ length ram) n (p .1 c) (x .1 c)),
-    one-longer (λ i. EqualAt f s ram rom i → ⊥) n (p .2) (x .2),
-  )
+  passes-more : (n : ℕ) → Passes f s ram rom n → Fine n → Passes f s ram rom (suc n)
+  passes-more n p x = one-longer Fine n p x
 
-  search-told : (k n : ℕ) → k + n ≡ countOf s → Passes n f s ram rom → (e : Ending) × Told e f s ram rom
-  search-told zero n h p = let e : n ≡ countOf s = omega arith in (atCount, subst (λ (j : ℕ). Passes j f s ram rom) e p)
+  search-told : (k n : ℕ) → k + n ≡ countOf s → Passes f s ram rom n → (e : Ending) × Told f s ram rom e
+  search-told zero n h p = let e : n ≡ countOf s = omega arith in (atCount, subst (λ (j : ℕ). Passes f s ram rom j) e p)
   search-told (suc k) n h p = go (λ x. search-told k (suc n) (omega arith) (passes-more n p x)) (met n)
     where
-      go : (Fine n → (e : Ending) × Told e f s ram rom) → Met n → (e : Ending) × Told e f s ram rom
+      go : (Fine n → (e : Ending) × Told f s ram rom e) → Met n → (e : Ending) × Told f s ram rom e
       go on (fine x) = on x
       go on (equal q) = (atEqual n, (omega arith, p, q))
       go on (refused w r) = (atRefusal n w, (omega arith, p, r))
 
-  some-told : (e : Ending) × Told e f s ram rom
+  some-told : (e : Ending) × Told f s ram rom e
   some-told =
-      search-told (countOf s) 0 (add-zero (countOf s)) (
-        (λ i h. absurd (omega arith)),
-        (λ c i h. absurd (omega arith)),
-        λ i h. absurd (omega arith),
-      )
+      search-told (countOf s) 0 (add-zero (countOf s)) (λ i h. absurd (omega arith))
 
   -- ---- no other
   refused-not-fine : (i : ℕ) (w : Why) → RefusedAt f s ram rom i w → Fine i → ⊥
@@ -147,30 +139,27 @@ module _ (f : Form) (s : State) (ram rom : List ℕ) where
   first (atEqual i) = i
   first (atRefusal n w) = n
 
-  first-passes : (e : Ending) → Told e f s ram rom → Passes (first e) f s ram rom
+  first-passes : (e : Ending) → Told f s ram rom e → Passes f s ram rom (first e)
   first-passes atCount x = x
   first-passes (atEqual i) x = x .1
   first-passes (atRefusal n w) x = x .1
 
-  first-within : (e : Ending) → Told e f s ram rom → first e ≤ countOf s
+  first-within : (e : Ending) → Told f s ram rom e → first e ≤ countOf s
   first-within atCount x = omega arith
   first-within (atEqual i) x = let l = x .0 in omega arith
   first-within (atRefusal n w) x = let l = x .0 in omega arith
 
-  first-not-fine : (e : Ending) → Told e f s ram rom → first e < countOf s → Fine (first e) → ⊥
+  first-not-fine : (e : Ending) → Told f s ram rom e → first e < countOf s → Fine (first e) → ⊥
   first-not-fine atCount x l y = omega arith
   first-not-fine (atEqual i) x l y = y .2 (x .2)
   first-not-fine (atRefusal n w) x l y = refused-not-fine n w (x .2) y
 
-  passed-fine : (n i : ℕ) → Passes n f s ram rom → i < n → Fine i
-  passed-fine n i p l = (p .0 i l, (λ c. p .1 c i l), p .2 i l)
-
-  not-sooner : (d e : Ending) → Told d f s ram rom → Told e f s ram rom → first d < first e → ⊥
+  not-sooner : (d e : Ending) → Told f s ram rom d → Told f s ram rom e → first d < first e → ⊥
   not-sooner d e x y l =
       let m = first-within e y in
-      first-not-fine d x (omega (arith, l, m)) (passed-fine (first e) (first d) (first-passes e y) l)
+      first-not-fine d x (omega (arith, l, m)) (first-passes e y (first d) l)
 
-  same-first : (d e : Ending) → Told d f s ram rom → Told e f s ram rom → first d ≡ first e
+  same-first : (d e : Ending) → Told f s ram rom d → Told f s ram rom e → first d ≡ first e
   same-first d e x y = go (ltb (first d) (first e)) refl (ltb (first e) (first d)) refl
     where
       go : (a : Bool) → ltb (first d) (first e) ≡ a → (b : Bool) → ltb (first e) (first d) ≡ b → first d ≡ first e
@@ -181,7 +170,7 @@ module _ (f : Form) (s : State) (ram rom : List ℕ) where
           let m = ltb-false (first e) (first d) k in
           omega (arith, l, m)
 
-  same-ending : (d e : Ending) → Told d f s ram rom → Told e f s ram rom → first d ≡ first e → d ≡ e
+  same-ending : (d e : Ending) → Told f s ram rom d → Told f s ram rom e → first d ≡ first e → d ≡ e
   same-ending atCount atCount x y h = refl
   same-ending atCount (atEqual j) x y h = let l = y .0 in absurd (omega arith)
   same-ending atCount (atRefusal m v) x y h = let l = y .0 in absurd (omega arith)
@@ -196,67 +185,56 @@ module _ (f : Form) (s : State) (ram rom : List ℕ) where
       ap (λ (k : ℕ). atRefusal k w) h
       ∙ ap (atRefusal m) (same-why m w v (subst (λ (k : ℕ). RefusedAt f s ram rom k w) h (x .2)) (y .2))
 
-pub one-told : OneTold
-one-told f s ram rom = some-told f s ram rom
+  same-told : (d e : Ending) → Told f s ram rom d → Told f s ram rom e → d ≡ e
+  same-told d e x y = same-ending d e x y (same-first d e x y)
 
-pub no-other-told : NoOtherTold
-no-other-told f s ram rom d e x y = same-ending f s ram rom d e x y (same-first f s ram rom d e x y)
+  -- a compare's equal element is there, as those before it are
+  pub equal-clear : (i : ℕ) → Told f s ram rom (atEqual i) → Clear (suc i) f s ram rom
+  equal-clear i x =
+      compare-clear (suc i) f s ram rom (x .2 .0)
+      (one-longer (λ j. elementPlace f s ram rom j ≢ Missing) i (λ j h. x .1 j h .0) (equal-there i (x .2)))
 
 -- ---- the run comes to what is told
 module _ (f : Form) (s : State) (ram rom : List ℕ) (a : At f s ram rom) where
-  count-comes : Told atCount f s ram rom → Spares (countOf s) f s → EndsAfter (countOf s) f s ram rom
-  count-comes x spared = go (f .copies) refl
-    where
-      go : (b : Bool) → f .copies ≡ b → EndsAfter (countOf s) f s ram rom
-      go true c = copy-repeats f s ram rom a c (x .0) (x .1) spared
-      go false c = compare-exhausts f s ram rom a c (x .0) (x .2)
-
-  equal-comes : (i : ℕ) → Told (atEqual i) f s ram rom → EndsAfter (i + 1) f s ram rom
-  equal-comes i x =
-      let e : suc i ≡ i + 1 = omega arith in
-      let there : ElementsThere (suc i) f s ram rom =
-      one-longer (λ j. elementPlace f s ram rom j ≢ Missing) i (x .1 .0) (equal-there f s ram rom i (x .2)) in
-      compare-finds f s ram rom i a (x .0) (subst (λ (n : ℕ). ElementsThere n f s ram rom) e there) (x .1 .2) (x .2)
-
-  refusal-comes : (n : ℕ) (w : Why) → Told (atRefusal n w) f s ram rom → Spares n f s → ComesTo (atRefusal n w) f s ram rom
-  refusal-comes n w x spared = (
-    not-before f s ram rom n a (x .0) (x .1 .0) (x .1 .1) spared (x .1 .2),
-    λ steps more few. stops-by-start f s ram rom n steps w a (x .0) more few (x .1 .0) (x .1 .1) spared (x .1 .2) (x .2),
+  comes : (e : Ending) → Told f s ram rom e → Spares f s (roundsDone e s) → ComesTo f s ram rom (RunLeaves s ram rom) e
+  comes atCount x spared = to-the-end f s ram rom a (clear x spared) (λ i h. x i h .2)
+  comes (atEqual i) x spared =
+      let n : suc i ≡ i + 1 = omega arith in
+      let l = x .0 in
+      subst (EndsAfter f s ram rom (RunLeaves s ram rom)) n
+      (ended-run i f s ram rom a (omega arith) (equal-clear f s ram rom i x) (λ i h. x .1 i h .2) (inr (x .2)))
+  comes (atRefusal n w) x spared = (
+    goes-on-after n f s ram rom a (x .0) (clear (x .1) spared) (λ i h. x .1 i h .2),
+    stops-after n f s ram rom a (x .0) (clear (x .1) spared) (λ i h. x .1 i h .2) w (x .2),
   )
 
-  comes : (e : Ending) → Told e f s ram rom → Spares (roundsDone e s) f s → ComesTo e f s ram rom
-  comes atCount x spared = count-comes x spared
-  comes (atEqual i) x spared = equal-comes i x
-  comes (atRefusal n w) x spared = refusal-comes n w x spared
-
   -- the rounds that are done, but the last, end nothing
-  done-first : (e : Ending) (k : ℕ) → Told e f s ram rom → k < roundsDone e s → k ≤ first f s ram rom e
+  done-first : (e : Ending) (k : ℕ) → Told f s ram rom e → k < roundsDone e s → k ≤ first f s ram rom e
   done-first atCount k x l = omega arith
   done-first (atEqual i) k x l = omega arith
   done-first (atRefusal n w) k x l = omega arith
 
-  done-within : (e : Ending) (k : ℕ) → Told e f s ram rom → k < roundsDone e s → k < countOf s
+  done-within : (e : Ending) (k : ℕ) → Told f s ram rom e → k < roundsDone e s → k < countOf s
   done-within atCount k x l = l
   done-within (atEqual i) k x l = let m = x .0 in omega arith
   done-within (atRefusal n w) k x l = let m = x .0 in omega arith
 
-  before : (e : Ending) → Told e f s ram rom → Spares (roundsDone e s) f s → (k : ℕ) → k < roundsDone e s → GoesOnAfter k f s ram rom
+  before : (e : Ending) → Told f s ram rom e → Spares f s (roundsDone e s) → (k : ℕ) → k < roundsDone e s → GoesOnAfter f s ram rom (RunLeaves s ram rom) k
   before e x spared k l =
       let m = done-first e k x l in
       let p = first-passes f s ram rom e x in
-      not-before f s ram rom k a (done-within e k x l)
-      (λ i h. p .0 i (omega (arith, h, m))) (λ c i h. p .1 c i (omega (arith, h, m)))
-      (λ c i h. spared c i (omega (arith, h, l))) (λ i h. p .2 i (omega (arith, h, m)))
+      let q : Passes f s ram rom k = λ i h. p i (omega (arith, h, m)) in
+      goes-on-after k f s ram rom a (done-within e k x l) (clear q (λ c i h. spared c i (omega (arith, h, l)))) (λ i h. q i h .2)
 
-pub ends-as-told : EndsAsTold
-ends-as-told f s ram rom e a x spared = (comes f s ram rom a e x spared, before f s ram rom a e x spared)
+  pub ends-as-told : (e : Ending) → Told f s ram rom e → Spares f s (roundsDone e s) → EndsAsTold f s ram rom (RunLeaves s ram rom) e
+  ends-as-told e x spared = (comes e x spared, before e x spared)
 
-pub every-start : EveryStart
-every-start f s ram rom a =
-    let x = one-told f s ram rom in
-    let e = x .0 in (
-      e,
-      x .1,
-      (λ d y. no-other-told f s ram rom d e y (x .1)),
-      λ spared. ends-as-told f s ram rom e a (x .1) spared,
-    )
+module _ (f : Form) (s : State) (ram rom : List ℕ) where
+  pub every-start : EveryStart f s ram rom
+  every-start =
+      let x = some-told f s ram rom in
+      let e = x .0 in
+      (e, x .1, (λ d y. same-told f s ram rom d e y (x .1)), λ a spared. ends-as-told f s ram rom a e (x .1) spared)
+
+  pub not-before : NotBefore f s ram rom
+  not-before n a lt p spared = goes-on-after n f s ram rom a lt (clear p spared) (λ i h. p i h .2)

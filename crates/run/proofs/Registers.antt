@@ -17,7 +17,8 @@ use Rattle.state.specs.State.{longOf, withFlags, withBothFlags}
 use Rattle.state.specs.Sound.{Sound}
 use Rattle.state.specs.Register.{indexOf, slotOf, namedIn, slotIn, registerAt, getRegister, setRegister}
 use Rattle.state.specs.declared.State.{State}
-use Rattle.state.proofs.Laws.{sound-lent, Apart, registers, register-same, register-apart, sound-register}
+use Rattle.state.proofs.Sound.{sound-lent}
+use Rattle.state.proofs.Laws.{Apart, registers, register-same, register-apart, sound-register}
 use Rattle.code.specs.declared.Form.{Form}
 use Rattle.operand.specs.Round.{less, plus}
 use Rattle.operand.specs.Flag.{flagged}

@@ -1,7 +1,7 @@
 -- A repeating form runs as its rounds: one induction for all forms.
 use Prim.Native.Nat.{ℕ, zero, suc, _+_, _-_, _%_, _^_, _<_, _≤_}
 use mathlib.Core.Path.{_≡_, refl, ap, sym, _∙_, subst}
-use mathlib.Core.Logic.{_⊎_, inl, inr, ⊎-elim}
+use mathlib.Core.Logic.{_⊎_, inl, inr, ⊎-elim, _≢_}
 use mathlib.Core.List.{List}
 use mathlib.Core.Bool.{Bool, true, false, cond, not, _&&_}
 use native.Mathlib.Omega.{arith}
@@ -12,39 +12,39 @@ use borrow.Author.Tests.{eq-eqb, ne-eqb}
 use Rattle.answer.specs.declared.Answer.the-variants as answer
 use Rattle.answer.specs.declared.Why.{Why}
 use Rattle.answer.specs.declared.Why.the-variants as why
-use Rattle.little.specs.declared.Size.the-variants.{Long}
-use Rattle.little.specs.Width.{bytesOf}
-use Rattle.memory.specs.Place.{placeOf}
-use Rattle.memory.specs.Access.{loadOf}
-use Rattle.memory.specs.declared.Place.the-variants.{Rom, Missing}
-use Rattle.memory.specs.declared.Loaded.{Loaded}
-use Rattle.memory.specs.declared.Loaded.the-variants.{Value, Refused}
-use Rattle.state.specs.Register.{getRegister}
-use Rattle.state.specs.declared.State.{State}
+use Rattle.little.specs.{declared.Size.the-variants.Long, Width.bytesOf}
+use Rattle.memory.specs.{Place.placeOf, Access.loadOf, declared.Place.the-variants.Rom, declared.Place.the-variants.Missing}
+use Rattle.memory.specs.declared.Loaded.{Loaded, the-variants.Value, the-variants.Refused}
+use Rattle.state.specs.{declared.State.State, Register.getRegister}
 use Rattle.state.proofs.Laws.{register-lt}
 use Rattle.code.specs.declared.Form.{Form}
-use Rattle.operand.specs.Try.{Try, did, no}
-use Rattle.operand.specs.Operand.{pointerOf}
-use Rattle.operand.specs.Flag.{flagsIn}
+use Rattle.operand.specs.{Try.Try, Try.did, Try.no, Operand.pointerOf, Flag.flagsIn}
 use Rattle.block.specs.Block.{countIn, accumulator, roundOf, equalIn}
-use Rattle.step.specs.Exec.{pastOf}
-use Rattle.step.specs.Step.{tryOf}
+use Rattle.exec.specs.Exec.{pastOf}
+use Rattle.turn.specs.{Once.onceOf, Many.ends, Many.manyOf}
+use Rattle.turn.proofs.ManySteps.{many-did, many-no}
 use Rattle.block.proofs.Rounds.{round-compares, round-refused}
-use Rattle.step.specs.Many.{ends}
-use Rattle.run.specs.Run.{goOf, runOf}
-use Rattle.run.specs.Repeat.{At, ElementsThere, TargetsInRam, Spares, EqualAt, NoneEqual, RefusedAt, noElement, noTarget, romTarget, countOf, roundsOf, passed, elementOf, targetOf, elementPlace, targetPlace}
+use Rattle.run.specs.Run.{runOf}
+use Rattle.run.specs.Demand.{At, Spares, EqualAt, RefusedAt, noElement, noTarget, romTarget, Passes, countOf, roundsOf, passed, elementOf, targetOf, elementPlace, targetPlace}
 use Rattle.run.proofs.Bytes.{loaded-fits}
-use Rattle.run.proofs.Laws.{go-did, go-no, run-goes}
+use Rattle.run.proofs.Laws.{run-goes}
 use Rattle.run.proofs.Registers.{once, once-lt}
 use Rattle.run.proofs.Rounds.{Rounded, Left, left-length, left-compare, round-leaves, ready-did, round-no-element, round-no-target, refused-not, same-did, compared-equal, copy-unequal}
 use Rattle.run.proofs.Counts.{count-round, count-bc, goes-on, goes-not, rounds-none, rounds-did, rounds-no, passed-more, passed-none}
 use Rattle.run.proofs.Steps.{at-pointers, at-valid, within, step-did, step-no, at-next}
 
--- what is supposed of the first n rounds
+-- what is supposed of the first n rounds: every element is there, every byte that a copy writes is RAM and none of the instruction's own two
 pub record Clear (n : ℕ) (f : Form) (s : State) (ram rom : List ℕ) : Type 0 where
-  pub there : ElementsThere n f s ram rom
-  pub writable : TargetsInRam n f s ram
-  pub spared : Spares n f s
+  pub there : (i : ℕ) → i < n → elementPlace f s ram rom i ≢ Missing
+  pub writable : f .copies ≡ true → (i : ℕ) → i < n → targetOf f s i + bytesOf (f .size) ≤ length ram
+  pub spared : Spares f s n
+
+-- and none is equal
+abbrev pub NoneEqual : ℕ → Form → State → List ℕ → List ℕ → Type 0
+NoneEqual n f s ram rom = (i : ℕ) → i < n → EqualAt f s ram rom i → ⊥
+
+pub clear : {n : ℕ} {f : Form} {s : State} {ram rom : List ℕ} → Passes f s ram rom n → Spares f s n → Clear n f s ram rom
+clear p spared = record { there = λ i h. p i h .0; writable = λ c i h. p i h .1 c; spared = spared }
 
 -- ---- the address of element i after one round is that of element i + 1 before it
 module _ (f : Form) (s t : State) (r : Rounded f s t) where
@@ -119,7 +119,7 @@ module _ (f : Form) (s : State) (ram rom : List ℕ) (a : At f s ram rom) (t : S
 -- ---- after n rounds, with more to come: a run goes on from there, and this is where its registers are
 pub record Goes (n k d : ℕ) (f : Form) (s : State) (ram rom : List ℕ) (t : State) (m : List ℕ) : Type 0 where
   pub rounds : roundsOf n f s ram rom ≡ did t m
-  pub goes : goOf (n + k) d s ram rom ≡ goOf k (d + n) t m rom
+  pub goes : manyOf (n + k) d s ram rom ≡ manyOf k (d + n) t m rom
   pub there : At f t m rom
   pub counter : t .counter ≡ s .counter
   pub left : countOf t + n ≡ countOf s
@@ -163,7 +163,7 @@ none-yet : (k d : ℕ) (f : Form) (s : State) (ram rom : List ℕ) → At f s ra
 none-yet k d f s ram rom a =
     record {
       rounds = rounds-none f s ram rom;
-      goes = ap (λ (x : ℕ). goOf x d s ram rom) (zero-add k) ∙ ap (λ (x : ℕ). goOf k x s ram rom) (sym (add-zero d));
+      goes = ap (λ (x : ℕ). manyOf x d s ram rom) (zero-add k) ∙ ap (λ (x : ℕ). manyOf k x s ram rom) (sym (add-zero d));
       there = a;
       counter = refl;
       left = add-zero (countOf s);
@@ -177,7 +177,7 @@ none-yet k d f s ram rom a =
 -- one round more, before the others
 one-more :
     (j k d : ℕ) (f : Form) (s : State) (ram rom : List ℕ) (u : State) (v : List ℕ) (t : State) (m : List ℕ) →
-    roundOf f s ram rom ≡ did u v → tryOf s ram rom ≡ did u v → Rounded f s u → Left f s ram rom v → countOf u + 1 ≡ countOf s →
+    roundOf f s ram rom ≡ did u v → onceOf s ram rom ≡ did u v → Rounded f s u → Left f s ram rom v → countOf u + 1 ≡ countOf s →
     Goes j k (d + 1) f u v rom t m → Goes (suc j) k d f s ram rom t m
 one-more j k d f s ram rom u v t m h step r l c g =
     let n1 : suc j + k ≡ suc (j + k) = omega arith in
@@ -185,10 +185,10 @@ one-more j k d f s ram rom u v t m h step r l c g =
     record {
       rounds = rounds-did j f s ram rom u v h ∙ g .rounds;
       goes =
-          ap (λ (x : ℕ). goOf x d s ram rom) n1
-          ∙ go-did (j + k) d s ram rom u v step
+          ap (λ (x : ℕ). manyOf x d s ram rom) n1
+          ∙ many-did (j + k) d s ram rom u v step
           ∙ g .goes
-          ∙ ap (λ (x : ℕ). goOf k x t m rom) (sym n2);
+          ∙ ap (λ (x : ℕ). manyOf k x t m rom) (sym n2);
       there = g .there;
       counter = g .counter ∙ r .counter;
       left = let x : countOf t + j ≡ countOf u = g .left in omega (arith, x, c);
@@ -215,7 +215,7 @@ repeat-on (suc j) k d f s ram rom a lt c none =
     let bc : countIn u + 1 ≡ countOf s = count-round s u (r .bc) in
     let cu : countOf u ≡ countIn u = count-bc u (omega arith) in
     let on = goes-on f u (a .repeats) (omega arith) (unequal f s ram rom a u v (x .2) (none 0 (omega arith))) in
-    let step : tryOf s ram rom ≡ did u v =
+    let step : onceOf s ram rom ≡ did u v =
     step-did f s ram rom a u v (x .2) (r .counter) ∙ ap (λ (b : Bool). did (cond b u (pastOf 2 u)) v) on in
     let g =
     repeat-on j k (d + 1) f u v rom (first-next f s ram rom a u v c1 r l) (omega arith)
@@ -320,7 +320,7 @@ after-one f x y j e h = ap (once f) e ∙ once-passed f j x h
 -- ---- it ends: as many rounds as BC says, or the last is the first equal one
 pub record Ended (j k : ℕ) (f : Form) (s : State) (ram rom : List ℕ) (t : State) (m : List ℕ) : Type 0 where
   pub rounds : roundsOf (suc j) f s ram rom ≡ did t m
-  pub goes : goOf (suc j + k) 0 s ram rom ≡ goOf k (suc j) (pastOf 2 t) m rom
+  pub goes : manyOf (suc j + k) 0 s ram rom ≡ manyOf k (suc j) (pastOf 2 t) m rom
   pub counter : t .counter ≡ s .counter
   pub from : getRegister t Long (f .from) ≡ passed f (getRegister s Long (f .from)) (suc j)
   pub to : f .copies ≡ true → getRegister t Long (f .to) ≡ passed f (getRegister s Long (f .to)) (suc j)
@@ -353,7 +353,7 @@ repeat-ends j k f s ram rom a le c none last =
     let stop : (countIn t ≡ 0) ⊎ (equalIn f t ≡ true) =
     ⊎-elim (λ (h : suc j ≡ countOf s). inl (omega (arith, bc, left, h)))
     (λ (q : EqualAt f s ram rom j). inr (equal f u v rom (g .there) t m (x .2) (equal-at j (suc k) 0 f s ram rom u v g q))) last in
-    let step : tryOf u v rom ≡ did (pastOf 2 t) m =
+    let step : onceOf u v rom ≡ did (pastOf 2 t) m =
     step-did f u v rom (g .there) t m (x .2) (r .counter) ∙ ap (λ (b : Bool). did (cond b t (pastOf 2 t)) m) (goes-not f t stop) in
     let n1 : suc j + k ≡ j + suc k = omega arith in
     let n2 : 0 + j + 1 ≡ suc j = omega arith in (
@@ -362,10 +362,10 @@ repeat-ends j k f s ram rom a le c none last =
       record {
         rounds = rounds-then j f s ram rom u v t m (g .rounds) (x .2);
         goes =
-            ap (λ (z : ℕ). goOf z 0 s ram rom) n1
+            ap (λ (z : ℕ). manyOf z 0 s ram rom) n1
             ∙ g .goes
-            ∙ go-did k (0 + j) u v rom (pastOf 2 t) m step
-            ∙ ap (λ (z : ℕ). goOf k z (pastOf 2 t) m rom) n2;
+            ∙ many-did k (0 + j) u v rom (pastOf 2 t) m step
+            ∙ ap (λ (z : ℕ). manyOf k z (pastOf 2 t) m rom) n2;
         counter = r .counter ∙ g .counter;
         from = r .from ∙ after-one f (getRegister s Long (f .from)) (getRegister u Long (f .from)) j (g .from) (register-lt s Long (f .from));
         to = λ e. r .to e ∙ after-one f (getRegister s Long (f .to)) (getRegister u Long (f .to)) j (g .to e) (register-lt s Long (f .to));
@@ -382,13 +382,13 @@ repeat-ends j k f s ram rom a le c none last =
 pub repeat-refused :
     (n k : ℕ) (f : Form) (s : State) (ram rom : List ℕ) (t : State) (m : List ℕ) (w : Why) → At f s ram rom → n < countOf s →
     Clear n f s ram rom → NoneEqual n f s ram rom → roundsOf n f s ram rom ≡ did t m → roundOf f t m rom ≡ no w →
-    goOf (n + suc k) 0 s ram rom ≡ ends n t m (answer.Refused w)
+    manyOf (n + suc k) 0 s ram rom ≡ ends n t m (answer.Refused w)
 repeat-refused n k f s ram rom t m w a lt c none e r =
     let x = repeat-on n (suc k) 0 f s ram rom a lt c none in
     let q = same-did (sym (x .2 .rounds) ∙ e) in
     let g : Goes n (suc k) 0 f s ram rom t m = at-did (x .0) (x .1) (x .2) (q .0) (q .1) in
     g .goes
-    ∙ go-no k (0 + n) t m rom w (step-no f t m rom (g .there) w r)
+    ∙ many-no k (0 + n) t m rom w (step-no f t m rom (g .there) w r)
     ∙ ap (λ (z : ℕ). ends z t m (answer.Refused w)) (zero-add n)
   where
     at-did : (u : State) (v : List ℕ) → Goes n (suc k) 0 f s ram rom u v → u ≡ t → v ≡ m → Goes n (suc k) 0 f s ram rom t m
@@ -396,5 +396,5 @@ repeat-refused n k f s ram rom t m w a lt c none e r =
         subst (λ (l : List ℕ). Goes n (suc k) 0 f s ram rom t l) q (subst (λ (z : State). Goes n (suc k) 0 f s ram rom z v) p g)
 
 -- a run's checks pass at a form
-pub run-at : (n : ℕ) (f : Form) (s : State) (ram rom : List ℕ) → At f s ram rom → n ≤ 1000000 → runOf n s ram rom ≡ goOf n 0 s ram rom
+pub run-at : (n : ℕ) (f : Form) (s : State) (ram rom : List ℕ) → At f s ram rom → n ≤ 1000000 → runOf n s ram rom ≡ manyOf n 0 s ram rom
 run-at n f s ram rom a h = run-goes s ram rom n h (within f s ram rom a) (a .valid)

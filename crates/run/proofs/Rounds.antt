@@ -42,7 +42,7 @@ use Rattle.operand.specs.Round.{less}
 use Rattle.operand.specs.Flag.{flagsIn, flagged}
 use Rattle.block.specs.Block.{countIn, moreIn, counted, moved, copied, accumulator, compared, roundOf, equalIn}
 use Rattle.block.proofs.Rounds.{round-copies, round-compares, round-refused}
-use Rattle.step.proofs.Kept.{copied-valid, compared-valid}
+use Rattle.facts.proofs.Kept.{copied-valid, compared-valid}
 use Rattle.little.specs.Bytes.{Bytes}
 use Rattle.run.proofs.Bytes.{bytes-after}
 use Rattle.run.proofs.Registers.{once, moved-sound, moved-self, moved-long, moved-bc, moved-acc, counted-sound, counted-bc, counted-long, counted-acc, flagged-sound, flagged-register, flagged-acc}

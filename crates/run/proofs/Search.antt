@@ -15,15 +15,16 @@ use Rattle.state.specs.declared.State.{State}
 use Rattle.code.specs.declared.Form.{Form}
 use Rattle.operand.specs.Flag.{flagsIn}
 use Rattle.block.specs.Block.{countIn}
-use Rattle.step.specs.Exec.{pastOf}
-use Rattle.step.specs.Many.{ends}
-use Rattle.run.specs.Run.{goOf, runOf}
-use Rattle.run.specs.Repeat.{At, countOf, passed}
-use Rattle.run.specs.Search.{SearchFinds, SearchFails, CopyEnds}
-use Rattle.run.proofs.Laws.{go-none}
+use Rattle.exec.specs.Exec.{pastOf}
+use Rattle.turn.specs.Many.{ends, manyOf}
+use Rattle.run.specs.Run.{runOf}
+use Rattle.run.specs.Demand.{At, countOf, passed}
+use Rattle.run.specs.Search.{Over, SearchFinds, SearchFails, CopyEnds}
+use Rattle.turn.proofs.ManySteps.{many-none}
 use Rattle.run.proofs.Counts.{count-some}
-use Rattle.run.proofs.Repeats.{Clear, Ended, repeat-ends, run-at}
-use Rattle.run.proofs.Demand.{compare-clear, copy-none}
+use Rattle.run.proofs.Repeats.{Clear, clear, Ended, repeat-ends, run-at}
+use Rattle.run.proofs.Demand.{compare-clear}
+use Rattle.run.proofs.Endings.{equal-clear}
 
 -- ---- the state past the form has the registers and flags of the last round
 past-register : (t : State) (r : ℕ) → getRegister (pastOf 2 t) Long r ≡ getRegister t Long r
@@ -55,71 +56,59 @@ pub ended-steps :
 ended-steps j f s ram rom t m a le e =
     let few = count-some s in
     run-at (suc j) f s ram rom a (omega arith)
-    ∙ ap (λ (n : ℕ). goOf n 0 s ram rom) (sym (add-zero (suc j)))
+    ∙ ap (λ (n : ℕ). manyOf n 0 s ram rom) (sym (add-zero (suc j)))
     ∙ e .goes
-    ∙ go-none (suc j) (pastOf 2 t) m rom
+    ∙ many-none (suc j) (pastOf 2 t) m rom
 
-pub search-finds : SearchFinds
-search-finds f s ram rom i a up lt there none q =
+-- where everything is after the last round
+over :
+    (j n : ℕ) (f : Form) (s : State) (ram rom : List ℕ) (t : State) (m : List ℕ) → At f s ram rom → suc j ≡ n → n ≤ countOf s →
+    Ended j 0 f s ram rom t m → Over f s ram rom n (pastOf 2 t) m
+over j n f s ram rom t m a k le e =
+    let bc = e .bc in
+    record {
+      ran =
+          ap (λ (y : ℕ). runOf y s ram rom) (sym k)
+          ∙ ended-steps j f s ram rom t m a (omega arith) e
+          ∙ ap (λ (y : ℕ). ends y (pastOf 2 t) m Done) k;
+      from = past-register t (f .from) ∙ e .from ∙ ap (passed f (getRegister s Long (f .from))) k;
+      bc = past-count t ∙ omega (arith, bc, k);
+      past = past-counter t (s .counter) (e .counter);
+    }
+
+pub search-finds : (f : Form) (s : State) (ram rom : List ℕ) → SearchFinds f s ram rom
+search-finds f s ram rom i a told =
     let n : suc i ≡ i + 1 = omega arith in
-    let c = subst (λ (k : ℕ). Clear k f s ram rom) (sym n) (compare-clear (i + 1) f s ram rom (q .0) there) in
-    let x = repeat-ends i 0 f s ram rom a (omega arith) c none (inr q) in
-    let t = x .0 in
-    let e = x .2 in
-    let bc = e .bc in (
-      pastOf 2 t,
-      ap (λ (k : ℕ). runOf k s ram rom) (sym n)
-          ∙ ended-steps i f s ram rom t (x .1) a (omega arith) e
-          ∙ ap (λ (m : List ℕ). ends (suc i) (pastOf 2 t) m Done) (e .same (q .0))
-          ∙ ap (λ (k : ℕ). ends k (pastOf 2 t) ram Done) n,
-      past-register t (f .from) ∙ e .from ∙ up-passed f (getRegister s Long (f .from)) (suc i) up
-          ∙ ap (λ (k : ℕ). (getRegister s Long (f .from) + k * bytesOf (f .size)) % 2 ^ 32) n,
-      past-count t ∙ omega (arith, bc),
-      past-flags t ∙ e .equal q,
-      past-counter t (s .counter) (e .counter),
-    )
+    let lt = told .0 in
+    let q = told .2 in
+    let x = repeat-ends i 0 f s ram rom a (omega arith) (equal-clear f s ram rom i told) (λ i h. told .1 i h .2) (inr q) in
+    let o = over i (i + 1) f s ram rom (x .0) (x .1) a n (omega arith) (x .2) in
+    (pastOf 2 (x .0), subst (Over f s ram rom (i + 1) (pastOf 2 (x .0))) (x .2 .same (q .0)) o, past-flags (x .0) ∙ x .2 .equal q)
 
 -- the last round of as many as the counter says
 last-of : (s : State) → suc (countOf s - 1) ≡ countOf s
 last-of s = let some = count-some s in omega arith
 
-pub search-fails : SearchFails
-search-fails f s ram rom a c up there none =
+pub search-fails : (f : Form) (s : State) (ram rom : List ℕ) → SearchFails f s ram rom
+search-fails f s ram rom a c told =
     let n = last-of s in
     let j = countOf s - 1 in
-    let k = subst (λ (y : ℕ). Clear y f s ram rom) (sym n) (compare-clear (countOf s) f s ram rom c there) in
-    let x = repeat-ends j 0 f s ram rom a (omega arith) k (λ i h. none i (omega arith)) (inl n) in
-    let t = x .0 in
-    let e = x .2 in
-    let bc = e .bc in (
-      pastOf 2 t,
-      ap (λ (y : ℕ). runOf y s ram rom) (sym n)
-          ∙ ended-steps j f s ram rom t (x .1) a (omega arith) e
-          ∙ ap (λ (m : List ℕ). ends (suc j) (pastOf 2 t) m Done) (e .same c)
-          ∙ ap (λ (y : ℕ). ends y (pastOf 2 t) ram Done) n,
-      past-register t (f .from) ∙ e .from ∙ up-passed f (getRegister s Long (f .from)) (suc j) up
-          ∙ ap (λ (y : ℕ). (getRegister s Long (f .from) + y * bytesOf (f .size)) % 2 ^ 32) n,
-      past-count t ∙ omega (arith, bc, n),
-      past-flags t ∙ e .unequal c (none j (omega arith)),
-      past-counter t (s .counter) (e .counter),
+    let k = subst (λ (y : ℕ). Clear y f s ram rom) (sym n) (compare-clear (countOf s) f s ram rom c (λ i h. told i h .0)) in
+    let x = repeat-ends j 0 f s ram rom a (omega arith) k (λ i h. told i (omega arith) .2) (inl n) in
+    let o = over j (countOf s) f s ram rom (x .0) (x .1) a n (omega arith) (x .2) in (
+      pastOf 2 (x .0),
+      subst (Over f s ram rom (countOf s) (pastOf 2 (x .0))) (x .2 .same c) o,
+      past-flags (x .0) ∙ x .2 .unequal c (told j (omega arith) .2),
     )
 
-pub copy-ends : CopyEnds
-copy-ends f s ram rom a c there writable spared =
+pub copy-ends : (f : Form) (s : State) (ram rom : List ℕ) → CopyEnds f s ram rom
+copy-ends f s ram rom a c told spared =
     let n = last-of s in
     let j = countOf s - 1 in
-    let k = subst (λ (y : ℕ). Clear y f s ram rom) (sym n) (record { there = there; writable = writable; spared = spared }) in
-    let x = repeat-ends j 0 f s ram rom a (omega arith) k (copy-none j f s ram rom c) (inl n) in
-    let t = x .0 in
-    let e = x .2 in
-    let bc = e .bc in (
-      pastOf 2 t,
+    let k = subst (λ (y : ℕ). Clear y f s ram rom) (sym n) (clear told spared) in
+    let x = repeat-ends j 0 f s ram rom a (omega arith) k (λ i h. told i (omega arith) .2) (inl n) in (
+      pastOf 2 (x .0),
       x .1,
-      ap (λ (y : ℕ). runOf y s ram rom) (sym n)
-          ∙ ended-steps j f s ram rom t (x .1) a (omega arith) e
-          ∙ ap (λ (y : ℕ). ends y (pastOf 2 t) (x .1) Done) n,
-      past-register t (f .from) ∙ e .from ∙ ap (passed f (getRegister s Long (f .from))) n,
-      past-register t (f .to) ∙ e .to c ∙ ap (passed f (getRegister s Long (f .to))) n,
-      past-count t ∙ omega (arith, bc, n),
-      past-counter t (s .counter) (e .counter),
+      over j (countOf s) f s ram rom (x .0) (x .1) a n (omega arith) (x .2),
+      past-register (x .0) (f .to) ∙ x .2 .to c ∙ ap (passed f (getRegister s Long (f .to))) n,
     )

@@ -45,11 +45,11 @@ use Rattle.block.specs.Block.{moreIn, counted, moved, accumulator, copied, comp
 use Rattle.control.specs.Control.{controlOf}
 use Rattle.stack.specs.Stack.{stackOf}
 use Rattle.compute.specs.Compute.{putsOf}
-use Rattle.step.specs.Exec.{pastOf, effectOf, executedOf}
-use Rattle.step.specs.Step.{tooLong, done, onceOf, tryOf}
-use Rattle.run.specs.Repeat.{At}
+use Rattle.exec.specs.Exec.{pastOf, effectOf, executedOf, done}
+use Rattle.turn.specs.Once.{onceOf}
+use Rattle.step.specs.Step.{tooLong}
+use Rattle.run.specs.Demand.{At}
 use Rattle.run.proofs.Bytes.{bytes-code}
-use Rattle.run.proofs.Laws.{try-once}
 use Rattle.block.proofs.Rounds.{round-copies, round-compares, round-refused}
 use Rattle.run.proofs.Rounds.{Pointers, pointers, Rounded, Left, unchanged, wrote, left-length, left-bytes}
 
@@ -197,23 +197,22 @@ module _ (f : Form) (s : State) (ram rom : List ℕ) (a : At f s ram rom) where
   within = rw (le-ltb 65536 (length ram) (a .ramFits), le-ltb 65536 (length rom) (a .romFits)) refl
 
   -- the step is the round on a state past the form, and then the counter back where it goes on
-  step-is : tryOf s ram rom ≡ andThen (roundOf f (pastOf 2 s) ram rom) (endsAt f (s .counter))
+  step-is : onceOf s ram rom ≡ andThen (roundOf f (pastOf 2 s) ram rom) (endsAt f (s .counter))
   unfolding onceOf executedOf controlOf stackOf putsOf effectOf
   step-is =
-      try-once s ram rom within (a .valid)
-      ∙ ap (λ (d : Decoded). done d s ram rom) (a .here)
+      ap (λ (d : Decoded). done d s ram rom) (a .here)
       ∙ rw (a .form, two-long) refl
 
   -- so it is the round, with the counter at the form or past it
   pub step-did :
       (t : State) (m : List ℕ) → roundOf f s ram rom ≡ did t m → t .counter ≡ s .counter →
-      tryOf s ram rom ≡ did (cond (goesOn f t) t (pastOf 2 t)) m
+      onceOf s ram rom ≡ did (cond (goesOn f t) t (pastOf 2 t)) m
   step-did t m e c =
       step-is
       ∙ ap (λ (x : Try). andThen x (endsAt f (s .counter))) (past-is f s ram rom ∙ ap (λ (x : Try). andThen x (λ (u : State). withCounter u (s .counter + 2))) e)
       ∙ ap (λ (u : State). did u m) (end-is f t (s .counter) c (at-valid .counter))
 
-  pub step-no : (w : Why) → roundOf f s ram rom ≡ no w → tryOf s ram rom ≡ no w
+  pub step-no : (w : Why) → roundOf f s ram rom ≡ no w → onceOf s ram rom ≡ no w
   step-no w e =
       step-is
       ∙ ap (λ (x : Try). andThen x (endsAt f (s .counter))) (past-is f s ram rom ∙ ap (λ (x : Try). andThen x (λ (u : State). withCounter u (s .counter + 2))) e)

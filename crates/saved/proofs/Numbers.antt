@@ -4,11 +4,10 @@ use mathlib.Core.Path.{_≡_, refl, ap, sym, _∙_}
 use mathlib.Core.List.{List, [], _∷_, _++_, append-assoc, append-nil}
 use native.Mathlib.Omega.{arith}
 use native.Mathlib.Numerals.{add-one}
-use lib.ListN.{length, getD, take, drop, set, length-append, length-take}
+use lib.ListN.{length, getD, take, drop, set, length-append, length-take, length-drop}
 use lib.Seq.{take-suc, take-suc-set, take-all, drop-drop, take-at, drop-at, take-add, length-take-le, getD-drop}
-use lib.ListN.{length-drop}
-use Rattle.little.specs.Bytes.{Bytes, valueOf, bytesFrom, replaced}
-use Rattle.little.proofs.Laws.{length-bytes, written, replaced-length, replaced-take, value-bytes, bytes-value}
+use Rattle.little.specs.Bytes.{Bytes, valueOf, bytesFrom}
+use Rattle.little.proofs.Laws.{four, length-bytes, written, replaced-take, value-bytes, bytes-value}
 use Rattle.saved.specs.Record.{longsBytes, longsAt}
 
 -- ---- writing
@@ -28,18 +27,13 @@ unfolding longsBytes
 longs-length [] = refl
 longs-length (x ∷ xs) = simp (length-append, length-bytes, longs-length xs) (omega arith)
 
--- a list filled from the front by `write` on parts: its length stays, and the filled front grows
-module _ (o n v : ℕ) (l ys : List ℕ) (fits : o + n ≤ length l) (e : ys ≡ bytesFrom (length (take (o + n - o) (drop o l))) v) where
-  room : o + length (bytesFrom n v) ≤ length l
-  room = rw length-bytes fits
-
-  pub lent-length : length (take o l ++ (ys ++ drop (o + n - o) (drop o l))) ≡ length l
-  lent-length = ap length (written o n v l ys fits e) ∙ replaced-length o (bytesFrom n v) l room
-
-  pub lent-take : (p : ℕ) → p ≡ o + n → take p (take o l ++ (ys ++ drop (o + n - o) (drop o l))) ≡ take o l ++ bytesFrom n v
-  lent-take p q =
-      let k : p ≡ o + length (bytesFrom n v) = rw length-bytes q in
-      rw (k, written o n v l ys fits e) (replaced-take o (bytesFrom n v) l room)
+-- a list filled from the front by `write` on parts: the filled front grows
+pub lent-take :
+    (o n v : ℕ) (l ys : List ℕ) → o + n ≤ length l → ys ≡ bytesFrom (length (take (o + n - o) (drop o l))) v →
+    take (o + n) (take o l ++ (ys ++ drop (o + n - o) (drop o l))) ≡ take o l ++ bytesFrom n v
+lent-take o n v l ys fits e =
+    let k : o + n ≡ o + length (bytesFrom n v) = rw length-bytes in
+    rw (written o n v l ys fits e, k) (replaced-take o (bytesFrom n v) l (rw length-bytes fits))
 
 -- ---- reading
 -- a part of at most four bytes is read whole
@@ -58,12 +52,9 @@ longs-snoc (suc n) l =
 
 -- a turn of the loop that reads the registers
 pub longs-more :
-    (r l : List ℕ) (i v : ℕ) → i < length r → v ≡ valueOf (take 4 (take (4 * i + 4 - 4 * i) (drop (4 * i) l))) →
+    (r l : List ℕ) (i v : ℕ) → i < length r → v ≡ valueOf (take 4 (drop (4 * i) l)) →
     take i r ≡ longsAt i l → take (i + 1) (set r i v) ≡ longsAt (i + 1) l
-longs-more r l i v h e q =
-    let z : 4 * i + 4 - 4 * i ≡ 4 = omega arith in
-    let f : v ≡ valueOf (take 4 (drop (4 * i) l)) = rw z at e ∙ read-part 4 (drop (4 * i) l) (omega arith) in
-    rw (add-one, take-suc-set, longs-snoc) (cc)
+longs-more r l i v h e q = rw (add-one, take-suc-set, longs-snoc) (cc)
 
 -- ---- written, then read; read, then written
 pub longs-back : (xs rest : List ℕ) → ((i : ℕ) → getD xs i 0 < 2 ^ 32) → longsAt (length xs) (longsBytes xs ++ rest) ≡ xs
@@ -103,3 +94,19 @@ bytes-longs (suc n) l k h =
       part-bytes 4 l (omega arith) h,
       bytes-longs n (drop 4 l) (simp length-drop (omega arith)) (bytes-drop 4 l h),
     )
+
+-- what is read fits
+pub value-two : (l : List ℕ) → Bytes l → valueOf (take 2 l) < 2 ^ 16
+unfolding valueOf
+value-two [] h = omega arith
+value-two (a ∷ []) h = omega (arith, h 0)
+value-two (a ∷ b ∷ l) h = omega (arith, h 0, h 1)
+
+pub value-four : (l : List ℕ) → Bytes l → valueOf (take 4 l) < 2 ^ 32
+value-four l h = omega (arith, four l, h 0, h 1, h 2, h 3)
+
+pub longs-fit : (n : ℕ) (l : List ℕ) → Bytes l → (i : ℕ) → getD (longsAt n l) i 0 < 2 ^ 32
+unfolding longsAt
+longs-fit zero l h i = omega arith
+longs-fit (suc n) l h zero = value-four l h
+longs-fit (suc n) l h (suc i) = longs-fit n (drop 4 l) (bytes-drop 4 l h) i

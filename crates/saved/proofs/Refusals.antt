@@ -7,7 +7,7 @@ use Rattle.answer.specs.declared.Answer.the-variants.{Refused}
 use Rattle.answer.specs.declared.Why.the-variants.{Invalid}
 use Rattle.little.specs.Bytes.{bytesFrom}
 use Rattle.state.specs.State.{zeroState, validOf}
-use Rattle.saved.specs.Record.{longsBytes, recordOf, saveAnswer, saveBytes, restoredOf}
+use Rattle.saved.specs.Record.{recordLength, longsBytes, recordOf, saveAnswer, saveBytes, restoredOf}
 use Rattle.saved.specs.Statements.{ZeroRecord, Saves, BadRecords, Settled}
 use Rattle.saved.proofs.Laws.{save-done, save-short, save-invalid}
 
@@ -18,7 +18,7 @@ zero-record = refl
 pub saves : Saves
 saves s b = (save-done s b, ⊎-elim (save-invalid s b) (short (validOf s) refl))
   where
-    short : (v : Bool) → validOf s ≡ v → (length b ≡ 88 → ⊥) → (saveAnswer s (length b) ≡ Refused Invalid) × (saveBytes s b ≡ b)
+    short : (v : Bool) → validOf s ≡ v → (length b ≡ recordLength → ⊥) → (saveAnswer s (length b) ≡ Refused Invalid) × (saveBytes s b ≡ b)
     short true e n = save-short s b e n
     short false e n = save-invalid s b e
 

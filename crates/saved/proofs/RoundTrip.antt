@@ -1,6 +1,6 @@
 -- A state that is saved and read is the same, and a record that is read and saved is the same.
-use Prim.Native.Nat.{ℕ, _^_, _<_}
-use mathlib.Core.Path.{_≡_, ap, sym, _∙_}
+use Prim.Native.Nat.{ℕ}
+use mathlib.Core.Path.{_≡_, refl, ap, sym, _∙_}
 use mathlib.Core.Bool.{true}
 use mathlib.Core.List.{List, [], _∷_, _++_}
 use native.Mathlib.Omega.{arith}
@@ -17,9 +17,9 @@ use Rattle.state.specs.declared.State.{State}
 use Rattle.state.proofs.Valid.{Valid, valid-says, and-true}
 use Rattle.state.specs.Sr.{srOf, onesIn}
 use Rattle.state.proofs.Sr.{sr-lt, sr-back, sr-ones, sr-whole}
-use Rattle.saved.specs.Record.{longsBytes, longsAt, recordOf, srAt, stateAt, fixedAt, isRecord, restoredOf}
-use Rattle.saved.specs.Statements.{SavedReadsBack, ReadSavesBack, RecordsAreOfStates}
-use Rattle.saved.proofs.Numbers.{longs-length, longs-back, bytes-drop, part-bytes, bytes-longs}
+use Rattle.saved.specs.Record.{recordLength, longsBytes, longsAt, recordOf, srAt, stateAt, fixedAt, isRecord, restoredOf}
+use Rattle.saved.specs.Statements.{SavedReadsBack, RecordsAreOfStates}
+use Rattle.saved.proofs.Numbers.{longs-length, longs-back, bytes-drop, part-bytes, bytes-longs, value-two, value-four, longs-fit}
 use Rattle.saved.proofs.Laws.{load-good}
 
 -- ---- saved, then read
@@ -51,7 +51,7 @@ module _ (s : State) (ok : Sound s) (v : Valid s) where
   unfolding bytesFrom
   last-is = sym (getD-drop 84 (recordOf s) 3 0) ∙ ap (λ (l : List ℕ). getD l 3 0) at-84
 
-  pub record-length : length (recordOf s) ≡ 88
+  pub record-length : length (recordOf s) ≡ recordLength
   unfolding recordOf
   record-length = simp (length-append, longs-80, length-bytes)
 
@@ -83,13 +83,7 @@ saved-reads-back s ok e =
     ∙ ap (λ (t : State). record { answer = Done; state = t }) (state-back s ok v)
 
 -- ---- read, then saved
-value-two : (l : List ℕ) → Bytes l → valueOf (take 2 l) < 2 ^ 16
-unfolding valueOf
-value-two [] h = omega arith
-value-two (a ∷ []) h = omega (arith, h 0)
-value-two (a ∷ b ∷ l) h = omega (arith, h 0, h 1)
-
-module _ (l : List ℕ) (h : Bytes l) (n : length l ≡ 88) (m : fixedAt l ≡ true) where
+module _ (l : List ℕ) (h : Bytes l) (n : length l ≡ recordLength) (m : fixedAt l ≡ true) where
   ones : onesIn (srAt l) ≡ true
   ones = and-true (onesIn (srAt l)) _ m .0
 
@@ -103,7 +97,7 @@ module _ (l : List ℕ) (h : Bytes l) (n : length l ≡ 88) (m : fixedAt l ≡ t
       sym
       (drop-cons l 86 0 (omega arith)
       ∙ ap (λ (t : List ℕ). getD l 86 0 ∷ t)
-      (drop-cons l 87 0 (omega arith) ∙ rw (last, drop-of-length-le l {i = 88} (omega arith))))
+      (drop-cons l 87 0 (omega arith) ∙ rw (last, drop-of-length-le l {i = recordLength} (omega arith))))
 
   pub record-back : recordOf (stateAt l) ≡ l
   unfolding recordOf stateAt
@@ -125,9 +119,23 @@ module _ (l : List ℕ) (h : Bytes l) (n : length l ≡ 88) (m : fixedAt l ≡ t
       )
       (take-append-drop 80 l)
 
-pub read-saves-back : ReadSavesBack
+-- what is read is sound
+pub sound-at : (l : List ℕ) → Bytes l → Sound (stateAt l)
+unfolding stateAt longsAt
+sound-at l h =
+    record {
+      twenty = refl;
+      fit = longs-fit 20 l h;
+      counter-fit = value-four (drop 80 l) (bytes-drop 80 l h);
+      bank-fit = omega arith;
+      level-fit = omega arith;
+      flags-fit = omega arith;
+      spare-fit = h 86;
+    }
+
+pub read-saves-back : (l : List ℕ) → Bytes l → isRecord l ≡ true → recordOf (stateAt l) ≡ l
 read-saves-back l h e =
-    let a = and-true (eqb (length l) 88) _ e in
+    let a = and-true (eqb (length l) recordLength) _ e in
     let b = and-true (validOf (stateAt l)) _ (a .1) in
     record-back l h (eqb-true _ _ (a .0)) (b .1)
 
@@ -135,6 +143,6 @@ pub records-are-of-states : RecordsAreOfStates
 records-are-of-states = (
   λ s ok e. valid-again s ok (valid-says s e) e,
   λ l h e.
-      let a = and-true (eqb (length l) 88) _ e in
+      let a = and-true (eqb (length l) recordLength) _ e in
       (and-true (validOf (stateAt l)) _ (a .1) .0, read-saves-back l h e),
 )

@@ -1,19 +1,13 @@
--- A saved state: one record of 88 bytes with no header.
-use Prim.Native.Nat.{ℕ, zero, suc}
-use mathlib.Core.Path.{_≡_}
-use mathlib.Core.List.{List, [], _∷_, _++_}
-use mathlib.Core.Bool.{Bool, cond, _&&_}
-use lib.ListN.{length, getD, take, drop}
-use lib.Dec.{eqb}
-use Rattle.answer.specs.declared.Answer.{Answer}
-use Rattle.answer.specs.declared.Answer.the-variants.{Done, Refused}
-use Rattle.answer.specs.declared.Why.{Why}
-use Rattle.answer.specs.declared.Why.the-variants.{Invalid}
+-- A saved state: one record of bytes with no header.
+use Rattle.little.specs.Words.{ℕ, zero, suc, _≡_, List, [], _∷_, _++_, Bool, cond, _&&_, length, getD, take, drop, eqb}
+use Rattle.answer.specs.declared.{Answer.Answer, Answer.the-variants.Done, Answer.the-variants.Refused, Why.Why, Why.the-variants.Invalid}
 use Rattle.little.specs.Bytes.{valueOf, bytesFrom}
-use Rattle.state.specs.State.{validOf, zeroState}
-use Rattle.state.specs.declared.State.{State}
-use Rattle.state.specs.Sr.{srOf, fIn, bankIn, levelIn, onesIn}
+use Rattle.state.specs.{declared.State.State, State.validOf, State.zeroState, Sr.srOf, Sr.fIn, Sr.bankIn, Sr.levelIn, Sr.onesIn}
 use Rattle.saved.specs.declared.Restored.{Restored}
+
+-- how many bytes it has
+abbrev pub recordLength : ℕ
+recordLength = 88
 
 -- numbers of four bytes, one after the other
 unfoldable pub longsBytes : List ℕ → List ℕ
@@ -24,10 +18,10 @@ longsBytes (x ∷ xs) = bytesFrom 4 x ++ longsBytes xs
 unfoldable pub recordOf : State → List ℕ
 recordOf s = longsBytes (s .registers) ++ (bytesFrom 4 (s .counter) ++ (bytesFrom 2 (srOf s) ++ (s .spare ∷ 0 ∷ [])))
 
--- ---- saving: an invalid state, or a buffer that is not 88 bytes long, is refused and leaves the buffer
+-- ---- saving: an invalid state, or a buffer of another length, is refused and leaves the buffer
 -- whether a state can be saved in n bytes
 abbrev pub canSave : State → ℕ → Bool
-canSave s n = validOf s && eqb n 88
+canSave s n = validOf s && eqb n recordLength
 
 -- the answer of a save
 unfoldable pub saveAnswer : State → ℕ → Answer
@@ -51,7 +45,7 @@ longsAt (suc n) l = valueOf (take 4 l) ∷ longsAt n (drop 4 l)
 abbrev pub srAt : List ℕ → ℕ
 srAt l = valueOf (take 2 (drop 84 l))
 
--- what stands in 88 bytes
+-- what stands in a record
 unfoldable pub stateAt : List ℕ → State
 stateAt l = record {
   registers = longsAt 20 l;
@@ -66,9 +60,9 @@ stateAt l = record {
 abbrev pub fixedAt : List ℕ → Bool
 fixedAt l = onesIn (srAt l) && eqb (getD l 87 0) 0
 
--- 88 bytes, none with a bit that no valid state has
+-- of that length, and with no bit that no valid state has
 abbrev pub isRecord : List ℕ → Bool
-isRecord l = eqb (length l) 88 && (validOf (stateAt l) && fixedAt l)
+isRecord l = eqb (length l) recordLength && (validOf (stateAt l) && fixedAt l)
 
 -- a refusal, with the all-zero state in the place of one; of a bad record it is 2
 abbrev pub refusedRecord : Why → Restored

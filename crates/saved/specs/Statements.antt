@@ -1,29 +1,16 @@
 -- What is proved of saving and loading, beside what each call promises. Each statement is proved in proofs/RoundTrip.antt or proofs/Refusals.antt.
-use Prim.Native.Nat.{ℕ}
-use mathlib.Core.Path.{_≡_}
-use mathlib.Core.Bool.{true, false}
-use mathlib.Core.Logic.{_⊎_}
-use mathlib.Core.List.{List, [], _∷_, _++_}
-use lib.ListN.{length, replicate}
-use Rattle.answer.specs.declared.Answer.{Answer}
-use Rattle.answer.specs.declared.Answer.the-variants.{Done, Refused}
-use Rattle.answer.specs.declared.Why.the-variants.{Invalid}
+use Rattle.little.specs.Words.{ℕ, _≡_, true, false, _⊎_, List, length, set, replicate}
+use Rattle.answer.specs.declared.{Answer.Answer, Answer.the-variants.Done, Answer.the-variants.Refused, Why.the-variants.Invalid}
 use Rattle.little.specs.Bytes.{Bytes}
-use Rattle.state.specs.State.{zeroState, validOf}
-use Rattle.state.specs.Sound.{Sound}
-use Rattle.state.specs.declared.State.{State}
+use Rattle.state.specs.{declared.State.State, State.zeroState, State.validOf, Sound.Sound}
+use Rattle.saved.specs.Record.{recordLength, recordOf, saveAnswer, saveBytes, SaveMeets, stateAt, isRecord, restoredOf, LoadMeets}
 use Rattle.saved.specs.declared.Restored.{Restored}
-use Rattle.saved.specs.Record.{recordOf, saveAnswer, saveBytes, SaveMeets, stateAt, isRecord, restoredOf, LoadMeets}
 
 -- a saved state reads back as itself
 abbrev pub SavedReadsBack : Type 0
 SavedReadsBack = (s : State) → Sound s → validOf s ≡ true → restoredOf (recordOf s) ≡ record { answer = Done; state = s }
 
--- a good record is written again as itself
-abbrev pub ReadSavesBack : Type 0
-ReadSavesBack = (l : List ℕ) → Bytes l → isRecord l ≡ true → recordOf (stateAt l) ≡ l
-
--- the good records are those of valid states, and no others
+-- the good records are those of valid states, and no others: each is written again as itself
 abbrev pub RecordsAreOfStates : Type 0
 RecordsAreOfStates =
     ((s : State) → Sound s → validOf s ≡ true → isRecord (recordOf s) ≡ true)
@@ -31,14 +18,14 @@ RecordsAreOfStates =
 
 -- the record of the all-zero state has no bit but the two ones of SR
 abbrev pub ZeroRecord : Type 0
-ZeroRecord = recordOf zeroState ≡ replicate 85 0 ++ (0x88 ∷ 0 ∷ 0 ∷ [])
+ZeroRecord = recordOf zeroState ≡ set (replicate recordLength 0) 85 0x88
 
--- a save is done for a valid state and 88 bytes, and leaves the record; any other is 2 and leaves the buffer
+-- a save is done for a valid state and a record's length, and leaves the record; any other is 2 and leaves the buffer
 abbrev pub Saves : Type 0
 Saves =
     (s : State) (b : List ℕ) →
-    ((validOf s ≡ true) → (length b ≡ 88) → (saveAnswer s (length b) ≡ Done) × (saveBytes s b ≡ recordOf s))
-    × (((validOf s ≡ false) ⊎ (length b ≡ 88 → ⊥)) → (saveAnswer s (length b) ≡ Refused Invalid) × (saveBytes s b ≡ b))
+    ((validOf s ≡ true) → (length b ≡ recordLength) → (saveAnswer s (length b) ≡ Done) × (saveBytes s b ≡ recordOf s))
+    × (((validOf s ≡ false) ⊎ (length b ≡ recordLength → ⊥)) → (saveAnswer s (length b) ≡ Refused Invalid) × (saveBytes s b ≡ b))
 
 -- what is no good record is 2, and gives the all-zero state
 abbrev pub BadRecords : Type 0

@@ -1,8 +1,10 @@
-// A state as a record of 88 bytes.
+// A state as a record of bytes.
 ghost use mathlib.Core.Path.{_≡_};
-ghost use lib.ListN.{length, take};
-ghost use Prim.Native.Nat.{_≤_};
-ghost use Rattle.saved.specs.Record.{longsBytes, longsAt, SaveMeets, srAt, stateAt, fixedAt, LoadMeets, refusedRecord};
+ghost use mathlib.Core.List.{_++_};
+ghost use lib.ListN.{length, take, drop};
+ghost use Prim.Native.Nat.{_+_, _≤_};
+ghost use Rattle.little.specs.Bytes.{valueOf, bytesFrom};
+ghost use Rattle.saved.specs.Record.{recordLength, longsBytes, longsAt, SaveMeets, stateAt, fixedAt, LoadMeets, refusedRecord};
 use answer::Answer;
 use answer::Why;
 use state::State;
@@ -18,31 +20,50 @@ pub struct Restored {
     pub state: State,
 }
 
+// How many bytes a record has.
+const LENGTH: usize = 88;
+
+// Writes a number of n bytes from a place on; what stands before it stays.
+fn write_at(out: &mut [u8], at: usize, n: usize, v: u32)
+    requires { ⌜ at + n ≤ length (now out) ⌝ }
+    ensures { λ _. ⌜ take (at + n) (now (out .exit)) ≡ take at (now (out .entry)) ++ bytesFrom n v ⌝ }
+{
+    let e = at + n;
+    little::write(&mut out[at..e], v);
+}
+
+// The number in n bytes from a place on.
+fn read_at(bytes: &[u8], at: usize, n: usize) -> u32
+    requires { ⌜ (at + n ≤ length (now bytes)) × (n ≤ 4) ⌝ }
+    ensures { λ r. ⌜ r ≡ valueOf (take n (drop at (now (bytes .entry)))) ⌝ }
+{
+    let e = at + n;
+    little::read(&bytes[at..e])
+}
+
 // The twenty registers, at the front of a record.
 fn save_longs(s: State, out: &mut [u8])
-    requires { ⌜ length (now out) ≡ 88 ⌝ }
+    requires { ⌜ length (now out) ≡ recordLength ⌝ }
     ensures { λ _. ⌜ take 80 (now (out .exit)) ≡ longsBytes (s .registers) ⌝ }
 {
     let mut i: usize = 0;
     while i < 20 {
-        let a = 4 * i;
-        let e = a + 4;
-        little::write(&mut out[a..e], s.long(i));
+        write_at(out, 4 * i, 4, s.long(i));
         i += 1;
     }
 }
 
-// Saves a valid state into a buffer of 88 bytes; any other state or buffer is refused, and the buffer stays.
+// Saves a valid state into a buffer of a record's length; any other state or buffer is refused, and the buffer stays.
 pub fn save(s: State, out: &mut [u8]) -> Answer
     ensures { λ r. ⌜ SaveMeets s (now (out .entry)) r (now (out .exit)) ⌝ }
 {
     if s.valid() {
-        if out.len() == 88 {
+        if out.len() == LENGTH {
             save_longs(s, out);
-            little::write(&mut out[80..84], s.counter);
-            little::write(&mut out[84..86], sr(s));
-            out[86] = s.spare;
-            out[87] = 0;
+            write_at(out, 80, 4, s.counter);
+            write_at(out, 84, 2, sr(s));
+            write_at(out, 86, 1, s.spare as u32);
+            write_at(out, 87, 1, 0);
             return Answer::Done;
         }
     }
@@ -56,28 +77,19 @@ fn longs(bytes: &[u8]) -> [u32; 20]
     let mut registers = [0u32; 20];
     let mut i: usize = 0;
     while i < 20 {
-        let a = 4 * i;
-        let e = a + 4;
-        registers[i] = little::read(&bytes[a..e]);
+        registers[i] = read_at(bytes, 4 * i, 4);
         i += 1;
     }
     registers
 }
 
-fn sr_at(bytes: &[u8]) -> u32
-    requires { ⌜ length (now bytes) ≡ 88 ⌝ }
-    ensures { λ r. ⌜ r ≡ srAt (now (bytes .entry)) ⌝ }
-{
-    little::read(&bytes[84..86])
-}
-
 fn state_at(bytes: &[u8]) -> State
-    requires { ⌜ length (now bytes) ≡ 88 ⌝ }
+    requires { ⌜ length (now bytes) ≡ recordLength ⌝ }
     ensures { λ r. ⌜ r ≡ stateAt (now (bytes .entry)) ⌝ }
 {
     let registers = longs(bytes);
-    let counter = little::read(&bytes[80..84]);
-    let sr = sr_at(bytes);
+    let counter = read_at(bytes, 80, 4);
+    let sr = read_at(bytes, 84, 2);
     let spare = bytes[86];
     State {
         registers: registers,
@@ -91,10 +103,10 @@ fn state_at(bytes: &[u8]) -> State
 
 // Whether the bits that every record has the same are there.
 fn fixed_at(bytes: &[u8]) -> bool
-    requires { ⌜ length (now bytes) ≡ 88 ⌝ }
+    requires { ⌜ length (now bytes) ≡ recordLength ⌝ }
     ensures { λ r. ⌜ r ≡ fixedAt (now (bytes .entry)) ⌝ }
 {
-    if ones_in(sr_at(bytes)) {
+    if ones_in(read_at(bytes, 84, 2)) {
         return bytes[87] == 0;
     }
     false
@@ -113,7 +125,7 @@ fn refuse() -> Restored
 pub fn load(bytes: &[u8]) -> Restored
     ensures { λ r. ⌜ LoadMeets (now (bytes .entry)) r ⌝ }
 {
-    if bytes.len() != 88 {
+    if bytes.len() != LENGTH {
         return refuse();
     }
     let s = state_at(bytes);

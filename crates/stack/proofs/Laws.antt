@@ -15,7 +15,7 @@ use Rattle.memory.specs.Access.{loadOf, storeOf, ramAfter}
 use Rattle.memory.specs.declared.Loaded.the-variants as loaded
 use Rattle.state.specs.declared.State.{State}
 use Rattle.state.specs.Register.{getRegister}
-use Rattle.operand.specs.Try.{after, leaves}
+use Rattle.operand.specs.Try.{leaves, after}
 use Rattle.operand.specs.Operand.{pointerOf, storing}
 use Rattle.operand.proofs.Laws.{stored, not-stored}
 use Rattle.operand.specs.Round.{plus}

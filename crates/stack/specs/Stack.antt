@@ -1,23 +1,13 @@
 -- Pushes, pops, calls and returns.
-use Prim.Native.Nat.{ℕ, _%_, _^_}
-use mathlib.Core.List.{List}
-use Rattle.little.specs.declared.Size.{Size}
-use Rattle.little.specs.declared.Size.the-variants.{Byte, Long}
-use Rattle.little.specs.Width.{bytesOf}
+use Rattle.little.specs.Words.{ℕ, _%_, _^_, List}
+use Rattle.little.specs.{declared.Size.Size, declared.Size.the-variants.Byte, declared.Size.the-variants.Long, Width.bytesOf}
 use Rattle.alu.specs.Flag.{byteOf, flagsOf}
 use Rattle.memory.specs.Access.{loadOf}
-use Rattle.state.specs.State.{withCounter, withFlags}
-use Rattle.state.specs.Register.{getRegister, setRegister}
-use Rattle.state.specs.declared.State.{State}
-use Rattle.operand.specs.Try.{Try, did, andThen, withLoaded}
-use Rattle.operand.specs.Operand.{displaced, pointerOf, storing}
-use Rattle.operand.specs.Flag.{flagsIn}
-use Rattle.operand.specs.Round.{less, plus}
-use Rattle.answer.specs.declared.Answer.{Answer}
-use Rattle.answer.specs.declared.Answer.the-variants.{Done, Refused}
-use Rattle.code.specs.declared.Operand.{Operand}
-use Rattle.code.specs.Written.{constantIn, registerIn}
-use Rattle.code.specs.declared.Stack.{Stack}
+use Rattle.state.specs.{declared.State.State, State.withCounter, State.withFlags, Register.getRegister, Register.setRegister}
+use Rattle.operand.specs.{Try.Try, Try.did, Try.andThen, Try.withLoaded, Operand.displaced, Operand.pointerOf, Operand.storing, Flag.flagsIn}
+use Rattle.operand.specs.{Round.less, Round.plus}
+use Rattle.answer.specs.declared.{Answer.Answer, Answer.the-variants.Done, Answer.the-variants.Refused}
+use Rattle.code.specs.{declared.Operand.Operand, declared.Stack.Stack, Written.constantIn, Written.registerIn}
 use Rattle.code.specs.declared.Stack.the-variants.{PushF, PopF, Push, Pop, Call16, Call24, Calr, Ret}
 
 -- XSP, the long register of code 7
@@ -40,29 +30,18 @@ popOf s ram rom z rest =
 abbrev pub callOf : State → List ℕ → List ℕ → ℕ → Try
 callOf s ram rom to = andThen (pushOf s ram rom Long (s .counter)) (λ t. withCounter t to)
 
--- RET keeps the low 24 bits
-abbrev pub retOf : State → List ℕ → List ℕ → Try
-retOf s ram rom = popOf s ram rom Long withCounter
-
--- PUSH F, and POP F with bits 5 and 3 written 0
-abbrev pub pushFOf : State → List ℕ → List ℕ → Try
-pushFOf s ram rom = pushOf s ram rom Byte (byteOf (flagsIn s))
-
-abbrev pub popFOf : State → List ℕ → List ℕ → Try
-popFOf s ram rom = popOf s ram rom Byte (λ t v. withFlags t (byteOf (flagsOf v)))
-
 -- the end of the stack after a store: moved where it is done
 abbrev pub endAfter : Answer → State → ℕ → State
 endAfter Done s x = withStack s x
 endAfter (Refused w) s x = s
 
--- what each does, of a size and with its operand; the state is past the instruction
+-- what each does, of a size and with its operand; the state is past the instruction. POP F writes bits 5 and 3 as 0, RET keeps 24 bits
 unfoldable pub stackOf : Stack → Size → Operand → State → List ℕ → List ℕ → Try
-stackOf PushF z o s ram rom = pushFOf s ram rom
-stackOf PopF z o s ram rom = popFOf s ram rom
+stackOf PushF z o s ram rom = pushOf s ram rom Byte (byteOf (flagsIn s))
+stackOf PopF z o s ram rom = popOf s ram rom Byte (λ t v. withFlags t (byteOf (flagsOf v)))
 stackOf Push z o s ram rom = pushOf s ram rom z (getRegister s z (registerIn o))
 stackOf Pop z o s ram rom = popOf s ram rom z (λ t v. setRegister t z (registerIn o) v)
 stackOf Call16 z o s ram rom = callOf s ram rom (constantIn o)
 stackOf Call24 z o s ram rom = callOf s ram rom (constantIn o)
 stackOf Calr z o s ram rom = callOf s ram rom (displaced 16 (s .counter) (constantIn o))
-stackOf Ret z o s ram rom = retOf s ram rom
+stackOf Ret z o s ram rom = popOf s ram rom Long withCounter

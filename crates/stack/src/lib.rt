@@ -1,17 +1,19 @@
 // Pushes, pops, calls and returns.
 ghost use mathlib.Core.Path.{_≡_};
 ghost use Rattle.little.specs.Width.{bytesOf};
-ghost use Rattle.little.specs.declared.Size.the-variants.{Long};
+ghost use Rattle.little.specs.declared.Size.the-variants.{Byte, Long};
+ghost use Rattle.alu.specs.Flag.{byteOf, flagsOf};
 ghost use Rattle.state.specs.declared.State.{State};
-ghost use Rattle.state.specs.State.{banked, bankedWith, bankedAt, bankedAtWith};
+ghost use Rattle.state.specs.State.{banked, withCounter, withFlags};
+ghost use Rattle.state.specs.inner.Lent.{bankedWith, bankedAt, bankedAtWith};
 ghost use Rattle.state.specs.Register.{registerAt, setRegister};
-ghost use Rattle.operand.specs.Try.{Does};
+ghost use Rattle.operand.specs.inner.Does.{Does};
 ghost use Rattle.operand.specs.Round.{plus};
-ghost use Rattle.stack.specs.Stack.{withStack, pushOf, popOf, callOf, retOf, popFOf};
-ghost use Rattle.stack.specs.Stack.{endAfter, stackOf};
+ghost use Rattle.stack.specs.Stack.{withStack, pushOf, popOf, callOf, endAfter, stackOf};
 use answer::Answer;
 use code::Operand;
 use code::Stack;
+use little::ADDRESSES;
 use little::Size;
 use memory::Loaded;
 use operand::displace;
@@ -40,7 +42,7 @@ fn push(bank: Bank, regs: &mut [u32; 20], ram: &mut [u8], rom: &[u8], size: Size
 {
     let n = little::bytes(size) as u32;
     let end = std::num::wrapping_sub_u32(state::read(&*regs, bank, Size::Long, 7), n);
-    let a = memory::store(ram, rom, end % 16777216, size, v);
+    let a = memory::store(ram, rom, end % ADDRESSES, size, v);
     move_end(a, bank, regs, end);
     a
 }
@@ -85,7 +87,7 @@ fn call(
 {
     match push(bank, regs, ram, rom, Size::Long, *counter) {
         Answer::Done => {
-            *counter = to % 16777216;
+            *counter = to % ADDRESSES;
             Answer::Done
         }
         Answer::Refused(w) => Answer::Refused(w),
@@ -93,14 +95,14 @@ fn call(
 }
 
 fn ret(bank: Bank, regs: &mut [u32; 20], counter: &mut u32, ram: &[u8], rom: &[u8]) -> Answer
-    ensures { λ a. ⌜ ((s : State) → Does (λ t m. retOf t m (now (rom .entry)))
+    ensures { λ a. ⌜ ((s : State) → Does (λ t m. popOf t m (now (rom .entry)) Long withCounter)
         (bankedAt s (now (regs .entry)) bank (now (counter .entry))) (now (ram .entry))
         a (bankedAt s (now (regs .exit)) bank (now (counter .exit))) (now (ram .entry))) ⌝ }
 {
     match memory::load(ram, rom, pointer(bank, &*regs, 7), Size::Long) {
         Loaded::Value(v) => {
             popped(bank, regs, Size::Long);
-            *counter = v % 16777216;
+            *counter = v % ADDRESSES;
             Answer::Done
         }
         Loaded::Refused(w) => Answer::Refused(w),
@@ -108,7 +110,7 @@ fn ret(bank: Bank, regs: &mut [u32; 20], counter: &mut u32, ram: &[u8], rom: &[u
 }
 
 fn pop_f(bank: Bank, regs: &mut [u32; 20], flags: &mut u8, ram: &[u8], rom: &[u8]) -> Answer
-    ensures { λ a. ⌜ ((s : State) → Does (λ t m. popFOf t m (now (rom .entry)))
+    ensures { λ a. ⌜ ((s : State) → Does (λ t m. popOf t m (now (rom .entry)) Byte (λ u v. withFlags u (byteOf (flagsOf v))))
         (bankedWith s (now (regs .entry)) bank (now (flags .entry))) (now (ram .entry))
         a (bankedWith s (now (regs .exit)) bank (now (flags .exit))) (now (ram .entry))) ⌝ }
 {

@@ -5,20 +5,21 @@ use mathlib.Core.Logic.{_⊎_, inl, inr}
 use mathlib.Core.Bool.{Bool, true, false, cond}
 use mathlib.Core.List.{List, [], _∷_}
 use native.Mathlib.Omega.{arith}
-use lib.ListN.{length, getD, set, length-set}
+use lib.ListN.{getD, set, length-set}
 use lib.Seq.{set-out, getD-set-same, getD-set-other}
 use lib.Dec.{ltb, eqb}
 use borrow.Author.Tests.{ltb-true, ltb-false, eqb-true, eqb-false}
 use Rattle.little.specs.declared.Size.{Size}
 use Rattle.little.specs.declared.Size.the-variants.{Byte, Word, Long}
 use Rattle.little.specs.Width.{bitsOf}
-use Rattle.state.specs.State.{lent, banked, longOf, withLong}
+use Rattle.state.specs.State.{banked, longOf, withLong}
 use Rattle.state.specs.Register.{getBits, setBits, startOf, widthOf, slotIn, getSlot, setSlot, indexOf, slotOf, namedIn, registerAt, getRegister, setRegister}
 use Rattle.state.specs.declared.Slot.{Slot}
 use Rattle.state.specs.declared.State.{State}
 use Rattle.state.specs.declared.Part.{Part}
 use Rattle.state.specs.declared.Part.the-variants.{Byte0, Byte1, Byte2, Byte3, Half0, Half1, Whole}
 use Rattle.state.specs.Sound.{Sound}
+use Rattle.state.proofs.Sound.{sound-lent}
 use Rattle.state.proofs.Bits.{get-lt, get-set, get-below, get-above, set-part-lt}
 
 -- ---- one long of the twenty
@@ -36,13 +37,6 @@ unfolding withLong
 long-none s i v ok h =
     ap (λ (l : List ℕ). banked s l (s .bank))
     (set-out (s .registers) i v (omega (arith, ok .twenty)))
-
--- a sound state with parts laid over it that fit
-pub sound-lent :
-    (s : State) (registers : List ℕ) (counter bank flags spare : ℕ) → Sound s → length registers ≡ 20 → ((i : ℕ) → getD registers i 0 < 2 ^ 32)
-    → counter < 2 ^ 32 → bank < 2 ^ 8 → flags < 2 ^ 8 → spare < 2 ^ 8 → Sound (lent s registers counter bank flags spare)
-sound-lent s registers counter bank flags spare ok t r c b f g =
-    record { twenty = t; fit = r; counter-fit = c; bank-fit = b; level-fit = ok .level-fit; flags-fit = f; spare-fit = g }
 
 pub sound-with : (s : State) (i v : ℕ) → Sound s → v < 2 ^ 32 → Sound (withLong s i v)
 unfolding withLong

@@ -1,11 +1,12 @@
 -- What validity says, and what keeps it.
 use Prim.Native.Nat.{ℕ, _%_, _^_, _<_}
 use mathlib.Core.Path.{_≡_, refl, ap, sym, _∙_}
+use mathlib.Core.List.{List}
 use mathlib.Core.Bool.{Bool, true, false, _&&_}
 use native.Mathlib.Omega.{arith}
 use lib.Dec.{ltb}
 use borrow.Author.Tests.{lt-ltb, ltb-true}
-use Rattle.state.specs.State.{flagsValid, validOf, resetState, withCounter, withBank, withFlags, withBothFlags, withLong}
+use Rattle.state.specs.State.{flagsValid, validOf, zeroState, resetState, lent, withCounter, withBank, withFlags, withBothFlags, withLong}
 use Rattle.state.specs.Register.{setSlot, setRegister}
 use Rattle.little.specs.declared.Size.{Size}
 use Rattle.state.specs.declared.Slot.{Slot}
@@ -50,26 +51,33 @@ pub valid-register : (s : State) (z : Size) (c v : ℕ) → validOf (setRegister
 unfolding setRegister
 valid-register s z c v = valid-set s _ v
 
+-- a valid state with parts laid over it that are within their bounds
+valid-lent :
+    (s : State) (registers : List ℕ) (counter bank flags spare : ℕ) → Valid s → counter < 2 ^ 24 → bank < 4 → flagsValid flags ≡ true
+    → flagsValid spare ≡ true → Valid (lent s registers counter bank flags spare)
+valid-lent s registers counter bank flags spare v c b f g = record { counter = c; bank = b; level = v .level; flags = f; spare = g }
+
 pub valid-counter : (s : State) (c : ℕ) → Valid s → Valid (withCounter s c)
 unfolding withCounter
-valid-counter s c v =
-    record { counter = omega arith; bank = v .bank; level = v .level; flags = v .flags; spare = v .spare }
+valid-counter s c v = valid-lent s _ _ _ _ _ v (omega arith) (v .bank) (v .flags) (v .spare)
 
 pub valid-bank : (s : State) (b : ℕ) → Valid s → Valid (withBank s b)
 unfolding withBank
-valid-bank s b v =
-    record { counter = v .counter; bank = omega arith; level = v .level; flags = v .flags; spare = v .spare }
+valid-bank s b v = valid-lent s _ _ _ _ _ v (v .counter) (omega arith) (v .flags) (v .spare)
 
 pub valid-both : (s : State) (f g : ℕ) → flagsValid f ≡ true → flagsValid g ≡ true → Valid s → Valid (withBothFlags s f g)
 unfolding withBothFlags
-valid-both s f g e h v =
-    record { counter = v .counter; bank = v .bank; level = v .level; flags = e; spare = h }
+valid-both s f g e h v = valid-lent s _ _ _ _ _ v (v .counter) (v .bank) e h
 
 pub valid-flags : (s : State) (f : ℕ) → flagsValid f ≡ true → Valid s → Valid (withFlags s f)
 unfolding withFlags
 valid-flags s f e v = valid-both s f (s .spare) e (v .spare) v
 
--- the state after reset is valid
+-- the all-zero state and the state after reset are valid
+pub valid-zero : Valid zeroState
+unfolding zeroState
+valid-zero = record { counter = omega arith; bank = omega arith; level = omega arith; flags = refl; spare = refl }
+
 pub valid-reset : (vector : ℕ) → Valid (resetState vector)
 unfolding resetState
 valid-reset vector =

@@ -3,3 +3,4 @@ pub mod Register
 pub mod Names
 pub mod Sound
 pub mod Sr
+pub mod inner

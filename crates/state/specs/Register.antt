@@ -1,14 +1,8 @@
 -- Registers by size and code, through one naming of the parts of the twenty longs.
-use Prim.Native.Nat.{ℕ, _+_, _*_, _/_, _%_, _^_}
-use mathlib.Core.Bool.{cond}
-use mathlib.Core.List.{List}
-use lib.ListN.{getD}
-use lib.Dec.{ltb, eqb}
+use Rattle.little.specs.Words.{ℕ, _+_, _*_, _/_, _%_, _^_, cond, List, getD, ltb, eqb}
 use Rattle.little.specs.declared.Size.{Size}
 use Rattle.little.specs.declared.Size.the-variants.{Byte, Word, Long}
-use Rattle.state.specs.State.{longOf, withLong}
-use Rattle.state.specs.declared.Bank.{Bank}
-use Rattle.state.specs.declared.State.{State}
+use Rattle.state.specs.{declared.Bank.Bank, declared.State.State, State.longOf, State.withLong}
 use Rattle.state.specs.declared.Slot.{Slot}
 use Rattle.state.specs.declared.Part.{Part}
 use Rattle.state.specs.declared.Part.the-variants.{Byte0, Byte1, Byte2, Byte3, Half0, Half1, Whole}
@@ -21,25 +15,21 @@ getBits o k x = x / 2 ^ o % 2 ^ k
 unfoldable pub setBits : ℕ → ℕ → ℕ → ℕ → ℕ
 setBits o k x v = (x / 2 ^ o / 2 ^ k * 2 ^ k + v % 2 ^ k) * 2 ^ o + x % 2 ^ o
 
--- where a part starts
-abbrev pub startOf : Part → ℕ
-startOf Byte0 = 0
-startOf Byte1 = 8
-startOf Byte2 = 16
-startOf Byte3 = 24
-startOf Half0 = 0
-startOf Half1 = 16
-startOf Whole = 0
+-- where a part starts, and how many bits it has
+abbrev pub spanOf : Part → ℕ × ℕ
+spanOf Byte0 = (0, 8)
+spanOf Byte1 = (8, 8)
+spanOf Byte2 = (16, 8)
+spanOf Byte3 = (24, 8)
+spanOf Half0 = (0, 16)
+spanOf Half1 = (16, 16)
+spanOf Whole = (0, 32)
 
--- how many bits it has
+abbrev pub startOf : Part → ℕ
+startOf p = spanOf p .0
+
 abbrev pub widthOf : Part → ℕ
-widthOf Byte0 = 8
-widthOf Byte1 = 8
-widthOf Byte2 = 8
-widthOf Byte3 = 8
-widthOf Half0 = 16
-widthOf Half1 = 16
-widthOf Whole = 32
+widthOf p = spanOf p .1
 
 -- what a slot of twenty longs holds
 unfoldable pub slotIn : List ℕ → Slot → ℕ

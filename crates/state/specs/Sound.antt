@@ -1,8 +1,6 @@
 -- What the type of a state says of its value: twenty registers, and each number fits where it is held.
 -- Every state that the code handles is so; a statement about every State of the specifications has to ask for it.
-use Prim.Native.Nat.{ℕ, _<_, _^_}
-use mathlib.Core.Path.{_≡_}
-use lib.ListN.{length, getD}
+use Rattle.little.specs.Words.{ℕ, _<_, _^_, _≡_, length, getD}
 use Rattle.state.specs.declared.State.{State}
 
 pub record Sound (s : State) : Type 0 where

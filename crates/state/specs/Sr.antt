@@ -1,10 +1,6 @@
 -- The status register SR.
-use Prim.Native.Nat.{ℕ, _+_, _*_, _/_, _%_, _^_}
-use mathlib.Core.Bool.{Bool, _&&_}
-use lib.Dec.{eqb}
-use Rattle.state.specs.declared.Bank.{Bank}
-use Rattle.state.specs.declared.Level.{Level}
-use Rattle.state.specs.declared.State.{State}
+use Rattle.little.specs.Words.{ℕ, _+_, _*_, _/_, _%_, _^_, Bool, _&&_, eqb}
+use Rattle.state.specs.declared.{Bank.Bank, Level.Level, State.State}
 
 -- F below, the bank in bits 8 to 10, bit 11 one, the level in bits 12 to 14, bit 15 one
 abbrev pub srOf : State → ℕ

@@ -1,34 +1,17 @@
 -- The machine's state.
-use Prim.Native.Nat.{ℕ, _/_, _%_, _^_}
-use mathlib.Core.List.{List}
-use mathlib.Core.Bool.{Bool, _&&_}
-use lib.ListN.{getD, set, replicate}
-use lib.Dec.{ltb, eqb}
-use Rattle.state.specs.declared.Bank.{Bank}
-use Rattle.state.specs.declared.State.{State}
+use Rattle.little.specs.Words.{ℕ, _/_, _%_, _^_, List, Bool, _&&_, getD, set, replicate, ltb, eqb}
+use Rattle.state.specs.declared.{Bank.Bank, State.State}
 
 -- all zero
 unfoldable pub zeroState : State
-zeroState = record {
-  registers = replicate 20 0;
-  counter = 0;
-  bank = record { 0 = 0 };
-  level = record { 0 = 0 };
-  flags = 0;
-  spare = 0;
-}
+zeroState = record { registers = replicate 20 0; counter = 0; bank = record { 0 = 0 }; level = record { 0 = 0 }; flags = 0; spare = 0 }
 
 -- after reset: XSP, the last of the twenty, 100H; bank 0; level 7; other registers and both F zero;
 -- the counter from the low 24 bits of the vector
 unfoldable pub resetState : ℕ → State
-resetState vector = record {
-  registers = set (replicate 20 0) 19 0x100;
-  counter = vector % 2 ^ 24;
-  bank = record { 0 = 0 };
-  level = record { 0 = 7 };
-  flags = 0;
-  spare = 0;
-}
+resetState vector =
+    let registers : List ℕ = set (replicate 20 0) 19 0x100 in
+    record { registers = registers; counter = vector % 2 ^ 24; bank = record { 0 = 0 }; level = record { 0 = 7 }; flags = 0; spare = 0 }
 
 -- bits 5 and 3 zero
 abbrev pub flagsValid : ℕ → Bool
@@ -36,55 +19,21 @@ flagsValid f = eqb (f / 2 ^ 5 % 2) 0 && eqb (f / 2 ^ 3 % 2) 0
 
 -- counter below 2^24, bank 0 to 3, level 0 to 7, bits 5 and 3 of F and F' zero
 unfoldable pub validOf : State → Bool
-validOf s =
-    ltb (s .counter) (2 ^ 24)
-    && (ltb (s .bank .0) 4
-    && (ltb (s .level .0) 8
-    && (flagsValid (s .flags) && flagsValid (s .spare))))
+validOf s = ltb (s .counter) (2 ^ 24) && (ltb (s .bank .0) 4 && (ltb (s .level .0) 8 && (flagsValid (s .flags) && flagsValid (s .spare))))
 
 -- the long register at place i of the twenty
 unfoldable pub longOf : State → ℕ → ℕ
 longOf s i = getD (s .registers) i 0
 
 -- ---- a state whose parts lie apart: s with what a function is lent in the place of its own; the rest is as it is in s
--- all that a turn is lent: the registers, the counter, the number of the bank, F and F'
+-- all that a turn is lent
 abbrev pub lent : State → List ℕ → ℕ → ℕ → ℕ → ℕ → State
-lent s registers counter bank flags spare = record {
-  registers = registers;
-  counter = counter;
-  bank = record { 0 = bank };
-  flags = flags;
-  spare = spare;
-  level = s .level;
-}
+lent s registers counter bank flags spare =
+    record { registers = registers; counter = counter; bank = record { 0 = bank }; flags = flags; spare = spare; level = s .level }
 
 -- the registers and the bank
 abbrev pub banked : State → List ℕ → Bank → State
 banked s registers bank = lent s registers (s .counter) (bank .0) (s .flags) (s .spare)
-
--- the registers, the bank and F
-abbrev pub bankedWith : State → List ℕ → Bank → ℕ → State
-bankedWith s registers bank flags = lent s registers (s .counter) (bank .0) flags (s .spare)
-
--- the registers, the bank and the counter
-abbrev pub bankedAt : State → List ℕ → Bank → ℕ → State
-bankedAt s registers bank counter = lent s registers counter (bank .0) (s .flags) (s .spare)
-
--- the registers, the bank, the counter and F
-abbrev pub bankedAtWith : State → List ℕ → Bank → ℕ → ℕ → State
-bankedAtWith s registers bank counter flags = lent s registers counter (bank .0) flags (s .spare)
-
--- all but the registers
-abbrev pub controlled : State → ℕ → ℕ → ℕ → ℕ → State
-controlled s counter bank flags spare = lent s (s .registers) counter bank flags spare
-
--- the counter and F
-abbrev pub flaggedAt : State → ℕ → ℕ → State
-flaggedAt s counter flags = lent s (s .registers) counter (s .bank .0) flags (s .spare)
-
--- the counter alone, not taken modulo 2^24
-abbrev pub standingAt : State → ℕ → State
-standingAt s counter = lent s (s .registers) counter (s .bank .0) (s .flags) (s .spare)
 
 -- ---- a state with one thing changed
 unfoldable pub withLong : State → ℕ → ℕ → State
@@ -92,7 +41,7 @@ withLong s i v = banked s (set (s .registers) i v) (s .bank)
 
 -- the counter is taken modulo 2^24
 unfoldable pub withCounter : State → ℕ → State
-withCounter s c = standingAt s (c % 2 ^ 24)
+withCounter s c = lent s (s .registers) (c % 2 ^ 24) (s .bank .0) (s .flags) (s .spare)
 
 -- the bank number is taken modulo 4
 unfoldable pub withBank : State → ℕ → State
@@ -100,7 +49,7 @@ withBank s b = banked s (s .registers) (record { 0 = b % 4 })
 
 -- F and F'
 unfoldable pub withBothFlags : State → ℕ → ℕ → State
-withBothFlags s f f' = controlled s (s .counter) (s .bank .0) f f'
+withBothFlags s f f' = lent s (s .registers) (s .counter) (s .bank .0) f f'
 
 -- F alone
 unfoldable pub withFlags : State → ℕ → State

@@ -3,7 +3,9 @@ ghost use mathlib.Core.Path.{_≡_};
 ghost use Prim.Native.Nat.{_%_, _<_};
 ghost use Rattle.state.specs.State.{lent, banked, zeroState, resetState, flagsValid, validOf, longOf};
 ghost use Rattle.state.specs.Register.{getBits, setBits, startOf, widthOf, getSlot, indexOf, bytePart, slotOf, registerAt, getRegister, setRegister};
+use little::ADDRESSES;
 use little::Size;
+use little::TOP_BYTE;
 
 pub mod status;
 
@@ -68,7 +70,7 @@ impl State {
         registers[19] = State::STACK_AT_RESET;
         State {
             registers: registers,
-            counter: vector % 16777216,
+            counter: vector % ADDRESSES,
             bank: Bank(0),
             level: Level(7),
             flags: 0,
@@ -79,19 +81,9 @@ impl State {
     pub fn valid(self) -> bool
         ensures { λ r. ⌜ r ≡ validOf self ⌝ }
     {
-        if 16777216 <= self.counter {
-            return false;
-        }
-        if 4 <= self.bank.0 {
-            return false;
-        }
-        if 8 <= self.level.0 {
-            return false;
-        }
-        if flags_valid(self.flags) {
-            return flags_valid(self.spare);
-        }
-        false
+        (self.counter < ADDRESSES)
+            & ((self.bank.0 < 4)
+                & ((self.level.0 < 8) & (flags_valid(self.flags) & flags_valid(self.spare))))
     }
 
     // The long register at a place of the twenty; 0 past them.
@@ -132,7 +124,7 @@ fn bits_of(p: Part, x: u32) -> u32
         Part::Byte0 => x % 256,
         Part::Byte1 => x / 256 % 256,
         Part::Byte2 => x / 65536 % 256,
-        Part::Byte3 => x / 16777216 % 256,
+        Part::Byte3 => x / TOP_BYTE % 256,
         Part::Half0 => x % 65536,
         Part::Half1 => x / 65536 % 65536,
         Part::Whole => x,
@@ -147,7 +139,7 @@ fn with_bits(p: Part, x: u32, v: u32) -> u32
         Part::Byte0 => x / 256 * 256 + v % 256,
         Part::Byte1 => (x / 256 / 256 * 256 + v % 256) * 256 + x % 256,
         Part::Byte2 => (x / 65536 / 256 * 256 + v % 256) * 65536 + x % 65536,
-        Part::Byte3 => v % 256 * 16777216 + x % 16777216,
+        Part::Byte3 => v % 256 * TOP_BYTE + x % TOP_BYTE,
         Part::Half0 => x / 65536 * 65536 + v % 65536,
         Part::Half1 => v % 65536 * 65536 + x % 65536,
         Part::Whole => v,

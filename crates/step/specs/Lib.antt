@@ -1,9 +1,4 @@
 pub mod Result
-pub mod Exec
 pub mod Step
-pub mod Many
-pub mod Times
 pub mod Show
 pub mod Reset
-pub mod Touched
-pub mod Statements

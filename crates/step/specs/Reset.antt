@@ -1,19 +1,11 @@
 -- Reset.
-use Prim.Native.Nat.{ℕ}
-use mathlib.Core.Path.{_≡_}
-use mathlib.Core.List.{List}
-use mathlib.Core.Bool.{cond}
-use lib.ListN.{length}
-use Rattle.answer.specs.declared.Why.the-variants.{TooLong}
-use Rattle.answer.specs.declared.Answer.the-variants.{Done}
+use Rattle.little.specs.Words.{ℕ, _≡_, List, cond, length}
+use Rattle.answer.specs.declared.{Why.the-variants.TooLong, Answer.the-variants.Done}
 use Rattle.little.specs.declared.Size.the-variants.{Long}
-use Rattle.memory.specs.Access.{loadOf}
-use Rattle.memory.specs.declared.Loaded.{Loaded}
-use Rattle.memory.specs.declared.Loaded.the-variants as loaded
+use Rattle.memory.specs.{declared.Loaded.Loaded, Access.loadOf}
 use Rattle.state.specs.State.{zeroState, resetState}
-use Rattle.step.specs.declared.Stepped.{Stepped}
-use Rattle.step.specs.Result.{refusedWith}
-use Rattle.step.specs.Step.{tooLong}
+use Rattle.step.specs.{declared.Stepped.Stepped, Result.refusedWith, Step.tooLong}
+use Rattle.memory.specs.declared.Loaded.the-variants as loaded
 
 -- from the vector that was loaded, or not: a refusal returns the all-zero state
 abbrev pub resetFrom : Loaded → Stepped

@@ -1,8 +1,6 @@
 -- What a function answers of a step, and what a call leaves with it.
-use Prim.Native.Nat.{ℕ}
-use mathlib.Core.List.{List}
-use Rattle.answer.specs.declared.Why.{Why}
-use Rattle.answer.specs.declared.Answer.the-variants.{Done, Refused}
+use Rattle.little.specs.Words.{ℕ, List}
+use Rattle.answer.specs.declared.{Why.Why, Answer.the-variants.Done, Answer.the-variants.Refused}
 use Rattle.state.specs.declared.State.{State}
 use Rattle.operand.specs.Try.{Outcome}
 use Rattle.step.specs.declared.Stepped.{Stepped}

@@ -1,19 +1,11 @@
 -- An instruction's bytes, shown where they stand.
-use Prim.Native.Nat.{ℕ, _^_}
-use mathlib.Core.Path.{_≡_}
-use mathlib.Core.List.{List, []}
-use mathlib.Core.Bool.{cond}
-use lib.ListN.{length, take}
-use lib.Dec.{ltb, eqb}
-use Rattle.answer.specs.declared.Answer.{Answer}
-use Rattle.answer.specs.declared.Answer.the-variants.{Done, Refused}
+use Rattle.little.specs.Words.{ℕ, _^_, _≡_, List, [], cond, length, take, ltb, eqb}
+use Rattle.answer.specs.declared.{Answer.Answer, Answer.the-variants.Done, Answer.the-variants.Refused}
 use Rattle.answer.specs.declared.Why.the-variants.{TooLong, Invalid, NoCode, Unlisted}
-use Rattle.memory.specs.Access.{codeAt, standsAt}
-use Rattle.memory.specs.Place.{placeOf}
-use Rattle.code.specs.Listed.{decodeOf}
-use Rattle.code.specs.declared.Decoded.{Decoded}
-use Rattle.code.specs.declared.Decoded.the-variants as decoded
+use Rattle.memory.specs.{Access.codeAt, Access.standsAt, Place.placeOf}
+use Rattle.code.specs.{declared.Decoded.Decoded, Listed.decodeOf}
 use Rattle.step.specs.Step.{tooLong}
+use Rattle.code.specs.declared.Decoded.the-variants as decoded
 
 -- 3 where the bytes are short, 4 where they are not listed
 abbrev pub judgedOf : Decoded → Answer

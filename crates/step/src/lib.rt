@@ -5,17 +5,17 @@ ghost use Rattle.memory.specs.Access.{codeAt};
 ghost use Rattle.code.specs.Listed.{decodeOf};
 ghost use Rattle.step.specs.Result.{doneWith, refusedWith, outcome};
 ghost use Rattle.operand.specs.Try.{leaves};
-ghost use Rattle.step.specs.Step.{tooLong, onceOf, StepMeets};
+ghost use Rattle.turn.specs.Once.{onceOf};
+ghost use Rattle.step.specs.Step.{tooLong, StepMeets};
 ghost use Rattle.step.specs.Show.{judgedOf, lengthIn, ShowAnswerMeets, ShowMeets};
 ghost use Rattle.step.specs.Reset.{ResetMeets};
 use answer::Answer;
 use answer::Why;
 use code::Decoded;
+use little::ADDRESSES;
 use little::Size;
 use memory::Loaded;
 use state::State;
-
-pub mod turn;
 
 pub struct Stepped {
     pub state: State,
@@ -96,7 +96,7 @@ pub fn show_answer<'a>(ram: &'a [u8], rom: &'a [u8], at: u32) -> Answer
     if too_long(ram.len(), rom.len()) {
         return Answer::Refused(Why::TooLong);
     }
-    if at < 16777216 {
+    if at < ADDRESSES {
         return judged(decode_at(ram, rom, at));
     }
     Answer::Refused(Why::Invalid)
@@ -119,7 +119,7 @@ pub fn show<'a>(ram: &'a [u8], rom: &'a [u8], at: u32) -> &'a [u8]
     if too_long(ram.len(), rom.len()) {
         return &rom[..0];
     }
-    if at < 16777216 {
+    if at < ADDRESSES {
         let code = memory::fetch(ram, rom, at);
         let n = length_in(code);
         if n == 0 {

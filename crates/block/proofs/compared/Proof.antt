@@ -3,7 +3,8 @@ use mathlib.Core.Bool.{false}
 use Rattle.little.specs.Width.{bitsOf}
 use Rattle.alu.specs.Sums.{differenceOf}
 use Rattle.alu.specs.Flag.{byteOf, flagsOf, comparedOf}
-use Rattle.state.specs.State.{bankedWith, withFlags, withBothFlags}
+use Rattle.state.specs.State.{withFlags, withBothFlags}
+use Rattle.state.specs.inner.Lent.{bankedWith}
 use Rattle.state.specs.declared.State.{State}
 use Rattle.operand.specs.Flag.{flagged}
 use Rattle.block.specs.Block.{moreIn, counted, accumulator, compared}

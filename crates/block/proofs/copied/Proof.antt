@@ -1,6 +1,7 @@
 use mathlib.Core.Path.{ap, _∙_}
 use Rattle.alu.specs.Flag.{byteOf, flagsOf, copiedOf}
-use Rattle.state.specs.State.{bankedWith, withFlags, withBothFlags}
+use Rattle.state.specs.State.{withFlags, withBothFlags}
+use Rattle.state.specs.inner.Lent.{bankedWith}
 use Rattle.state.specs.declared.State.{State}
 use Rattle.operand.specs.Flag.{flagged}
 use Rattle.block.specs.Block.{moreIn, counted, moved, copied}

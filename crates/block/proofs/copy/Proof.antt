@@ -1,5 +1,5 @@
 use mathlib.Core.Path.{sym, _∙_}
-use Rattle.state.specs.State.{bankedWith}
+use Rattle.state.specs.inner.Lent.{bankedWith}
 use Rattle.operand.specs.Operand.{pointerOf}
 use Rattle.block.specs.Block.{copied}
 use Rattle.operand.proofs.Laws.{stored, not-stored}

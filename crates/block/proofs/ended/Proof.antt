@@ -1,5 +1,6 @@
 use mathlib.Core.Path.{refl, sym, _∙_}
-use Rattle.state.specs.State.{standingAt, withCounter}
+use Rattle.state.specs.State.{withCounter}
+use Rattle.state.specs.inner.Lent.{standingAt}
 use Rattle.block.specs.Block.{endsAt}
 use borrow.Author.Needs.{needs}
 use Rattle.block.proofs.ended.Statement.{statement}

@@ -1,5 +1,5 @@
 use mathlib.Core.Path.{ap, sym, _∙_}
-use Rattle.state.specs.State.{bankedWith}
+use Rattle.state.specs.inner.Lent.{bankedWith}
 use Rattle.operand.specs.Try.{leaves}
 use Rattle.block.proofs.Rounds.{round-copies, round-compares, round-refused}
 use borrow.Author.Needs.{needs}

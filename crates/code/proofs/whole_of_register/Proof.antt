@@ -1,6 +1,9 @@
 use borrow.Author.Needs.{needs}
 use Rattle.code.proofs.whole_of_register.Statement.{statement}
 use Rattle.code.proofs.whole_of_register.Tie as tie
+use Rattle.code.proofs.whole_of_register.Reads as reads
+use Rattle.code.proofs.whole_of_register.Lts as lts
+use Rattle.code.proofs.puts.Reads as puts-reads
 
 enum-known-read : tie.Need-enum-known-read
 enum-known-read c = search needs
@@ -35,26 +38,8 @@ puts-requires-5 c κs = search needs
 enum-known-read-6 : tie.Need-enum-known-read-6
 enum-known-read-6 c = search needs
 
-count-requires : tie.Need-count-requires
-count-requires c κs = search needs
-
 puts-requires-6 : tie.Need-puts-requires-6
 puts-requires-6 c κs = search needs
-
-enum-known-read-7 : tie.Need-enum-known-read-7
-enum-known-read-7 c = search needs
-
-puts-requires-7 : tie.Need-puts-requires-7
-puts-requires-7 c κs = search needs
-
-enum-known-read-8 : tie.Need-enum-known-read-8
-enum-known-read-8 c = search needs
-
-extension-requires : tie.Need-extension-requires
-extension-requires c κs = search needs
-
-puts-requires-8 : tie.Need-puts-requires-8
-puts-requires-8 c κs = search needs
 
 enum-told : tie.Need-enum-told
 enum-told c = search needs
@@ -78,19 +63,37 @@ returns-5 : tie.Need-returns-5
 returns-5 c = rw (c .before .before .read5 .given .1) (c .puts5 .ensures)
 
 returns-6 : tie.Need-returns-6
-returns-6 c = rw (c .before .before .before .read6 .given .1, ← c .before .count .ensures) (c .puts6 .ensures)
+returns-6 c = rw (c .before .before .read6 .given .1) (c .puts6 .ensures)
 
 returns-7 : tie.Need-returns-7
-returns-7 c = rw (c .before .before .read7 .given .1) (c .puts7 .ensures)
+returns-7 c = search needs
 
 returns-8 : tie.Need-returns-8
-returns-8 c = rw (c .before .before .before .read8 .given .1, ← c .before .extension .ensures) (c .puts8 .ensures)
-
-returns-9 : tie.Need-returns-9
-returns-9 c = search needs
-
-returns-10 : tie.Need-returns-10
-returns-10 c = search needs
+returns-8 c = search needs
 
 pub whole-of-register-spec : {M : Type 1} → statement M
-whole-of-register-spec = tie.close (tie.spec enum-known-read puts-requires enum-known-read-2 puts-requires-2 enum-known-read-3 puts-requires-3 enum-known-read-4 puts-requires-4 enum-known-read-5 puts-requires-5 enum-known-read-6 count-requires puts-requires-6 enum-known-read-7 puts-requires-7 enum-known-read-8 extension-requires puts-requires-8 enum-told enum-told-2 returns returns-2 returns-3 returns-4 returns-5 returns-6 returns-7 returns-8 returns-9 returns-10)
+whole-of-register-spec =
+    tie.close
+    (tie.spec
+    enum-known-read
+    puts-requires
+    enum-known-read-2
+    puts-requires-2
+    enum-known-read-3
+    puts-requires-3
+    enum-known-read-4
+    puts-requires-4
+    enum-known-read-5
+    puts-requires-5
+    enum-known-read-6
+    puts-requires-6
+    enum-told
+    enum-told-2
+    returns
+    returns-2
+    returns-3
+    returns-4
+    returns-5
+    returns-6
+    returns-7
+    returns-8)

@@ -1,6 +1,7 @@
 use Prim.Native.Nat.{_%_}
 use mathlib.Core.Path.{_≡_, refl, _∙_}
-use Rattle.state.specs.State.{controlled, withBank, withCounter, withFlags, withBothFlags}
+use Rattle.state.specs.State.{withBank, withCounter, withFlags, withBothFlags}
+use Rattle.state.specs.inner.Lent.{controlled}
 use Rattle.operand.specs.Flag.{flagged}
 use Rattle.control.specs.Control.{controlOf}
 use borrow.Author.Needs.{needs}

@@ -1,5 +1,5 @@
 use mathlib.Core.Path.{sym, _∙_}
-use Rattle.run.proofs.Laws.{run-many, run-long, run-invalid, run-goes, many-goes}
+use Rattle.run.proofs.Laws.{run-many, run-long, run-invalid, run-goes}
 use borrow.Author.Needs.{needs}
 use Rattle.run.proofs.run.Statement.{statement}
 use Rattle.run.proofs.run.Tie as tie
@@ -40,7 +40,6 @@ returns-3 c =
     let short = sym (c .before .before .before .before .before .before .before .too-long .ensures) ∙ c .before .before .before .before .before .before .if2 .left in
     let good = sym (c .before .before .before .before .before .valid .ensures) ∙ c .before .before .before .before .if3 .taken in
     c .before .before .many .ensures
-    ∙ many-goes (a .steps) 0 (a .s) (a .ram .now) (a .rom .now) short good
     ∙ sym (run-goes (a .s) (a .ram .now) (a .rom .now) (a .steps) few short good)
 
 refuse-requires-3 : tie.Need-refuse-requires-3

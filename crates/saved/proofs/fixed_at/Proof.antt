@@ -3,8 +3,8 @@ use borrow.Author.Needs.{needs}
 use Rattle.saved.proofs.fixed_at.Statement.{statement}
 use Rattle.saved.proofs.fixed_at.Tie as tie
 
-sr-at-requires : tie.Need-sr-at-requires
-sr-at-requires c κs = search needs
+read-at-requires : tie.Need-read-at-requires
+read-at-requires c κs = search needs
 
 ones-in-requires : tie.Need-ones-in-requires
 ones-in-requires c κs = search needs
@@ -13,11 +13,11 @@ shared-slice-read-result : tie.Need-shared-slice-read-result
 shared-slice-read-result c = search needs
 
 returns : tie.Need-returns
-returns c = simp (← c .before .before .before .sr-at .ensures, sym (c .before .before .ones-in .ensures) ∙ c .before .if1 .taken)
+returns c = simp (← c .before .before .before .read-at .ensures, sym (c .before .before .ones-in .ensures) ∙ c .before .if1 .taken)
 
 returns-2 : tie.Need-returns-2
-returns-2 c = simp (← c .before .before .sr-at .ensures, sym (c .before .ones-in .ensures) ∙ c .if1 .left)
+returns-2 c = simp (← c .before .before .read-at .ensures, sym (c .before .ones-in .ensures) ∙ c .if1 .left)
 
 pub fixed-at-spec : {M : Type 1} → statement M
 fixed-at-spec =
-    tie.close (tie.spec sr-at-requires ones-in-requires shared-slice-read-result returns returns-2)
+    tie.close (tie.spec read-at-requires ones-in-requires shared-slice-read-result returns returns-2)

@@ -1,5 +1,4 @@
 use native.Mathlib.Omega.{arith}
-use borrow.Author.Needs.{needs}
 use Prim.Native.Nat.{_-_, _≤_}
 use mathlib.Core.Path.{_≡_, refl, sym, _∙_}
 use lib.ListN.{length, take, length-set}
@@ -19,23 +18,11 @@ loop-holds : tie.Need-loop-holds Inv-loop μ-loop
 unfolding longsAt
 loop-holds c = (omega arith, (refl, refl))
 
-mul-a : tie.Need-mul-a Inv-loop μ-loop
-mul-a c = omega arith
+mul-read-at : tie.Need-mul-read-at Inv-loop μ-loop
+mul-read-at c = omega arith
 
-add-e : tie.Need-add-e Inv-loop μ-loop
-add-e c = omega arith
-
-sub-read : tie.Need-sub-read Inv-loop μ-loop
-sub-read c = omega arith
-
-part-read-start : tie.Need-part-read-start Inv-loop μ-loop
-part-read-start c = omega arith
-
-part-read-end : tie.Need-part-read-end Inv-loop μ-loop
-part-read-end c = omega arith
-
-read-requires : tie.Need-read-requires Inv-loop μ-loop
-read-requires c κs = search needs
+read-at-requires : tie.Need-read-at-requires Inv-loop μ-loop
+read-at-requires c κs = (omega (arith, c .before .before .before .pre), omega arith)
 
 mul-registers : tie.Need-mul-registers Inv-loop μ-loop
 mul-registers c = omega arith
@@ -51,11 +38,12 @@ loop-less c = omega arith
 
 loop-again : tie.Need-loop-again Inv-loop μ-loop
 loop-again c =
-    let h = c .before .before .before in (
+    let h = c .before .before in
+    let bytes = h .before .before .args .bytes .now in (
       omega arith,
       (
         simp length-set (h .loop .inv .1 .0),
-        longs-more (h .loop .registers) (h .before .before .args .bytes .now) (h .loop .i) (c .read .result) (omega arith) (c .read .ensures) (h .loop .inv .1 .1),
+        longs-more (h .loop .registers) bytes (h .loop .i) (c .read-at .result) (omega arith) (c .read-at .ensures) (h .loop .inv .1 .1),
       ),
     )
 
@@ -72,12 +60,8 @@ longs-spec =
     Inv-loop
     μ-loop
     loop-holds
-    mul-a
-    add-e
-    sub-read
-    part-read-start
-    part-read-end
-    read-requires
+    mul-read-at
+    read-at-requires
     mul-registers
     array-write-registers
     add-i

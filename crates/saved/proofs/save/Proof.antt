@@ -1,7 +1,6 @@
-use native.Mathlib.Omega.{arith}
-use mathlib.Core.Path.{_≡_, sym, _∙_}
-use lib.ListN.{length, length-set}
-use Rattle.saved.proofs.Laws.{save-done, save-short, save-invalid, record-filled, l2-length}
+use mathlib.Core.Path.{sym, _∙_}
+use Rattle.state.proofs.Sound.{sound}
+use Rattle.saved.proofs.Laws.{save-done, save-short, save-invalid, record-filled}
 use borrow.Author.Needs.{needs}
 use Rattle.saved.proofs.save.Statement.{statement}
 use Rattle.saved.proofs.save.Tie as tie
@@ -12,72 +11,44 @@ valid-requires c κs = search needs
 save-longs-requires : tie.Need-save-longs-requires
 save-longs-requires c κs = search needs
 
-sub-write : tie.Need-sub-write
-sub-write c = search needs
-
-part-write-start : tie.Need-part-write-start
-part-write-start c = search needs
-
-part-write-end : tie.Need-part-write-end
-part-write-end c = search needs
-
-write-requires : tie.Need-write-requires
-write-requires c κs = search needs
-
-sub-write-2 : tie.Need-sub-write-2
-sub-write-2 c = search needs
-
-part-write-start-2 : tie.Need-part-write-start-2
-part-write-start-2 c = search needs
-
-part-write-end-2 : tie.Need-part-write-end-2
-part-write-end-2 c = search needs
+write-at-requires : tie.Need-write-at-requires
+write-at-requires c κs = search needs
 
 sr-requires : tie.Need-sr-requires
 sr-requires c κs = search needs
 
-write-requires-2 : tie.Need-write-requires-2
-write-requires-2 c κs = search needs
+write-at-requires-2 : tie.Need-write-at-requires-2
+write-at-requires-2 c κs = search needs
 
-slice-write-out : tie.Need-slice-write-out
-slice-write-out c = search needs
+cast-write-at : tie.Need-cast-write-at
+cast-write-at c = search needs
 
-slice-write-out-2 : tie.Need-slice-write-out-2
-slice-write-out-2 c =
-    let st = c .before .before .before .before .before .before .before .before .before .before .before .before .before .before .before .before .before in
-    let a = st .args in
-    let sl = c .before .before .before .before .before .before .before .before .before .before .before in
-    let w1 = c .before .before .before .before .before .before .before in
-    let w2 = c .before .before in
-    let r = c .before .before .before in
-    let size : length (sl .save-longs .last .1 .0) ≡ 88 = sl .save-longs .kept .1 .0 ∙ c .before .before .before .before .before .before .before .before .before .before .before .before .before .if2 .taken in
-    let n = l2-length (a .s) (sl .save-longs .last .1 .0) (w1 .write .last .0) (w2 .write2 .last .0) (r .sr .result) size (sl .save-longs .ensures) (r .sr .ensures) (w1 .write .ensures) (w2 .write2 .ensures) in
-    simp length-set (omega (arith, n))
+write-at-requires-3 : tie.Need-write-at-requires-3
+write-at-requires-3 c κs = search needs
+
+write-at-requires-4 : tie.Need-write-at-requires-4
+write-at-requires-4 c κs = search needs
 
 same-length : tie.Need-same-length
-same-length c =
-    let st = c .before .before .before .before .before .before .before .before .before .before .before .before .before .before .before .before .before in
-    let a = st .args in
-    let sl = c .before .before .before .before .before .before .before .before .before .before .before in
-    let w1 = c .before .before .before .before .before .before .before in
-    let w2 = c .before .before in
-    let r = c .before .before .before in
-    let size : length (sl .save-longs .last .1 .0) ≡ 88 = sl .save-longs .kept .1 .0 ∙ c .before .before .before .before .before .before .before .before .before .before .before .before .before .if2 .taken in
-    let n = l2-length (a .s) (sl .save-longs .last .1 .0) (w1 .write .last .0) (w2 .write2 .last .0) (r .sr .result) size (sl .save-longs .ensures) (r .sr .ensures) (w1 .write .ensures) (w2 .write2 .ensures) in
-    simp length-set (n ∙ sym (c .before .before .before .before .before .before .before .before .before .before .before .before .before .if2 .taken))
+same-length c = search needs
 
+-- each write, from the last back to the registers, and the test before them
 returns : tie.Need-returns
 returns c =
-    let st = c .before .before .before .before .before .before .before .before .before .before .before .before .before .before .before .before .before in
+    let w4 = c .before .before in
+    let w3 = w4 .before .before .before .before in
+    let w2 = w3 .before .before .before .before .before in
+    let w1 = w2 .before .before .before .before .before in
+    let w0 = w1 .before .before .before .before in
+    let t = w0 .before .before in
+    let st = t .before .before .before .before in
     let a = st .args in
-    let sl = c .before .before .before .before .before .before .before .before .before .before .before in
-    let w1 = c .before .before .before .before .before .before .before in
-    let w2 = c .before .before in
-    let r = c .before .before .before in
-    let size : length (sl .save-longs .last .1 .0) ≡ 88 = sl .save-longs .kept .1 .0 ∙ c .before .before .before .before .before .before .before .before .before .before .before .before .before .if2 .taken in
-    let d = save-done (a .s) (a .out .now) (sym (c .before .before .before .before .before .before .before .before .before .before .before .before .before .before .before .valid .ensures) ∙ c .before .before .before .before .before .before .before .before .before .before .before .before .before .before .if1 .taken) (c .before .before .before .before .before .before .before .before .before .before .before .before .before .if2 .taken) in (
+    let d = save-done (a .s) (a .out .now) (sym (t .before .before .valid .ensures) ∙ t .before .if1 .taken) (t .if2 .taken) in (
       sym (d .0),
-      record-filled (a .s) (sl .save-longs .last .1 .0) (w1 .write .last .0) (w2 .write2 .last .0) (r .sr .result) size (sl .save-longs .ensures) (r .sr .ensures) (w1 .write .ensures) (w2 .write2 .ensures)
+      record-filled (a .s)
+          (w0 .save-longs .last .1 .0) (w1 .write-at .last .0) (w2 .write-at2 .last .0) (w3 .write-at3 .last .0) (w4 .write-at4 .last .0)
+          (sound (a .s) (st .good .0) .spare-fit) (w2 .before .sr .ensures) (same-length c ∙ t .if2 .taken)
+          (w0 .save-longs .ensures) (w1 .write-at .ensures) (w2 .write-at2 .ensures) (w3 .write-at3 .ensures) (w4 .write-at4 .ensures)
           ∙ sym (d .1),
     )
 
@@ -99,17 +70,12 @@ save-spec =
     (tie.spec
     valid-requires
     save-longs-requires
-    sub-write
-    part-write-start
-    part-write-end
-    write-requires
-    sub-write-2
-    part-write-start-2
-    part-write-end-2
+    write-at-requires
     sr-requires
-    write-requires-2
-    slice-write-out
-    slice-write-out-2
+    write-at-requires-2
+    cast-write-at
+    write-at-requires-3
+    write-at-requires-4
     same-length
     returns
     returns-2

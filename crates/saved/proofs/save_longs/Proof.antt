@@ -8,13 +8,13 @@ use lib.Seq.{take-all}
 use Rattle.state.proofs.Sound.{sound}
 use Rattle.state.specs.State.{longOf}
 use Rattle.little.specs.Bytes.{bytesFrom}
-use Rattle.saved.specs.Record.{longsBytes}
-use Rattle.saved.proofs.Numbers.{longs-step, lent-length, lent-take}
+use Rattle.saved.specs.Record.{recordLength, longsBytes}
+use Rattle.saved.proofs.Numbers.{longs-step}
 use Rattle.saved.proofs.save_longs.Statement.{statement}
 use Rattle.saved.proofs.save_longs.Tie as tie
 
 abbrev Inv-loop : tie.InvT-loop
-Inv-loop s out₀ i₀ out i = (i ≤ 20) × ((length out ≡ 88) × (take (4 * i) out ≡ longsBytes (take i (s .registers))))
+Inv-loop s out₀ i₀ out i = (i ≤ 20) × ((length out ≡ recordLength) × (take (4 * i) out ≡ longsBytes (take i (s .registers))))
 
 abbrev μ-loop : tie.MeasureT-loop
 μ-loop s out₀ i₀ out i = 20 - i
@@ -23,26 +23,14 @@ loop-holds : tie.Need-loop-holds Inv-loop μ-loop
 unfolding longsBytes
 loop-holds c = (omega arith, (c .before .pre, refl))
 
-mul-a : tie.Need-mul-a Inv-loop μ-loop
-mul-a c = omega arith
-
-add-e : tie.Need-add-e Inv-loop μ-loop
-add-e c = omega arith
-
-sub-write : tie.Need-sub-write Inv-loop μ-loop
-sub-write c = omega arith
-
-part-write-start : tie.Need-part-write-start Inv-loop μ-loop
-part-write-start c = omega arith
-
-part-write-end : tie.Need-part-write-end Inv-loop μ-loop
-part-write-end c = omega arith
+mul-write-at : tie.Need-mul-write-at Inv-loop μ-loop
+mul-write-at c = omega arith
 
 long-requires : tie.Need-long-requires Inv-loop μ-loop
 long-requires c κs = search needs
 
-write-requires : tie.Need-write-requires Inv-loop μ-loop
-write-requires c κs = search needs
+write-at-requires : tie.Need-write-at-requires Inv-loop μ-loop
+write-at-requires c κs = omega arith
 
 add-i : tie.Need-add-i Inv-loop μ-loop
 add-i c = omega arith
@@ -54,21 +42,18 @@ loop-again : tie.Need-loop-again Inv-loop μ-loop
 unfolding longOf
 loop-again c =
     let w = c .before .before in
-    let h = w .before .before .before .before in
+    let h = c .before .before .before .before .before .before in
     let st = h .before .before in
     let s = st .args .s in
     let ok = sound s (st .good .0) in
-    let l = h .loop .out in
     let i = h .loop .i in
-    let v = w .before .long .result in
-    let ys = w .write .last .0 in
-    let room : 4 * i + 4 ≤ length l = omega arith in
-    let more : i < length (s .registers) = omega (arith, ok .twenty) in (
+    let more : i < length (s .registers) = omega (arith, ok .twenty) in
+    let e : 4 * (i + 1) ≡ 4 * i + 4 = omega arith in (
       omega arith,
       (
-        lent-length (4 * i) 4 v l ys room (w .write .ensures) ∙ h .loop .inv .1 .0,
-        lent-take (4 * i) 4 v l ys room (w .write .ensures) (4 * (i + 1)) (omega arith)
-            ∙ ap (λ (p : List ℕ). p ++ bytesFrom 4 v) (h .loop .inv .1 .1)
+        w .write-at .kept .0 ∙ h .loop .inv .1 .0,
+        rw e (w .write-at .ensures)
+            ∙ ap (λ (p : List ℕ). p ++ bytesFrom 4 (w .before .long .result)) (h .loop .inv .1 .1)
             ∙ ap (λ (x : ℕ). longsBytes (take i (s .registers)) ++ bytesFrom 4 x) (w .before .long .ensures)
             ∙ sym (longs-step (s .registers) i more),
       ),
@@ -94,13 +79,9 @@ save-longs-spec =
     Inv-loop
     μ-loop
     loop-holds
-    mul-a
-    add-e
-    sub-write
-    part-write-start
-    part-write-end
+    mul-write-at
     long-requires
-    write-requires
+    write-at-requires
     add-i
     loop-less
     loop-again

@@ -6,20 +6,11 @@ use Rattle.saved.proofs.state_at.Tie as tie
 longs-requires : tie.Need-longs-requires
 longs-requires c κs = search needs
 
-sub-read : tie.Need-sub-read
-sub-read c = search needs
+read-at-requires : tie.Need-read-at-requires
+read-at-requires c κs = search needs
 
-part-read-start : tie.Need-part-read-start
-part-read-start c = search needs
-
-part-read-end : tie.Need-part-read-end
-part-read-end c = search needs
-
-read-requires : tie.Need-read-requires
-read-requires c κs = search needs
-
-sr-at-requires : tie.Need-sr-at-requires
-sr-at-requires c κs = search needs
+read-at-requires-2 : tie.Need-read-at-requires-2
+read-at-requires-2 c κs = search needs
 
 shared-slice-read-spare : tie.Need-shared-slice-read-spare
 shared-slice-read-spare c = search needs
@@ -35,20 +26,18 @@ flags-in-requires c κs = search needs
 
 returns : tie.Need-returns
 returns c =
-    let l = c .before .before .before .before .before .before .before .before .before .args .bytes .now in
+    let r = c .before .before .before in
+    let bytes = r .before .before .before .before .before .args .bytes .now in
     rw (c .before .before .bank-in .ensures, c .before .level-in .ensures, c .flags-in .ensures)
-    (state-made l (c .before .before .before .before .before .before .before .longs .ensures) (c .before .before .before .before .before .read .ensures) (c .before .before .before .before .sr-at .ensures))
+    (state-made bytes (r .before .before .before .longs .ensures) (r .before .before .read-at .ensures) (r .before .read-at2 .ensures))
 
 pub state-at-spec : {M : Type 1} → statement M
 state-at-spec =
     tie.close
     (tie.spec
     longs-requires
-    sub-read
-    part-read-start
-    part-read-end
-    read-requires
-    sr-at-requires
+    read-at-requires
+    read-at-requires-2
     shared-slice-read-spare
     bank-in-requires
     level-in-requires

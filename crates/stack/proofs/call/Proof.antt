@@ -1,5 +1,6 @@
 use Rattle.little.specs.declared.Size.the-variants.{Long}
-use Rattle.state.specs.State.{bankedAt, withCounter}
+use Rattle.state.specs.State.{withCounter}
+use Rattle.state.specs.inner.Lent.{bankedAt}
 use Rattle.state.specs.declared.State.{State}
 use Rattle.stack.specs.Stack.{pushOf}
 use Rattle.operand.proofs.Laws.{then-done, then-refused}

@@ -1,14 +1,15 @@
 use mathlib.Core.Path.{ap, sym, _∙_}
 use Rattle.little.specs.declared.Size.the-variants.{Byte}
 use Rattle.alu.specs.Flag.{byteOf, flagsOf}
-use Rattle.state.specs.State.{bankedWith, withFlags, withBothFlags}
+use Rattle.state.specs.State.{withFlags, withBothFlags}
+use Rattle.state.specs.inner.Lent.{bankedWith}
 use Rattle.stack.proofs.Laws.{popped-by, not-popped, flags-low}
 use Rattle.answer.specs.declared.Answer.the-variants.{Done}
 use Rattle.state.specs.declared.State.{State}
-use Rattle.operand.specs.Try.{after}
 use borrow.Author.Needs.{needs}
 use Rattle.stack.proofs.pop_f.Statement.{statement}
 use Rattle.stack.proofs.pop_f.Tie as tie
+use Rattle.operand.specs.Try.{after}
 
 pointer-requires : tie.Need-pointer-requires
 pointer-requires c κs = search needs

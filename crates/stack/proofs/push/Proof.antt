@@ -8,14 +8,13 @@ use Rattle.state.specs.Register.{getRegister}
 use Rattle.state.specs.declared.State.{State}
 use Rattle.state.proofs.Laws.{register-lt}
 use Rattle.operand.specs.Round.{less}
-use Rattle.stack.specs.Stack.{pushOf}
+use Rattle.stack.specs.Stack.{pushOf, endAfter}
 use Rattle.operand.proofs.Laws.{less-is}
-use Rattle.operand.specs.Try.{after}
-use Rattle.stack.specs.Stack.{endAfter}
 use Rattle.stack.proofs.Laws.{end-after}
 use borrow.Author.Needs.{needs}
 use Rattle.stack.proofs.push.Statement.{statement}
 use Rattle.stack.proofs.push.Tie as tie
+use Rattle.operand.specs.Try.{after}
 
 -- the end of the stack that the code finds
 end-is :

@@ -1,13 +1,14 @@
 use mathlib.Core.Path.{ap, sym, _∙_}
 use Rattle.little.specs.declared.Size.the-variants.{Long}
-use Rattle.state.specs.State.{bankedAt, withCounter}
+use Rattle.state.specs.State.{withCounter}
+use Rattle.state.specs.inner.Lent.{bankedAt}
 use Rattle.stack.proofs.Laws.{popped-by, not-popped}
 use Rattle.answer.specs.declared.Answer.the-variants.{Done}
 use Rattle.state.specs.declared.State.{State}
-use Rattle.operand.specs.Try.{after}
 use borrow.Author.Needs.{needs}
 use Rattle.stack.proofs.ret.Statement.{statement}
 use Rattle.stack.proofs.ret.Tie as tie
+use Rattle.operand.specs.Try.{after}
 
 pointer-requires : tie.Need-pointer-requires
 pointer-requires c κs = search needs

@@ -1,5 +1,5 @@
 use mathlib.Core.Path.{refl, _∙_}
-use Rattle.state.specs.State.{bankedAtWith}
+use Rattle.state.specs.inner.Lent.{bankedAtWith}
 use Rattle.stack.specs.Stack.{stackOf}
 use borrow.Author.Needs.{needs}
 use Rattle.stack.proofs.stack.Statement.{statement}

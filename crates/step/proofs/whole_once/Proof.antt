@@ -1,4 +1,4 @@
-use Rattle.step.proofs.Many.{one-of}
+use Rattle.turn.proofs.ManySteps.{one-of}
 use borrow.Author.Needs.{needs}
 use Rattle.step.proofs.whole_once.Statement.{statement}
 use Rattle.step.proofs.whole_once.Tie as tie

@@ -1,4 +1,4 @@
-use Rattle.alu.proofs.Raised.{bit-four}
+use Rattle.alu.proofs.Half.{bit-four}
 use Rattle.alu.proofs.sum.half.Statement.{statement}
 use Rattle.alu.proofs.sum.half.Tie as tie
 

@@ -1,4 +1,4 @@
-use Rattle.alu.proofs.Raised.{turned-sum}
+use Rattle.alu.proofs.Turned.{turned-sum}
 use Rattle.alu.proofs.sum.turned.Statement.{statement}
 use Rattle.alu.proofs.sum.turned.Tie as tie
 

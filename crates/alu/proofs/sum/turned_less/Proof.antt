@@ -1,4 +1,4 @@
-use Rattle.alu.proofs.Raised.{turned-less}
+use Rattle.alu.proofs.Turned.{turned-less}
 use Rattle.alu.proofs.sum.turned_less.Statement.{statement}
 use Rattle.alu.proofs.sum.turned_less.Tie as tie
 

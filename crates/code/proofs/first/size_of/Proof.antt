@@ -1,7 +1,7 @@
 use Prim.Native.Nat.{_%_}
 use mathlib.Core.Path.{_≡_, refl}
 use native.Mathlib.Omega.{arith}
-use Rattle.code.specs.Listed.{sizeOf}
+use Rattle.code.specs.inner.Parts.{sizeOf}
 use Rattle.code.proofs.first.size_of.Statement.{statement}
 use Rattle.code.proofs.first.size_of.Tie as tie
 

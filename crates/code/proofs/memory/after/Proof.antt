@@ -5,7 +5,7 @@ use borrow.Author.Tests.{eqb-true, eq-eqb, ne-eqb}
 use Rattle.code.specs.declared.Operand.the-variants.{Memory}
 use Rattle.code.specs.Said.{judge}
 use Rattle.code.specs.Rows.{lookup}
-use Rattle.code.specs.Listed.{rowsBegun}
+use Rattle.code.specs.inner.Parts.{rowsBegun}
 use Rattle.code.proofs.Judge.{next-there, next-short}
 use Rattle.code.proofs.Holds.{both-true}
 use Rattle.code.proofs.BlockRows.{begun-store, begun-pointer, begun-memory, begun-plain}

@@ -1,6 +1,7 @@
 use Prim.Native.Nat.{ℕ}
 use mathlib.Core.Path.{refl, sym, _∙_}
-use Rattle.state.specs.State.{bankedWith, withFlags, withBothFlags}
+use Rattle.state.specs.State.{withFlags, withBothFlags}
+use Rattle.state.specs.inner.Lent.{bankedWith}
 use Rattle.operand.specs.Flag.{flagged}
 use Rattle.compute.proofs.Laws.{store-or-kept}
 use borrow.Author.Needs.{needs}

@@ -1,5 +1,6 @@
 use mathlib.Core.Path.{refl, sym, _∙_}
-use Rattle.state.specs.State.{flaggedAt, withFlags, withBothFlags}
+use Rattle.state.specs.State.{withFlags, withBothFlags}
+use Rattle.state.specs.inner.Lent.{flaggedAt}
 use Rattle.operand.specs.Operand.{valueIn}
 use Rattle.operand.specs.Flag.{flagged}
 use Rattle.compute.specs.Compute.{putsOf}

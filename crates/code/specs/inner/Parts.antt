@@ -1,0 +1,66 @@
+-- What each of the readers gives, as a decoded instruction.
+use Rattle.little.specs.Words.{ℕ, _+_, _/_, _%_, cond, _||_, List, [], _++_, eqb}
+use Rattle.little.specs.declared.Size.{Size}
+use Rattle.little.specs.declared.Size.the-variants.{Byte, Word, Long}
+use Rattle.code.specs.{declared.MemoryForm.MemoryForm, declared.Base.the-variants.Indirect, declared.Operand.Operand}
+use Rattle.code.specs.{declared.Operand.the-variants.Constant, declared.Operand.the-variants.Memory, declared.Decoded.Decoded}
+use Rattle.code.specs.{declared.Decoded.the-variants.Short, declared.Decoded.the-variants.Unlisted, Said.wholeOf, Said.judge, Rows.Row}
+use Rattle.code.specs.{Rows.byRows, Memory.form, Memory.memoryRows, Memory.storeRows, Memory.blockRows}
+use Rattle.code.specs.declared.Op.the-variants.{Controls, Stacks, Puts, Sets, Blocks}
+use Rattle.code.specs.declared.Use.the-variants.{Number, From, Load, Compute, Changed}
+use Rattle.code.specs.declared.Side.the-variants.{First, Second, With}
+use Rattle.code.specs.declared.Alone.{Alone}
+use Rattle.code.specs.declared.Alone.the-variants as alone
+use Rattle.code.specs.declared.OfRegister.{OfRegister}
+use Rattle.code.specs.declared.OfRegister.the-variants as register
+use Rattle.code.specs.declared.Begun.{Begun}
+use Rattle.code.specs.declared.Begun.the-variants as begun
+use Rattle.code.specs.declared.OfMemory.{OfMemory}
+use Rattle.code.specs.declared.OfMemory.the-variants as memory
+
+-- the size of an operand, by the high digit of the first byte: word for 9 and D, long for A and E, and byte for any other
+unfoldable pub sizeOf : ℕ → Size
+sizeOf d = cond (eqb d 0x9 || eqb d 0xD) Word (cond (eqb d 0xA || eqb d 0xE) Long Byte)
+
+-- the byte after the form that the first byte b begins: a store's after B and F, or any other's with the copies and compares after (R)
+unfoldable pub rowsBegun : ℕ → Operand → List Row
+rowsBegun b o =
+    let k = b / 8 in
+    let z = sizeOf (8 + b / 16 % 4) in
+    cond (eqb (b / 16 % 4) 3) (storeRows o)
+    (memoryRows z o ++ cond (eqb k 16 || eqb k 18 || eqb k 20) (blockRows z (b % 8)) [])
+
+-- of a first byte 00 to 7F
+abbrev pub aloneAs : Alone → Decoded
+aloneAs (alone.Controls what v n) = wholeOf (Controls what) Byte (Constant v) n
+aloneAs (alone.Stacks what z o n) = wholeOf (Stacks what) z o n
+aloneAs (alone.Sets r z v n) = wholeOf (Sets r) z (Constant v) n
+aloneAs alone.Short = Short
+aloneAs alone.Unlisted = Unlisted
+
+-- of a register form, of a size and with its operand
+abbrev pub registerAs : OfRegister → Size → Operand → Decoded
+registerAs (register.Number v n) z o = wholeOf (Puts (Number v)) z o n
+registerAs (register.From r n) z o = wholeOf (Puts (From r)) z o n
+registerAs (register.Load r n) z o = wholeOf (Puts (Load r)) z o n
+registerAs (register.Compute op r n) z o = wholeOf (Puts (Compute op (First r))) z o n
+registerAs (register.With op v n) z o = wholeOf (Puts (Compute op (With v))) z o n
+registerAs (register.Changed how n) z o = wholeOf (Puts (Changed how)) z o n
+registerAs register.Short z o = Short
+registerAs register.Unlisted z o = Unlisted
+
+-- of the byte after a memory form m
+abbrev pub memoryAs : OfMemory → MemoryForm → Decoded
+memoryAs (memory.Load r z n) m = wholeOf (Puts (Load r)) z (Memory m) n
+memoryAs (memory.From r z n) m = wholeOf (Puts (From r)) z (Memory m) n
+memoryAs (memory.Compute op r z n) m = wholeOf (Puts (Compute op (First r))) z (Memory m) n
+memoryAs (memory.ComputeInto op r z n) m = wholeOf (Puts (Compute op (Second r))) z (Memory m) n
+memoryAs (memory.Blocks f n) m = wholeOf (Blocks f) (f .size) (form (Indirect (f .from)) 0) n
+memoryAs memory.Short m = Short
+memoryAs memory.Unlisted m = Unlisted
+
+-- of a memory form that the first byte b begins: the rest is judged by the rows after it
+abbrev pub begunAs : Begun → ℕ → List ℕ → Decoded
+begunAs (begun.Form base v n) b s = judge (byRows (rowsBegun b (form base v))) s n
+begunAs begun.Short b s = Short
+begunAs begun.Unlisted b s = Unlisted

@@ -1,0 +1,51 @@
+-- Laws that the functions' proofs cite: an instruction, and what a call leaves.
+use Prim.Native.Nat.{ℕ, _+_, _%_, _^_}
+use mathlib.Core.Path.{_≡_, refl, ap, sym, _∙_}
+use mathlib.Core.List.{List}
+use Rattle.answer.specs.declared.Answer.{Answer}
+use Rattle.answer.specs.declared.Answer.the-variants.{Done, Refused}
+use Rattle.state.specs.declared.State.{State}
+use Rattle.state.specs.State.{withCounter}
+use Rattle.state.specs.inner.Lent.{standingAt}
+use Rattle.operand.specs.Try.{Try, did, no, Outcome, leaves, after}
+use Rattle.code.specs.declared.Decoded.{Decoded}
+use Rattle.exec.specs.Exec.{pastOf, done}
+use Rattle.exec.specs.inner.Counter.{backOf, onOf}
+
+-- ---- an instruction: the state past it, and back where it is refused
+-- the state with the counter that it had, not cut
+backAt : State → ℕ → State
+backAt s at = standingAt s at
+
+back-is : (n : ℕ) (s : State) → backAt (pastOf n s) (s .counter) ≡ s
+unfolding pastOf withCounter backAt
+back-is n s = refl
+
+module _ (s : State) (n : ℕ) (ram : List ℕ) (a : Answer) (u : State) (m : List ℕ) where
+  -- what was refused past the instruction is refused at it
+  pub returned : (t : Try) → after a u m ≡ leaves (pastOf n s) ram t → after a (standingAt u (backOf a (s .counter) (u .counter))) m ≡ leaves s ram t
+  unfolding backAt
+  returned (did v l) e =
+      let b : a ≡ Done = ap (λ (o : Outcome). o .answer) e in
+      rw b (ap (λ (x : Answer). after x u m) (sym b) ∙ e)
+  returned (no x) e =
+      let b : a ≡ Refused x = ap (λ (o : Outcome). o .answer) e in
+      let k : backAt u (s .counter) ≡ s = ap (λ (o : Outcome). backAt (o .state) (s .counter)) e ∙ back-is n s in
+      rw (b, ap (λ (o : Outcome). o .ram) e) (ap (λ (v : State). after (Refused x) v ram) k)
+
+  -- the counter goes past the instruction where what was tried is done
+  pub moved-on :
+      (t : Try) → after a (standingAt u ((s .counter + n) % 2 ^ 24)) m ≡ leaves (pastOf n s) ram t
+      → after a (standingAt u (onOf a n (s .counter))) m ≡ leaves s ram t
+  unfolding backAt
+  moved-on (did v l) e =
+      let b : a ≡ Done = ap (λ (o : Outcome). o .answer) e in
+      rw b (ap (λ (x : Answer). after x (standingAt u ((s .counter + n) % 2 ^ 24)) m) (sym b) ∙ e)
+  moved-on (no x) e =
+      let b : a ≡ Refused x = ap (λ (o : Outcome). o .answer) e in
+      let k : backAt u (s .counter) ≡ s = ap (λ (o : Outcome). backAt (o .state) (s .counter)) e ∙ back-is n s in
+      rw (b, ap (λ (o : Outcome). o .ram) e) (ap (λ (v : State). after (Refused x) v ram) k)
+
+-- what is judged to be the same leaves the same
+pub judged : (s : State) (ram rom : List ℕ) (o : Outcome) (d e : Decoded) → d ≡ e → o ≡ leaves s ram (done d s ram rom) → o ≡ leaves s ram (done e s ram rom)
+judged s ram rom o d e h k = rw (← h) k

@@ -1,0 +1,2 @@
+pub mod Exec
+pub mod inner

@@ -1,0 +1,4 @@
+pub mod Touched
+pub mod Kept
+pub mod Statements
+pub mod Shown

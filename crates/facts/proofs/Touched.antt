@@ -1,0 +1,256 @@
+-- One walk over what each instruction does: what it keeps of the state, the bytes that it spares, and its answer.
+use Prim.Native.Nat.{ℕ, _+_, _<_, _≤_}
+use mathlib.Core.Path.{_≡_, refl, ap, _∙_, subst}
+use mathlib.Core.List.{List}
+use mathlib.Core.Bool.{Bool, true, false, cond}
+use mathlib.Core.Logic.{_⊎_, ⊎-elim}
+use lib.ListN.{getD, take, drop}
+use Rattle.answer.specs.Number.{firstRefusal}
+use Rattle.answer.specs.declared.Answer.{Answer}
+use Rattle.answer.specs.declared.Answer.the-variants.{Done, Refused}
+use Rattle.little.specs.declared.Size.{Size}
+use Rattle.little.specs.declared.Size.the-variants.{Byte, Word, Long}
+use Rattle.little.specs.Width.{bytesOf}
+use Rattle.little.specs.Bytes.{valueOf}
+use Rattle.alu.specs.Flag.{byteOf}
+use Rattle.alu.specs.declared.Flags.{Flags}
+use Rattle.alu.specs.declared.Computed.{Computed}
+use Rattle.alu.specs.declared.Arith.{Arith}
+use Rattle.memory.specs.Access.{loadOf, loadFrom, storeOf, ramAfter, operandAt}
+use Rattle.memory.specs.declared.Place.{Place}
+use Rattle.memory.specs.declared.Place.the-variants.{Ram, Rom, Missing}
+use Rattle.memory.proofs.Laws.{after-length, after-below, after-above}
+use Rattle.state.specs.State.{withCounter, withBank, withFlags, withBothFlags}
+use Rattle.state.specs.Register.{getRegister, setRegister}
+use Rattle.state.specs.declared.State.{State}
+use Rattle.code.specs.declared.Form.{Form}
+use Rattle.code.specs.declared.Operand.{Operand}
+use Rattle.code.specs.declared.Operand.the-variants.{Register, Constant, Memory}
+use Rattle.code.specs.declared.Op.{Op}
+use Rattle.code.specs.declared.Op.the-variants.{Controls, Stacks, Puts, Sets, Blocks}
+use Rattle.code.specs.declared.Control.{Control}
+use Rattle.code.specs.declared.Control.the-variants.{Nop, Incf, Decf, Ldf, Rcf, Scf, Ccf, Zcf, Exf, Jp16, Jp24, Jr, Jrl}
+use Rattle.code.specs.declared.Stack.{Stack}
+use Rattle.code.specs.declared.Stack.the-variants.{PushF, PopF, Push, Pop, Call16, Call24, Calr, Ret}
+use Rattle.code.specs.declared.Use.{Use}
+use Rattle.code.specs.declared.Use.the-variants.{Number, From, Load, Compute, Changed}
+use Rattle.code.specs.declared.Side.the-variants.{First, Second, With}
+use Rattle.alu.specs.Condition.{holdsOf}
+use Rattle.operand.specs.Try.{Try, did, no, andThen, withLoaded}
+use Rattle.operand.specs.Operand.{pointerOf, valueAt, valueIn, storing, storedBy, putAt}
+use Rattle.operand.specs.Round.{plus}
+use Rattle.stack.specs.Stack.{pushOf, popOf, stackOf}
+use Rattle.operand.specs.Flag.{flagsIn, flagged, exchanged}
+use Rattle.control.specs.Control.{jumpOf, controlOf}
+use Rattle.compute.specs.Compute.{computed, resultIn, storesOf, answerIn, putsOf}
+use Rattle.block.specs.Block.{counted, moved, copied, compared, roundOf, goesOn, endsAt}
+use Rattle.exec.specs.Exec.{pastOf, effectOf}
+use Rattle.facts.specs.Touched.{Span, none, bytes, operandSpan, onStack, belowStack, stackRead, stackStored, useRead, useStored, readOf, storedOf, loadTo, readAnswer, storeAnswer, answerBy, KeepsRest}
+
+-- what no change of the state breaks
+pub record Kept (P : State → Type 0) : Type 0 where
+  pub registers : (s : State) (z : Size) (r v : ℕ) → P s → P (setRegister s z r v)
+  pub counters : (s : State) (c : ℕ) → P s → P (withCounter s c)
+  pub banks : (s : State) (b : ℕ) → P s → P (withBank s b)
+  pub flags : (s : State) (f : Flags) → P s → P (flagged s f)
+  pub exchanges : (s : State) → P s → P (exchanged s)
+
+module _ (P : State → Type 0) (k : Kept P) where
+  pub past-kept : (n : ℕ) (s : State) → P s → P (pastOf n s)
+  unfolding pastOf
+  past-kept n s ok = k .counters s _ ok
+
+  jump-kept : (s : State) (cc to : ℕ) → P s → P (cond (holdsOf (flagsIn s) cc) (withCounter s to) s)
+  jump-kept s cc to ok = go (holdsOf (flagsIn s) cc)
+    where
+      go : (b : Bool) → P (cond b (withCounter s to) s)
+      go true = k .counters s to ok
+      go false = ok
+
+  byte-kept : (s : State) (f : Flags) → P s → P (withFlags s (byteOf f))
+  unfolding flagged
+  byte-kept s f ok = k .flags s f ok
+
+  moved-kept : (f : Form) (r : ℕ) (s : State) → P s → P (moved f r s)
+  unfolding moved
+  moved-kept f r s ok = k .registers s Long r _ ok
+
+  counted-kept : (s : State) → P s → P (counted s)
+  unfolding counted
+  counted-kept s ok = k .registers s Word 1 _ ok
+
+  pub copied-kept : (f : Form) (s : State) → P s → P (copied f s)
+  unfolding copied
+  copied-kept f s ok = k .flags _ _ (counted-kept _ (moved-kept f (f .to) _ (moved-kept f (f .from) s ok)))
+
+  pub compared-kept : (f : Form) (v : ℕ) (s : State) → P s → P (compared f v s)
+  unfolding compared
+  compared-kept f v s ok = k .flags _ _ (counted-kept _ (moved-kept f (f .from) s ok))
+
+  pub ends-kept : (f : Form) (at : ℕ) (s : State) → P s → P (endsAt f at s)
+  unfolding endsAt
+  ends-kept f at s ok = go (goesOn f s)
+    where
+      go : (b : Bool) → P (cond b (withCounter s at) s)
+      go true = k .counters s at ok
+      go false = ok
+
+module _ (P : State → Type 0) (ram rom : List ℕ) where
+  -- what is tried keeps the state's part, spares all but its target, and answers by where what it reads and its target lie
+  unfoldable pub Fair : Span → Span → Try → Type 0
+  Fair r g (did t m) = P t × (KeepsRest g ram m × (answerBy ram rom r g ≡ Done))
+  Fair r g (no w) = answerBy ram rom r g ≡ Refused w
+
+  -- what is read is there
+  read-first : (r g : Span) (t : Try) → readAnswer ram rom r ≡ Done → Fair none g t → Fair r g t
+  unfolding Fair answerBy
+  read-first r g (did t m) e (p, (q, a)) = (p, (q, ap (λ (x : Answer). firstRefusal x (storeAnswer ram rom g)) e ∙ a))
+  read-first r g (no w) e a = ap (λ (x : Answer). firstRefusal x (storeAnswer ram rom g)) e ∙ a
+
+  fair-did : (s : State) → P s → Fair none none (did s ram)
+  unfolding Fair answerBy
+  fair-did s ok = (ok, (refl, refl))
+
+  fair-storing : (t : State) (a : ℕ) (z : Size) (v : ℕ) → P t → Fair none (bytes a (bytesOf z)) (storing t ram rom a z v)
+  unfolding storing Fair answerBy storeOf
+  fair-storing t a z v ok = go (storeOf ram rom a z) refl
+    where
+      spared : (i : ℕ) → (i < a) ⊎ (a + bytesOf z ≤ i) → getD (ramAfter ram rom a z v) i 0 ≡ getD ram i 0
+      spared i h = ⊎-elim (after-below ram rom a z v i) (after-above ram rom a z v i) h
+
+      go : (r : Answer) → storeOf ram rom a z ≡ r → Fair none (bytes a (bytesOf z)) (storedBy r t (ramAfter ram rom a z v))
+      go Done e = (ok, ((after-length ram rom a z v, spared), e))
+      go (Refused w) e = e
+
+  fair-put : (s : State) (z : Size) (o : Operand) (v : ℕ) → Kept P → P s → Fair none (operandSpan s z o) (putAt s ram rom z o v)
+  fair-put s z (Register r) v k ok = fair-did _ (k .registers s z r v ok)
+  fair-put s z (Constant n) v k ok = fair-did s ok
+  fair-put s z (Memory m) v k ok = fair-storing s _ z v ok
+
+  fair-loaded : (a : ℕ) (z : Size) (g : Span) (f : ℕ → Try) → ((v : ℕ) → Fair none g (f v)) → Fair (bytes a (bytesOf z)) g (withLoaded (loadOf ram rom a z) f)
+  unfolding loadOf Fair answerBy
+  fair-loaded a z g f h = go (operandAt ram rom a z) refl
+    where
+      there : (v : ℕ) → readAnswer ram rom (bytes a (bytesOf z)) ≡ Done → Fair (bytes a (bytesOf z)) g (f v)
+      there v e = read-first (bytes a (bytesOf z)) g (f v) e (h v)
+
+      go : (p : Place) → operandAt ram rom a z ≡ p → Fair (bytes a (bytesOf z)) g (withLoaded (loadFrom p ram rom (bytesOf z)) f)
+      go (Ram o) e = there (valueOf (take (bytesOf z) (drop o ram))) (ap loadTo e)
+      go (Rom o) e = there (valueOf (take (bytesOf z) (drop o rom))) (ap loadTo e)
+      go Missing e = ap (λ (p : Place). firstRefusal (loadTo p) (storeAnswer ram rom g)) e
+
+  fair-value : (s : State) (z : Size) (o : Operand) (g : Span) (f : ℕ → Try) → ((v : ℕ) → Fair none g (f v)) → Fair (operandSpan s z o) g (withLoaded (valueAt s ram rom z o) f)
+  unfolding valueIn
+  fair-value s z (Register r) g f h = h _
+  fair-value s z (Constant n) g f h = h _
+  fair-value s z (Memory m) g f h = fair-loaded _ z g f h
+
+  fair-then : (r g : Span) (t : Try) (f : State → State) → Fair r g t → ((s : State) → P s → P (f s)) → Fair r g (andThen t f)
+  unfolding Fair
+  fair-then r g (did s m) f (p, q) h = (h s p, q)
+  fair-then r g (no w) f e h = e
+
+  fair-push : (s : State) (z : Size) (v : ℕ) → Kept P → P s → Fair none (belowStack s (bytesOf z)) (pushOf s ram rom z v)
+  unfolding pushOf
+  fair-push s z v k ok = fair-storing _ _ z v (k .registers s Long 7 _ ok)
+
+  fair-call : (s : State) (to : ℕ) → Kept P → P s → Fair none (belowStack s 4) (andThen (pushOf s ram rom Long (s .counter)) (λ t. withCounter t to))
+  fair-call s to k ok = fair-then none _ (pushOf s ram rom Long (s .counter)) _ (fair-push s Long _ k ok) (λ t h. k .counters t to h)
+
+  fair-pop :
+      (s : State) (z : Size) (rest : State → ℕ → State) → ((t : State) (v : ℕ) → P t → P (rest t v)) → Kept P → P s
+      → Fair (onStack s (bytesOf z)) none (popOf s ram rom z rest)
+  unfolding popOf
+  fair-pop s z rest h k ok =
+      fair-loaded (pointerOf s 7) z none _ (λ v. fair-did _ (h _ v (k .registers s Long 7 (plus 32 (getRegister s Long 7) (bytesOf z)) ok)))
+
+  -- new flags move no operand
+  span-flags : (s : State) (f : ℕ) (z : Size) (o : Operand) → operandSpan (withFlags s f) z o ≡ operandSpan s z o
+  unfolding withFlags withBothFlags
+  span-flags s f z (Register r) = refl
+  span-flags s f z (Constant n) = refl
+  span-flags s f z (Memory m) = refl
+
+  fair-flagged : (s : State) (f : ℕ) (z : Size) (o : Operand) (v : ℕ) → Kept P → P (withFlags s f) → Fair none (operandSpan s z o) (putAt (withFlags s f) ram rom z o v)
+  fair-flagged s f z o v k ok = subst (λ (g : Span). Fair none g (putAt (withFlags s f) ram rom z o v)) (span-flags s f z o) (fair-put (withFlags s f) z o v k ok)
+
+  fair-result : (s : State) (z : Size) (o : Operand) (r : Computed) → Kept P → P s → Fair none (operandSpan s z o) (resultIn s ram rom z o r)
+  unfolding flagged
+  fair-result s z o r k ok = fair-flagged s _ z o _ k (k .flags s (r .flags) ok)
+
+  fair-answer : (op : Arith) (s : State) (z : Size) (o : Operand) (r : Computed) → Kept P → P s → Fair none (cond (storesOf op) (operandSpan s z o) none) (answerIn op s ram rom z o r)
+  fair-answer op s z o r k ok = go (storesOf op)
+    where
+      go : (b : Bool) → Fair none (cond b (operandSpan s z o) none) (cond b (resultIn s ram rom z o r) (did (flagged s (r .flags)) ram))
+      go true = fair-result s z o r k ok
+      go false = fair-did _ (k .flags s (r .flags) ok)
+
+  -- of a register the operation stores nothing to memory, CP or not
+  fair-register : (op : Arith) (s : State) (z : Size) (c : ℕ) (r : Computed) → Kept P → P s → Fair none none (answerIn op s ram rom z (Register c) r)
+  fair-register op s z c r k ok = go (storesOf op)
+    where
+      go : (b : Bool) → Fair none none (cond b (resultIn s ram rom z (Register c) r) (did (flagged s (r .flags)) ram))
+      go true = fair-result s z (Register c) r k ok
+      go false = fair-did _ (k .flags s (r .flags) ok)
+
+  pub fair-round :
+      (f : Form) (s : State) → Kept P → P s
+      → Fair (bytes (pointerOf s (f .from)) (bytesOf (f .size))) (cond (f .copies) (bytes (pointerOf s (f .to)) (bytesOf (f .size))) none) (roundOf f s ram rom)
+  unfolding roundOf
+  fair-round f s k ok = fair-loaded (pointerOf s (f .from)) (f .size) _ _ (λ v. go v (f .copies))
+    where
+      go :
+          (v : ℕ) (b : Bool)
+          → Fair none (cond b (bytes (pointerOf s (f .to)) (bytesOf (f .size))) none)
+          (cond b (storing (copied f s) ram rom (pointerOf s (f .to)) (f .size) v) (did (compared f v s) ram))
+      go v true = fair-storing _ _ (f .size) v (copied-kept P k f s ok)
+      go v false = fair-did _ (compared-kept P k f v s ok)
+
+  fair-jump : (s : State) (cc to : ℕ) → Kept P → P s → Fair none none (jumpOf s ram cc to)
+  unfolding jumpOf
+  fair-jump s cc to k ok = fair-did _ (jump-kept P k s cc to ok)
+
+  fair-control : (what : Control) (n : ℕ) (s : State) → Kept P → P s → Fair none none (controlOf what n s ram)
+  unfolding controlOf
+  fair-control Nop n s k ok = fair-did s ok
+  fair-control Incf n s k ok = fair-did _ (k .banks s _ ok)
+  fair-control Decf n s k ok = fair-did _ (k .banks s _ ok)
+  fair-control Ldf n s k ok = fair-did _ (k .banks s _ ok)
+  fair-control Rcf n s k ok = fair-did _ (k .flags s _ ok)
+  fair-control Scf n s k ok = fair-did _ (k .flags s _ ok)
+  fair-control Ccf n s k ok = fair-did _ (k .flags s _ ok)
+  fair-control Zcf n s k ok = fair-did _ (k .flags s _ ok)
+  fair-control Exf n s k ok = fair-did _ (k .exchanges s ok)
+  fair-control Jp16 n s k ok = fair-did _ (k .counters s _ ok)
+  fair-control Jp24 n s k ok = fair-did _ (k .counters s _ ok)
+  fair-control (Jr cc) n s k ok = fair-jump s cc _ k ok
+  fair-control (Jrl cc) n s k ok = fair-jump s cc _ k ok
+
+  fair-stack : (what : Stack) (z : Size) (o : Operand) (s : State) → Kept P → P s → Fair (stackRead what z s) (stackStored what z s) (stackOf what z o s ram rom)
+  unfolding stackOf
+  fair-stack PushF z o s k ok = fair-push s Byte _ k ok
+  fair-stack PopF z o s k ok = fair-pop s Byte _ (λ t v h. byte-kept P k t _ h) k ok
+  fair-stack Push z o s k ok = fair-push s z _ k ok
+  fair-stack Pop z o s k ok = fair-pop s z _ (λ t v h. k .registers t z _ v h) k ok
+  fair-stack Call16 z o s k ok = fair-call s _ k ok
+  fair-stack Call24 z o s k ok = fair-call s _ k ok
+  fair-stack Calr z o s k ok = fair-call s _ k ok
+  fair-stack Ret z o s k ok = fair-pop s Long _ (λ t v h. k .counters t v h) k ok
+
+  fair-puts : (how : Use) (z : Size) (o : Operand) (s : State) → Kept P → P s → Fair (useRead how (operandSpan s z o)) (useStored how (operandSpan s z o)) (putsOf how z o s ram rom)
+  unfolding putsOf
+  fair-puts (Number n) z o s k ok = fair-put s z o n k ok
+  fair-puts (From r) z o s k ok = fair-put s z o _ k ok
+  fair-puts (Load r) z o s k ok = fair-value s z o _ _ (λ v. fair-did _ (k .registers s z r v ok))
+  fair-puts (Compute op (First r)) z o s k ok = fair-value s z o _ _ (λ v. fair-register op s z r (computed s op z (getRegister s z r) v) k ok)
+  fair-puts (Compute op (Second r)) z o s k ok = fair-value s z o _ _ (λ v. fair-answer op s z o _ k ok)
+  fair-puts (Compute op (With n)) z o s k ok = fair-value s z o _ _ (λ v. fair-answer op s z o _ k ok)
+  fair-puts (Changed how) z o s k ok = fair-value s z o _ _ (λ v. fair-result s z o _ k ok)
+
+  pub fair-effect : (op : Op) (z : Size) (o : Operand) (at : ℕ) (s : State) → Kept P → P s → Fair (readOf op z o s) (storedOf op z o s) (effectOf op z o at s ram rom)
+  unfolding effectOf readOf storedOf
+  fair-effect (Controls what) z o at s k ok = fair-control what _ s k ok
+  fair-effect (Stacks what) z o at s k ok = fair-stack what z o s k ok
+  fair-effect (Puts how) z o at s k ok = fair-puts how z o s k ok
+  fair-effect (Sets r) z o at s k ok = fair-did _ (k .registers s z r _ ok)
+  fair-effect (Blocks f) z o at s k ok = fair-then _ _ (roundOf f s ram rom) (endsAt f at) (fair-round f s k ok) (λ t h. ends-kept P k f at t h)

@@ -1,0 +1,27 @@
+-- A state whose parts lie apart, as the functions within a step are lent some of them.
+use Rattle.little.specs.Words.{ℕ, List}
+use Rattle.state.specs.{declared.Bank.Bank, declared.State.State, State.lent}
+
+-- the registers, the bank and F
+abbrev pub bankedWith : State → List ℕ → Bank → ℕ → State
+bankedWith s registers bank flags = lent s registers (s .counter) (bank .0) flags (s .spare)
+
+-- the registers, the bank and the counter
+abbrev pub bankedAt : State → List ℕ → Bank → ℕ → State
+bankedAt s registers bank counter = lent s registers counter (bank .0) (s .flags) (s .spare)
+
+-- the registers, the bank, the counter and F
+abbrev pub bankedAtWith : State → List ℕ → Bank → ℕ → ℕ → State
+bankedAtWith s registers bank counter flags = lent s registers counter (bank .0) flags (s .spare)
+
+-- all but the registers
+abbrev pub controlled : State → ℕ → ℕ → ℕ → ℕ → State
+controlled s counter bank flags spare = lent s (s .registers) counter bank flags spare
+
+-- the counter and F
+abbrev pub flaggedAt : State → ℕ → ℕ → State
+flaggedAt s counter flags = lent s (s .registers) counter (s .bank .0) flags (s .spare)
+
+-- the counter alone, not taken modulo 2^24
+abbrev pub standingAt : State → ℕ → State
+standingAt s counter = lent s (s .registers) counter (s .bank .0) (s .flags) (s .spare)

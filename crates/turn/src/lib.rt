@@ -1,0 +1,219 @@
+// Many steps in one call: what stands at the counter, done or refused, again and again.
+ghost use mathlib.Core.Path.{_≡_};
+ghost use Prim.Native.Nat.{suc, _-_};
+ghost use Rattle.memory.specs.Access.{codeAt};
+ghost use Rattle.state.specs.declared.State.{State};
+ghost use Rattle.state.specs.State.{lent};
+ghost use Rattle.state.specs.inner.Lent.{bankedAtWith, standingAt};
+ghost use Rattle.code.specs.declared.MemoryForm.{MemoryForm};
+ghost use Rattle.code.specs.Listed.{decodeOf};
+ghost use Rattle.code.specs.inner.Parts.{memoryAs};
+ghost use Rattle.operand.specs.Operand.{addressIn};
+ghost use Rattle.operand.specs.Try.{andThen};
+ghost use Rattle.operand.specs.inner.Does.{Does};
+ghost use Rattle.block.specs.Block.{roundOf, endsAt};
+ghost use Rattle.turn.specs.inner.Times.{timesOf, Fewer, Stands};
+ghost use Rattle.turn.specs.Many.{result, stopped, manyOf};
+use answer::Answer;
+use answer::Why;
+use block::again;
+use block::ended;
+use block::in_rom;
+use block::round;
+use code::Begun;
+use code::Form;
+use code::OfMemory;
+use code::first::size_of;
+use compute::form;
+use control::past;
+use exec::alone;
+use exec::back;
+use exec::current;
+use exec::of_register;
+use exec::on;
+use operand::address;
+use state::Bank;
+use state::State;
+
+// A round of the form that stands at an address, and as many more as there are steps for and the form goes on; the counter is
+// past it. In ROM the form stays what it is, so that it is not read again for each round.
+fn block(
+    f: Form,
+    at: u32,
+    bank: Bank,
+    flags: &mut u8,
+    regs: &mut [u32; 20],
+    counter: &mut u32,
+    ram: &mut [u8],
+    rom: &[u8],
+    more: &mut u32,
+) -> Answer
+    requires { ⌜ Stands at (now counter) (now ram) (now rom) (λ s m. andThen (roundOf f s m (now rom)) (endsAt f at)) ⌝ }
+    ensures { λ a. ⌜ Fewer a (now (more .entry)) (now (more .exit)) ⌝ }
+    ensures { λ a. ⌜ ((s : State) → Does (λ t m. timesOf (suc (now (more .entry) - now (more .exit))) (standingAt t at) m (now (rom .entry)))
+        (bankedAtWith s (now (regs .entry)) bank (now (counter .entry)) (now (flags .entry))) (now (ram .entry))
+        a (bankedAtWith s (now (regs .exit)) bank (now (counter .exit)) (now (flags .exit))) (now (ram .exit))) ⌝ }
+{
+    let stays = in_rom(ram.len(), rom.len(), at);
+    let mut left = *more;
+    loop {
+        let a = round(f, bank, &mut *flags, &mut *regs, &mut *ram, rom);
+        if let Answer::Refused(w) = a {
+            if left == *more {
+                return Answer::Refused(w);
+            }
+            // The rounds before it are done; the refused one is for the next call.
+            *more = left + 1;
+            *counter = at;
+            return Answer::Done;
+        }
+        if again(f, stays, left, bank, *flags, &*regs) {
+            left -= 1;
+        } else {
+            *counter = ended(f, at, bank, *flags, &*regs, *counter);
+            *more = left;
+            return Answer::Done;
+        }
+    }
+}
+
+// What the byte after a memory form says, whose operand is at an address; the instruction stands at the counter.
+fn of_memory(
+    read: OfMemory,
+    at: u32,
+    bank: Bank,
+    flags: &mut u8,
+    regs: &mut [u32; 20],
+    counter: &mut u32,
+    ram: &mut [u8],
+    rom: &[u8],
+    more: &mut u32,
+) -> Answer
+    requires { ⌜ ((m : MemoryForm) × (decodeOf (codeAt (now ram) (now rom) (now counter)) ≡ memoryAs read m) × (at ≡ addressIn (now regs) bank m)) ⌝ }
+    ensures { λ a. ⌜ Fewer a (now (more .entry)) (now (more .exit)) ⌝ }
+    ensures { λ a. ⌜ ((s : State) → Does (λ t m. timesOf (suc (now (more .entry) - now (more .exit))) t m (now (rom .entry)))
+        (bankedAtWith s (now (regs .entry)) bank (now (counter .entry)) (now (flags .entry))) (now (ram .entry))
+        a (bankedAtWith s (now (regs .exit)) bank (now (counter .exit)) (now (flags .exit))) (now (ram .exit))) ⌝ }
+{
+    match read {
+        OfMemory::Load(r, size, n) => {
+            let a = form::load(r, at, size, bank, regs, &*ram, rom);
+            on(a, counter, n)
+        }
+        OfMemory::From(r, size, n) => {
+            let a = form::store(r, at, size, bank, &*regs, ram, rom);
+            on(a, counter, n)
+        }
+        OfMemory::Compute(op, r, size, n) => {
+            let a = form::first(op, r, at, size, bank, flags, regs, &*ram, rom);
+            on(a, counter, n)
+        }
+        OfMemory::ComputeInto(op, r, size, n) => {
+            let a = form::second(op, r, at, size, bank, flags, &*regs, ram, rom);
+            on(a, counter, n)
+        }
+        OfMemory::Blocks(f, n) => {
+            let here = *counter;
+            past(&mut *counter, n);
+            let a = block(f, here, bank, flags, regs, &mut *counter, ram, rom, more);
+            back(a, here, counter)
+        }
+        OfMemory::Short => Answer::Refused(Why::NoCode),
+        OfMemory::Unlisted => Answer::Refused(Why::Unlisted),
+    }
+}
+
+// What stands at the counter, done or refused, whatever the state is: the checks before it are the caller's. A form that goes on
+// may use some of the `more` steps that the caller has left. The state's parts lie apart and are changed where they lie. Each of
+// the readers has a work of its own after it: where all meet in one instruction first, it was measured to be slower.
+fn once(
+    regs: &mut [u32; 20],
+    counter: &mut u32,
+    bank: &mut u8,
+    flags: &mut u8,
+    spare: &mut u8,
+    ram: &mut [u8],
+    rom: &[u8],
+    more: &mut u32,
+) -> Answer
+    ensures { λ a. ⌜ Fewer a (now (more .entry)) (now (more .exit)) ⌝ }
+    ensures { λ a. ⌜ ((s : State) → Does (λ t m. timesOf (suc (now (more .entry) - now (more .exit))) t m (now (rom .entry)))
+        (lent s (now (regs .entry)) (now (counter .entry)) (now (bank .entry)) (now (flags .entry)) (now (spare .entry))) (now (ram .entry))
+        a (lent s (now (regs .exit)) (now (counter .exit)) (now (bank .exit)) (now (flags .exit)) (now (spare .exit))) (now (ram .exit))) ⌝ }
+{
+    let code = memory::fetch(&*ram, rom, *counter);
+    if code.len() == 0 {
+        return Answer::Refused(Why::NoCode);
+    }
+    let b = code[0];
+    if b < 0x80 {
+        let read = code::first::read(code, b);
+        return alone(read, regs, counter, bank, flags, spare, ram, rom);
+    }
+    let bank = current(&*bank);
+    match b / 8 {
+        25 | 27 | 29 => {
+            let size = size_of(b / 16);
+            let read = code::registers::read(code, size);
+            of_register(read, size, b % 8, bank, flags, regs, counter)
+        }
+        _ => match code::memory::begin(code, b) {
+            Begun::Form(base, v, n) => {
+                let at = address(bank, &*regs, base, v);
+                let read = code::memory::after(code, b, n);
+                of_memory(read, at, bank, flags, regs, counter, ram, rom, more)
+            }
+            Begun::Short => Answer::Refused(Why::NoCode),
+            Begun::Unlisted => Answer::Refused(Why::Unlisted),
+        },
+    }
+}
+
+// The state so far, the count of steps done, and how it ended.
+pub struct Ran {
+    pub state: State,
+    pub done: u32,
+    pub answer: Answer,
+}
+
+fn stop(s: State, done: u32, answer: Answer) -> Ran
+    ensures { λ r. ⌜ r ≡ stopped s done answer ⌝ }
+{
+    Ran {
+        state: s,
+        done: done,
+        answer: answer,
+    }
+}
+
+// Many steps of any state: the checks before the first are the caller's. A call of `once` may do several of those left.
+pub fn many(s: State, ram: &mut [u8], rom: &[u8], steps: u32) -> Ran
+    ensures { λ r. ⌜ result r (now (ram .exit)) ≡ manyOf steps 0 s (now (ram .entry)) (now (rom .entry)) ⌝ }
+{
+    let mut regs = s.registers;
+    let mut counter = s.counter;
+    let b = s.bank;
+    let mut bank = b.0;
+    let mut flags = s.flags;
+    let mut spare = s.spare;
+    let mut left = steps;
+    while 0 < left {
+        left -= 1;
+        let a = once(
+            &mut regs,
+            &mut counter,
+            &mut bank,
+            &mut flags,
+            &mut spare,
+            &mut *ram,
+            rom,
+            &mut left,
+        );
+        if let Answer::Refused(w) = a {
+            let t = state::whole(s, regs, counter, current(&bank), flags, spare);
+            return stop(t, steps - 1 - left, Answer::Refused(w));
+        }
+    }
+    let t = state::whole(s, regs, counter, current(&bank), flags, spare);
+    stop(t, steps, Answer::Done)
+}
