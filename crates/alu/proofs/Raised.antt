@@ -12,7 +12,7 @@ use borrow.Author.Tests.{le-leb, lt-leb, lt-ltb, le-ltb, eq-eqb, ne-eqb, leb-tru
 use Rattle.alu.specs.Width.{low, one, negative}
 use Rattle.alu.specs.Sums.{turned, computedOf, sumOf, differenceOf}
 use Rattle.alu.specs.declared.Computed.{Computed}
-use Rattle.alu.proofs.Widths.{one-le, bits-pos, bits-le}
+use Rattle.alu.proofs.Widths.{one-le, bits-pos, bits-le, raised-mod}
 use Rattle.alu.proofs.Half.{half-sum, half-less}
 
 -- ---- tests of numbers that are raised alike
@@ -40,12 +40,6 @@ module _ (d : ℕ) (p : 0 < d) where
           let n : 0 < x = omega (arith, eqb-false x 0 e) in
           let l : 0 * d < x * d = mul-lt-mul-of-pos-right n p in
           ne-eqb (x * d) 0 (λ z. omega (arith, zero-mul d))
-
-raised-mod : (k j a : ℕ) → a * 2 ^ j % 2 ^ (k + j) ≡ low k a * 2 ^ j
-raised-mod k j a =
-    mod-pow-add (a * 2 ^ j) k j
-    ∙ ap₂ (λ (p q : ℕ). p % 2 ^ k * 2 ^ j + q) (shl-shr a j) (mul-mod-left a (2 ^ j))
-    ∙ add-zero (low k a * 2 ^ j)
 
 -- ---- at the top of 32 bits
 module _ (k : ℕ) (pos : 0 < k) (most : k ≤ 32) where

@@ -1,17 +1,17 @@
 -- Facts about the widths of the three sizes.
-use mathlib.Core.Path.{_≡_, refl, ap}
+use mathlib.Core.Path.{_≡_, sym, ap, ap₂, _∙_}
 use mathlib.Core.Bool.{Bool, true, false}
-use Prim.Native.Nat.{ℕ, zero, suc, _+_, _-_, _*_, _/_, _^_, _≤_, _<_, zero-le}
-use native.Mathlib.Nat.{le-refl, pow-suc, not-suc-le-zero}
+use Prim.Native.Nat.{ℕ, zero, suc, _+_, _-_, _*_, _/_, _%_, _^_, _≤_, _<_, zero-le}
+use native.Mathlib.Nat.{le-refl, pow-suc, not-suc-le-zero, add-zero, mul-mod-left}
 use native.Mathlib.Numerals.{sub-one}
 use native.Mathlib.Omega.{arith}
-use lib.Dec.{lit<, lit≤, leb, ltb}
+use lib.Dec.{lit<, lit≤}
 use lib.Bits.{bitAnd, and-le-r}
-use borrow.Author.Tests.{le-leb, lt-leb, leb-true, leb-false}
+use lib.Pow.{mod-pow-add, shl-shr}
 use Rattle.little.specs.declared.Size.{Size}
 use Rattle.little.specs.declared.Size.the-variants.{Byte, Word, Long}
 use Rattle.little.specs.Width.{bitsOf, bytesOf}
-use Rattle.alu.specs.Width.{one, negative}
+use Rattle.alu.specs.Width.{low, one}
 
 pub one-le : (b : Bool) → one b ≤ 1
 one-le true = le-refl 1
@@ -29,13 +29,18 @@ twice (suc j) h =
 pub masked-lt : (x m : ℕ) → 0 < m → m ≤ 4294967296 → bitAnd x (m - 1) < 4294967296
 masked-lt x m p h = omega (arith, and-le-r x (m - 1))
 
--- the top bit of x is a one where twice x reaches 2 ^ k
-pub negative-twice : (k x : ℕ) → 0 < k → leb (2 ^ k) (x * 2) ≡ negative k x
-negative-twice k x p = go (negative k x) refl
-  where
-    go : (b : Bool) → negative k x ≡ b → leb (2 ^ k) (x * 2) ≡ b
-    go true e = le-leb (2 ^ k) (x * 2) (omega (arith, twice k p, leb-true (2 ^ (k - 1)) x e))
-    go false e = lt-leb (2 ^ k) (x * 2) (omega (arith, twice k p, leb-false (2 ^ (k - 1)) x e))
+-- the low bits of a number that is raised are its own, raised
+pub raised-mod : (k j a : ℕ) → a * 2 ^ j % 2 ^ (k + j) ≡ low k a * 2 ^ j
+raised-mod k j a =
+    mod-pow-add (a * 2 ^ j) k j
+    ∙ ap₂ (λ (p q : ℕ). p % 2 ^ k * 2 ^ j + q) (shl-shr a j) (mul-mod-left a (2 ^ j))
+    ∙ add-zero (low k a * 2 ^ j)
+
+-- what is below the top bit, twice, is the low bits of twice the number
+pub low-twice : (k x : ℕ) → 0 < k → low (k - 1) x * 2 ≡ low k (x * 2)
+low-twice k x p =
+    let e : k - 1 + 1 ≡ k = omega arith in
+    sym (raised-mod (k - 1) 1 x) ∙ ap (λ (n : ℕ). x * 2 % 2 ^ n) e
 
 -- a size has bits, and at most 32
 pub bits-pos : (s : Size) → 0 < bitsOf s

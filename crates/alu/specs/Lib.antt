@@ -11,3 +11,4 @@ pub mod Extend
 pub mod Change
 pub mod Meaning
 pub mod Cases
+pub mod inner

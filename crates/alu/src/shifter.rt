@@ -1,16 +1,15 @@
 // The shifts, place by place.
 ghost use mathlib.Core.Path.{_≡_};
-ghost use Prim.Native.Nat.{_≤_};
+ghost use Prim.Native.Nat.{ℕ, _-_, _^_, _≤_, _<_};
 ghost use Rattle.little.specs.Width.{bitsOf};
 ghost use Rattle.alu.specs.Width.{weighed};
+ghost use Rattle.alu.specs.inner.Place.{goesLeft, comesIn, Goes};
 ghost use Rattle.alu.specs.Shift.{placesOf, shifted, joined, leftOf, rightOf, onePlace, shiftBy, shiftOf};
 use crate::Computed;
 use crate::Shift;
 use crate::even::parity;
 use crate::width::judged;
 use crate::width::low;
-use crate::width::modulus;
-use crate::width::negative;
 use crate::width::one;
 use crate::width::top;
 use little::Size;
@@ -21,23 +20,15 @@ struct Shifted {
     out: bool,
 }
 
-// One place to the left: the top bit goes out where twice x reaches the modulus. The size is asked once for both.
-fn left(size: Size, x: u32) -> Shifted
-    ensures { λ r. ⌜ r ≡ leftOf (bitsOf size) x ⌝ }
+// One place to the left: the top bit, whose weight is given, goes out, and what is below it goes up.
+fn left(top: u32, x: u32) -> Shifted
+    requires { ⌜ (0 < top) × (top ≤ 2147483648) ⌝ }
+    ensures { λ r. ⌜ ((k : ℕ) → 0 < k → top ≡ 2 ^ (k - 1) → r ≡ leftOf k x) ⌝ }
 {
-    let m = modulus(size);
-    let twice = x as u64 * 2;
     Shifted {
-        value: (twice & (m - 1)) as u32,
-        out: m <= twice,
+        value: (x & (top - 1)) * 2,
+        out: top <= x,
     }
-}
-
-// The sign bit, at its weight.
-fn weighed(size: Size, x: u32) -> u32
-    ensures { λ r. ⌜ (r ≡ weighed (bitsOf size) x) × (r ≤ 2147483648) ⌝ }
-{
-    if negative(size, x) { top(size) } else { 0 }
 }
 
 // One place to the right, with what comes in at the top.
@@ -52,27 +43,60 @@ fn right(x: u32, above: u32) -> Shifted
 }
 
 // One place.
-fn place(kind: Shift, size: Size, x: u32) -> Shifted
-    ensures { λ r. ⌜ r ≡ onePlace kind (bitsOf size) x ⌝ }
+fn place(goes_left: bool, top: u32, above: u32, x: u32) -> Shifted
+    requires { ⌜ ((0 < top) × (top ≤ 2147483648)) × (above ≤ 2147483648) ⌝ }
+    ensures { λ r. ⌜ ((w : Shift) (k : ℕ) → Goes w k x «goes_left» top above → r ≡ onePlace w k x) ⌝ }
 {
-    match kind {
-        Shift::Sla => left(size, x),
-        Shift::Sra => right(x, weighed(size, x)),
-        Shift::Sll => left(size, x),
-        Shift::Srl => right(x, 0),
+    if goes_left {
+        left(top, x)
+    } else {
+        right(x, above)
     }
 }
 
 // A shift by some places is one place, and then a shift by one less. It gives the value and, above it, the last bit out:
-// one number, so that the recursion is compiled to a jump back.
-fn places(kind: Shift, size: Size, value: u32, out: bool, num: u8) -> u64
-    ensures { λ r. ⌜ r ≡ joined (shiftBy kind (bitsOf size) num (shifted value out)) ⌝ }
+// one number, so that the recursion is compiled to a jump back. Nothing in it asks for the size or the kind of shift.
+fn places(goes_left: bool, top: u32, above: u32, value: u32, out: bool, num: u8) -> u64
+    requires { ⌜ ((0 < top) × (top ≤ 2147483648)) × (above ≤ 2147483648) ⌝ }
+    ensures { λ r. ⌜ ((w : Shift) (k : ℕ) → Goes w k value «goes_left» top above → r ≡ joined (shiftBy w k num (shifted value out))) ⌝ }
 {
     if num == 0 {
         value as u64 + one(out) * 0x1_0000_0000
     } else {
-        let p = place(kind, size, value);
-        places(kind, size, p.value, p.out, num - 1)
+        let p = place(goes_left, top, above, value);
+        places(goes_left, top, above, p.value, p.out, num - 1)
+    }
+}
+
+fn goes_left(kind: Shift) -> bool
+    ensures { λ r. ⌜ r ≡ goesLeft kind ⌝ }
+{
+    match kind {
+        Shift::Sla => true,
+        Shift::Sra => false,
+        Shift::Sll => true,
+        Shift::Srl => false,
+    }
+}
+
+// The sign bit, at its weight.
+fn weighed(top: u32, x: u32) -> u32
+    requires { ⌜ top ≤ 2147483648 ⌝ }
+    ensures { λ r. ⌜ ((k : ℕ) → top ≡ 2 ^ (k - 1) → r ≡ weighed k x) × (r ≤ 2147483648) ⌝ }
+{
+    if top <= x { top } else { 0 }
+}
+
+// What comes in above, which stays the same from place to place: SRA keeps the sign.
+fn comes_in(kind: Shift, top: u32, x: u32) -> u32
+    requires { ⌜ top ≤ 2147483648 ⌝ }
+    ensures { λ r. ⌜ ((k : ℕ) → top ≡ 2 ^ (k - 1) → r ≡ comesIn kind k x) × (r ≤ 2147483648) ⌝ }
+{
+    match kind {
+        Shift::Sla => 0,
+        Shift::Sra => weighed(top, x),
+        Shift::Sll => 0,
+        Shift::Srl => 0,
     }
 }
 
@@ -87,7 +111,10 @@ pub fn places_of(code: u8) -> u8
 pub fn shift_by(kind: Shift, size: Size, a: u32, code: u8) -> Computed
     ensures { λ r. ⌜ r ≡ shiftOf kind (bitsOf size) a (placesOf code) ⌝ }
 {
-    let t = places(kind, size, low(size, a as u64), false, places_of(code));
+    let x = low(size, a as u64);
+    let weight = top(size);
+    let above = comes_in(kind, weight, x);
+    let t = places(goes_left(kind), weight, above, x, false, places_of(code));
     let r = (t % 0x1_0000_0000) as u32;
     judged(size, r, false, parity(size, r), false, 0x1_0000_0000 <= t)
 }

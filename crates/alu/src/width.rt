@@ -23,7 +23,7 @@ pub fn modulus(size: Size) -> u64
 // The weight of the sign bit.
 pub fn top(size: Size) -> u32
     ensures { λ r. ⌜ r ≡ 2 ^ (bitsOf size - 1) ⌝ }
-    ensures bounded { λ r. ⌜ r ≤ 2147483648 ⌝ }
+    ensures bounded { λ r. ⌜ (0 < r) × (r ≤ 2147483648) ⌝ }
 {
     (modulus(size) / 2) as u32
 }

@@ -1,19 +1,19 @@
 use borrow.Author.Needs.{needs}
 use native.Mathlib.Omega.{arith}
-use Rattle.alu.proofs.Shifts.{shift-none, shift-more}
+use Rattle.alu.proofs.Shifts.{shift-none, goes-more}
 use Prim.Native.Nat.{ℕ, _<_}
 use borrow.Fn.Kinds.{In}
 use borrow.Fn.PlainCycle.{Measures, is, falls, and}
 use Rattle.alu.proofs.shifter.places.Reads as places
 use Rattle.alu.proofs.shifter.places.Kinds as places-kinds
 use Rattle.alu.proofs.shifter.+places.Lts-places as places-lts
-use Rattle.alu.proofs.width.one.Reads as one-reads
 use Rattle.alu.proofs.shifter.place.Reads as place-reads
+use Rattle.alu.proofs.width.one.Reads as one-reads
 use Rattle.alu.proofs.shifter.+places.{statement}
 use Rattle.alu.proofs.shifter.+places.Tie.{close}
 
 abbrev μ-places : Measures 0 places-kinds.ps ℕ
-μ-places κs a = a .1 .1 .1 .1 .0
+μ-places κs a = a .1 .1 .1 .1 .1 .0
 
 abbrev places-at : ℕ → In 0 places-kinds.ps
 places-at t = and 0 places-kinds.ps (is 0 places-kinds.ps μ-places t) places.Pre
@@ -79,7 +79,7 @@ places-places-requires : (t : ℕ) → places-lts.Need-places-requires (
   places-below t,
   places.Post,
 ) (places-at t) places.Post
-places-places-requires t c κs = (omega arith, tt)
+places-places-requires t c κs = (omega arith, search needs)
 
 places-returns : (t : ℕ) → places-lts.Need-returns (
   one-reads.Asked,
@@ -89,7 +89,7 @@ places-returns : (t : ℕ) → places-lts.Need-returns (
   places-below t,
   places.Post,
 ) (places-at t) places.Post
-places-returns t c = shift-none _ _ _ _ _ _ (c .before .if1 .taken) (c .one .ensures .0)
+places-returns t c w k g = shift-none w k _ _ _ _ (c .before .if1 .taken) (c .one .ensures .0)
 
 places-returns-2 : (t : ℕ) → places-lts.Need-returns-2 (
   one-reads.Asked,
@@ -99,7 +99,7 @@ places-returns-2 : (t : ℕ) → places-lts.Need-returns-2 (
   places-below t,
   places.Post,
 ) (places-at t) places.Post
-places-returns-2 t c = shift-more _ _ _ _ _ (c .before .place .result) _ (c .before .before .if1 .left) (c .before .place .ensures) (c .places .ensures)
+places-returns-2 t c = goes-more _ _ _ _ _ _ (c .before .place .result) _ (c .before .before .if1 .left) (c .before .place .ensures) (c .places .ensures)
 
 pub +places-spec : {M : Type 1} → statement M
 +places-spec = close μ-places λ t. places-lts.spec (

@@ -1,12 +1,21 @@
 use mathlib.Core.Path.{_∙_}
 use Rattle.alu.specs.Logic.{plain}
-use Rattle.alu.proofs.Shifts.{shift-split}
+use Rattle.alu.proofs.Shifts.{shift-made}
 use borrow.Author.Needs.{needs}
 use Rattle.alu.proofs.shifter.shift_by.Statement.{statement}
 use Rattle.alu.proofs.shifter.shift_by.Tie as tie
 
 low-requires : tie.Need-low-requires
 low-requires c κs = search needs
+
+top-requires : tie.Need-top-requires
+top-requires c κs = search needs
+
+comes-in-requires : tie.Need-comes-in-requires
+comes-in-requires c κs = search needs
+
+goes-left-requires : tie.Need-goes-left-requires
+goes-left-requires c κs = search needs
 
 places-of-requires : tie.Need-places-of-requires
 places-of-requires c κs = search needs
@@ -27,14 +36,30 @@ returns : tie.Need-returns
 unfolding plain
 returns c = c .judged .ensures
     ∙ (simp (c .before .parity .ensures))
-    ∙ shift-split (c .before .before .before .before .before .args .kind) (c .before .before .before .before .before .args .size) (c .before .before .before .before .before .args .a) _ (c .before .before .places .result)
-    (simp (← c .before .before .before .before .low .ensures .0, ← c .before .before .before .places-of .ensures) (c .before .before .places .ensures))
+    ∙ shift-made
+    (c .before .before .before .before .before .before .before .before .args .kind)
+    (c .before .before .before .before .before .before .before .before .args .size)
+    (c .before .before .before .before .before .before .before .before .args .a)
+    _
+    (c .before .before .before .before .before .before .before .low .result)
+    (c .before .before .before .before .before .before .top .result)
+    (c .before .before .before .before .before .comes-in .result)
+    (c .before .before .places .result)
+    (c .before .before .before .before .goes-left .result)
+    (c .before .before .before .before .before .before .before .low .ensures .0)
+    (c .before .before .before .before .before .before .top .ensures .0)
+    (c .before .before .before .before .before .comes-in .ensures .0)
+    (c .before .before .before .before .goes-left .ensures)
+    (simp (← c .before .before .before .places-of .ensures) (c .before .before .places .ensures))
 
 pub shift-by-spec : {M : Type 1} → statement M
 shift-by-spec =
     tie.close
     (tie.spec
     low-requires
+    top-requires
+    comes-in-requires
+    goes-left-requires
     places-of-requires
     places-requires
     cast-r

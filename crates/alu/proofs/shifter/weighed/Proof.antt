@@ -1,19 +1,17 @@
-use Rattle.alu.specs.Width.{negative}
+use mathlib.Core.Path.{ap, sym, _∙_}
+use mathlib.Core.Bool.{Bool, cond}
+use Prim.Native.Nat.{ℕ, _-_, _^_}
+use lib.Dec.{leb}
 use borrow.Author.Needs.{needs}
+use borrow.Author.Tests.{le-leb, lt-leb}
 use Rattle.alu.proofs.shifter.weighed.Statement.{statement}
 use Rattle.alu.proofs.shifter.weighed.Tie as tie
 
-negative-requires : tie.Need-negative-requires
-negative-requires c κs = search needs
-
-top-requires : tie.Need-top-requires
-top-requires c κs = search needs
-
 returns : tie.Need-returns
-returns c = (simp (← c .before .before .negative .ensures, c .before .if1 .taken) (c .top .ensures .0), search needs)
+returns c = (λ k e. simp (← e, le-leb _ _ (c .if1 .taken)), search needs)
 
 returns-2 : tie.Need-returns-2
-returns-2 c = (simp (← c .before .negative .ensures, c .if1 .left), search needs)
+returns-2 c = (λ k e. simp (← e, lt-leb _ _ (c .if1 .left)), search needs)
 
 pub weighed-spec : {M : Type 1} → statement M
-weighed-spec = tie.close (tie.spec negative-requires top-requires returns returns-2)
+weighed-spec = tie.close (tie.spec returns returns-2)

@@ -1,4 +1,6 @@
+use Prim.Native.Nat.{_-_}
 use native.Mathlib.Omega.{arith}
+use lib.Pow.{pow-pos}
 use Rattle.little.specs.Width.{bitsOf}
 use Rattle.alu.proofs.Widths.{twice, bits-pos}
 use borrow.Author.Needs.{needs}
@@ -12,7 +14,10 @@ cast-result : tie.Need-cast-result
 cast-result c = search needs
 
 returns : tie.Need-returns
-returns c = (omega (arith, twice (bitsOf (c .before .args .size)) (bits-pos (c .before .args .size))), search needs)
+returns c =
+    let k = bitsOf (c .before .args .size) in
+    let h = twice k (bits-pos (c .before .args .size)) in
+    (omega arith, (omega (arith, pow-pos (k - 1)), search needs))
 
 pub top-spec : {M : Type 1} → statement M
 top-spec = tie.close (tie.spec modulus-requires cast-result returns)
