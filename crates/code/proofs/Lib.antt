@@ -3,8 +3,6 @@ pub mod Tables
 pub mod Judge
 pub mod FirstRows
 pub mod RegisterRows
-pub mod MemoryRows
-pub mod BlockRows
 pub mod Prefix
 pub mod AllRows
 pub mod RowBytes

@@ -43,7 +43,7 @@ fn refuse(given: State, w: Why) -> Stepped
 fn decode_at<'a>(ram: &'a [u8], rom: &'a [u8], at: u32) -> Decoded
     ensures { λ r. ⌜ r ≡ decodeOf (codeAt (now (ram .entry)) (now (rom .entry)) at) ⌝ }
 {
-    code::decode(memory::fetch(ram, rom, at))
+    decode::decode(memory::fetch(ram, rom, at))
 }
 
 // What stands at the counter, done or refused: one of many.
@@ -105,7 +105,7 @@ pub fn show_answer<'a>(ram: &'a [u8], rom: &'a [u8], at: u32) -> Answer
 fn length_in(code: &[u8]) -> usize
     ensures { λ r. ⌜ r ≡ lengthIn (decodeOf (now (code .entry))) ⌝ }
 {
-    match code::decode(code) {
+    match decode::decode(code) {
         Decoded::Whole(i) => i.length,
         Decoded::Short => 0,
         Decoded::Unlisted => 0,

@@ -23,7 +23,7 @@ use block::round;
 use code::Begun;
 use code::Form;
 use code::OfMemory;
-use code::first::size_of;
+use reader::first::size_of;
 use compute::form;
 use control::past;
 use exec::alone;
@@ -147,20 +147,20 @@ fn once(
     }
     let b = code[0];
     if b < 0x80 {
-        let read = code::first::read(code, b);
+        let read = reader::first::read(code, b);
         return alone(read, regs, counter, bank, flags, spare, ram, rom);
     }
     let bank = current(&*bank);
     match b / 8 {
         25 | 27 | 29 => {
             let size = size_of(b / 16);
-            let read = code::registers::read(code, size);
+            let read = reader::registers::read(code, size);
             of_register(read, size, b % 8, bank, flags, regs, counter)
         }
-        _ => match code::memory::begin(code, b) {
+        _ => match reader::memory::begin(code, b) {
             Begun::Form(base, v, n) => {
                 let at = address(bank, &*regs, base, v);
-                let read = code::memory::after(code, b, n);
+                let read = reader::memory::after(code, b, n);
                 of_memory(read, at, bank, flags, regs, counter, ram, rom, more)
             }
             Begun::Short => Answer::Refused(Why::NoCode),

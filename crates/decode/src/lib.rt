@@ -1,0 +1,138 @@
+// The instruction that a code begins with: what each of the readers gives, in one type.
+ghost use mathlib.Core.Path.{_≡_};
+ghost use Rattle.code.specs.Said.{wholeOf, judge};
+ghost use Rattle.code.specs.Rows.{lookup};
+ghost use Rattle.code.specs.inner.Parts.{aloneAs, registerAs, memoryAs};
+ghost use Rattle.code.specs.Listed.{memoryFirstRows, decodeOf};
+use code::Alone;
+use code::Base;
+use code::Begun;
+use code::Decoded;
+use code::Instruction;
+use code::MemoryForm;
+use code::OfMemory;
+use code::OfRegister;
+use code::Op;
+use code::Operand;
+use code::Side;
+use code::Use;
+use little::Size;
+
+fn whole(op: Op, size: Size, operand: Operand, length: usize) -> Decoded
+    ensures { λ r. ⌜ r ≡ wholeOf op size operand length ⌝ }
+{
+    Decoded::Whole(Instruction {
+        op: op,
+        size: size,
+        operand: operand,
+        length: length,
+    })
+}
+
+fn puts(how: Use, size: Size, operand: Operand, length: usize) -> Decoded
+    ensures { λ r. ⌜ r ≡ wholeOf (Op.Puts how) size operand length ⌝ }
+{
+    whole(Op::Puts(how), size, operand, length)
+}
+
+// What was read, as an instruction.
+fn whole_alone(read: Alone) -> Decoded
+    ensures { λ r. ⌜ r ≡ aloneAs read ⌝ }
+{
+    match read {
+        Alone::Controls(what, v, n) => whole(
+            Op::Controls(what),
+            Size::Byte,
+            Operand::Constant(v),
+            n,
+        ),
+        Alone::Stacks(what, size, operand, n) => whole(Op::Stacks(what), size, operand, n),
+        Alone::Sets(r, size, v, n) => whole(Op::Sets(r), size, Operand::Constant(v), n),
+        Alone::Short => Decoded::Short,
+        Alone::Unlisted => Decoded::Unlisted,
+    }
+}
+
+fn whole_of_register(read: OfRegister, size: Size, operand: Operand) -> Decoded
+    ensures { λ r. ⌜ r ≡ registerAs read size operand ⌝ }
+{
+    match read {
+        OfRegister::Number(v, n) => puts(Use::Number(v), size, operand, n),
+        OfRegister::From(r, n) => puts(Use::From(r), size, operand, n),
+        OfRegister::Load(r, n) => puts(Use::Load(r), size, operand, n),
+        OfRegister::Compute(op, r, n) => puts(Use::Compute(op, Side::First(r)), size, operand, n),
+        OfRegister::With(op, v, n) => puts(Use::Compute(op, Side::With(v)), size, operand, n),
+        OfRegister::Changed(how, n) => puts(Use::Changed(how), size, operand, n),
+        OfRegister::Short => Decoded::Short,
+        OfRegister::Unlisted => Decoded::Unlisted,
+    }
+}
+
+fn whole_of_memory(read: OfMemory, m: MemoryForm) -> Decoded
+    ensures { λ r. ⌜ r ≡ memoryAs read m ⌝ }
+{
+    let operand = Operand::Memory(m);
+    match read {
+        OfMemory::Load(r, size, n) => puts(Use::Load(r), size, operand, n),
+        OfMemory::From(r, size, n) => puts(Use::From(r), size, operand, n),
+        OfMemory::Compute(op, r, size, n) => puts(
+            Use::Compute(op, Side::First(r)),
+            size,
+            operand,
+            n,
+        ),
+        OfMemory::ComputeInto(op, r, size, n) => puts(
+            Use::Compute(op, Side::Second(r)),
+            size,
+            operand,
+            n,
+        ),
+        OfMemory::Blocks(f, n) => {
+            let size = f.size;
+            let pointer = MemoryForm {
+                base: Base::Indirect(f.from),
+                number: 0,
+            };
+            whole(Op::Blocks(f), size, Operand::Memory(pointer), n)
+        }
+        OfMemory::Short => Decoded::Short,
+        OfMemory::Unlisted => Decoded::Unlisted,
+    }
+}
+
+// A memory form from its first byte on, as an instruction.
+fn whole_begun(code: &[u8], b: u8) -> Decoded
+    ensures { λ r. ⌜ r ≡ judge (lookup memoryFirstRows b) (now (code .entry)) 1 ⌝ }
+{
+    match reader::memory::begin(code, b) {
+        Begun::Form(base, v, n) => {
+            let m = MemoryForm {
+                base: base,
+                number: v,
+            };
+            whole_of_memory(reader::memory::after(code, b, n), m)
+        }
+        Begun::Short => Decoded::Short,
+        Begun::Unlisted => Decoded::Unlisted,
+    }
+}
+
+// The instruction that the code begins with.
+pub fn decode(code: &[u8]) -> Decoded
+    ensures { λ r. ⌜ r ≡ decodeOf (now (code .entry)) ⌝ }
+{
+    if code.len() == 0 {
+        return Decoded::Short;
+    }
+    let b = code[0];
+    if b < 0x80 {
+        return whole_alone(reader::first::read(code, b));
+    }
+    match b / 8 {
+        25 | 27 | 29 => {
+            let size = reader::first::size_of(b / 16);
+            whole_of_register(reader::registers::read(code, size), size, Operand::Register(b % 8))
+        }
+        _ => whole_begun(code, b),
+    }
+}

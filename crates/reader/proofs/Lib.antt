@@ -1,0 +1,2 @@
+pub mod MemoryRows
+pub mod BlockRows

@@ -1,0 +1,150 @@
+// The register forms: what the byte after the register says.
+ghost use mathlib.Core.Path.{_≡_};
+ghost use mathlib.Core.List.{List};
+ghost use Prim.Native.Nat.{ℕ, _/_, _<_, _≤_};
+ghost use lib.ListN.{length};
+ghost use Rattle.code.specs.Said.{Said, judge};
+ghost use Rattle.code.specs.Rows.{lookup, byRows};
+ghost use Rattle.code.specs.Registers.{registerRows, placesRows, arithOf, shiftKind, notByte};
+ghost use Rattle.code.specs.inner.Parts.{registerAs};
+use code::Found;
+use code::OfRegister;
+use code::Op;
+use code::Operand;
+use code::Use;
+use alu::Arith;
+use alu::Change;
+use alu::Shift;
+use little::Size;
+
+// The operation of a number, 0 to 7.
+pub fn arith_of(n: u8) -> Arith
+    ensures { λ r. ⌜ r ≡ arithOf n ⌝ }
+{
+    match n {
+        0 => Arith::Add,
+        1 => Arith::Adc,
+        2 => Arith::Sub,
+        3 => Arith::Sbc,
+        4 => Arith::And,
+        5 => Arith::Xor,
+        6 => Arith::Or,
+        _ => Arith::Cp,
+    }
+}
+
+pub fn shift_of(n: u8) -> Shift
+    ensures { λ r. ⌜ r ≡ shiftKind n ⌝ }
+{
+    match n {
+        0 => Shift::Sla,
+        1 => Shift::Sra,
+        2 => Shift::Sll,
+        _ => Shift::Srl,
+    }
+}
+
+// 03 and a constant, and nothing else from 00 to 07.
+fn load_constant(code: &[u8], size: Size, c: u8) -> OfRegister
+    requires { ⌜ (2 ≤ length (now code)) × (c < 8) ⌝ }
+    ensures { λ d. ⌜ ((o : Operand) → registerAs d size o ≡ judge (lookup (registerRows size o) c) (now (code .entry)) 2) ⌝ }
+{
+    if c == 3 {
+        let n = little::bytes(size);
+        return match crate::number(code, 2, n) {
+            Found::Value(v) => OfRegister::Number(v, 2 + n),
+            Found::Missing => OfRegister::Short,
+        };
+    }
+    OfRegister::Unlisted
+}
+
+// C8 to CF and a constant.
+fn compute_constant(code: &[u8], size: Size, c: u8) -> OfRegister
+    requires { ⌜ (2 ≤ length (now code)) × (c / 8 ≡ 25) ⌝ }
+    ensures { λ d. ⌜ ((o : Operand) → registerAs d size o ≡ judge (lookup (registerRows size o) c) (now (code .entry)) 2) ⌝ }
+{
+    let n = little::bytes(size);
+    match crate::number(code, 2, n) {
+        Found::Value(v) => OfRegister::With(arith_of(c % 8), v, 2 + n),
+        Found::Missing => OfRegister::Short,
+    }
+}
+
+// A change of words and longs only.
+fn not_byte(how: Change, size: Size) -> OfRegister
+    ensures { λ d. ⌜ ((o : Operand) (s : List ℕ) → registerAs d size o ≡ judge (notByte size (Said.whole (Op.Puts (Use.Changed how)) size o)) s 2) ⌝ }
+{
+    match size {
+        Size::Byte => OfRegister::Unlisted,
+        Size::Word => OfRegister::Changed(how, 2),
+        Size::Long => OfRegister::Changed(how, 2),
+    }
+}
+
+// 12 EXTZ, 13 EXTS, and nothing else from 10 to 17.
+fn extension(size: Size, c: u8) -> OfRegister
+    requires { ⌜ c / 8 ≡ 2 ⌝ }
+    ensures { λ d. ⌜ ((o : Operand) (s : List ℕ) → registerAs d size o ≡ judge (lookup (registerRows size o) c) s 2) ⌝ }
+{
+    match c {
+        0x12 => not_byte(Change::Extz, size),
+        0x13 => not_byte(Change::Exts, size),
+        _ => OfRegister::Unlisted,
+    }
+}
+
+// A shift, by the byte of its places.
+fn shifted(code: &[u8], size: Size, shift: Shift) -> OfRegister
+    ensures { λ d. ⌜ ((o : Operand) → registerAs d size o ≡ judge (byRows (placesRows size o shift)) (now (code .entry)) 2) ⌝ }
+{
+    if code.len() <= 2 {
+        return OfRegister::Short;
+    }
+    let places = code[2];
+    if 15 < places {
+        return OfRegister::Unlisted;
+    }
+    OfRegister::Changed(Change::ShiftBy(shift, places), 3)
+}
+
+// EC SLA, ED SRA, EE SLL, EF SRL, and nothing else from E8 to EF.
+fn shift_case(code: &[u8], size: Size, c: u8) -> OfRegister
+    requires { ⌜ c / 8 ≡ 29 ⌝ }
+    ensures { λ d. ⌜ ((o : Operand) → registerAs d size o ≡ judge (lookup (registerRows size o) c) (now (code .entry)) 2) ⌝ }
+{
+    if c < 0xEC {
+        return OfRegister::Unlisted;
+    }
+    shifted(code, size, shift_of(c % 4))
+}
+
+// What the second byte c says.
+fn second(code: &[u8], size: Size, c: u8) -> OfRegister
+    requires { ⌜ 2 ≤ length (now code) ⌝ }
+    ensures { λ d. ⌜ ((o : Operand) → registerAs d size o ≡ judge (lookup (registerRows size o) c) (now (code .entry)) 2) ⌝ }
+{
+    let n = c % 8;
+    match c / 8 {
+        0 => load_constant(code, size, c),
+        2 => extension(size, c),
+        12 => OfRegister::Changed(Change::Inc(n), 2),
+        13 => OfRegister::Changed(Change::Dec(n), 2),
+        17 => OfRegister::Load(n, 2),
+        19 => OfRegister::From(n, 2),
+        16 | 18 | 20 | 22 | 24 | 26 | 28 | 30 => OfRegister::Compute(arith_of(c / 16 % 8), n, 2),
+        25 => compute_constant(code, size, c),
+        29 => shift_case(code, size, c),
+        _ => OfRegister::Unlisted,
+    }
+}
+
+// A register form of a size, whatever its register.
+pub fn read(code: &[u8], size: Size) -> OfRegister
+    ensures { λ d. ⌜ ((o : Operand) → registerAs d size o ≡ judge (byRows (registerRows size o)) (now (code .entry)) 1) ⌝ }
+{
+    if code.len() <= 1 {
+        return OfRegister::Short;
+    }
+    second(code, size, code[1])
+}
