@@ -1,9 +1,9 @@
 -- Each case of the table has the value and the F that stand there.
 use lib.Dec.{T}
-use Rattle.alu.specs.Flag.{byteOf, flagsOf}
-use Rattle.alu.specs.Condition.{basic, holdsOf}
+use Rattle.flags.specs.Flag.{byteOf, flagsOf}
+use Rattle.flags.specs.Condition.{basic, holdsOf}
 use Rattle.alu.specs.Parity.{onesOf, evenOnes, parityOf}
-use Rattle.alu.specs.Sums.{computedOf, sumOf, differenceOf}
+use Rattle.flags.specs.Sums.{computedOf, sumOf, differenceOf}
 use Rattle.alu.specs.Logic.{plain, andOf, orOf, xorOf}
 use Rattle.alu.specs.Operation.{operated}
 use Rattle.alu.specs.Shift.{placesOf, shiftOf, shiftBy}

@@ -8,8 +8,8 @@ use lib.Pow.{mod-mod-pow}
 use Rattle.alu.specs.declared.Arith.{Arith}
 use Rattle.alu.specs.declared.Arith.the-variants.{Add, Adc, Sub, Sbc, And, Xor, Or, Cp}
 use Rattle.alu.specs.declared.Shift.{Shift}
-use Rattle.alu.specs.declared.Flags.{Flags}
-use Rattle.alu.specs.Sums.{sumOf, differenceOf}
+use Rattle.flags.specs.declared.Flags.{Flags}
+use Rattle.flags.specs.Sums.{sumOf, differenceOf}
 use Rattle.alu.specs.Logic.{andOf, orOf, xorOf}
 use Rattle.alu.specs.Operation.{operated}
 use Rattle.alu.specs.Shift.{shiftOf}

@@ -1,17 +1,8 @@
-pub mod Widths
-pub mod Bools
 pub mod Ones
-pub mod Conditions
 pub mod Shifts
-pub mod Half
-pub mod Turned
-pub mod Raised
-pub mod Overflow
-pub mod Meaning
 pub mod Ranges
 pub mod Shifting
 pub mod Depends
-pub mod Packed
 pub mod Results
 pub mod Order
 pub mod Cases

@@ -11,7 +11,7 @@ use lib.Bits.{bitAnd, bitXor, xor-add-and, xor-shr}
 use native.Mathlib.Omega.{arith}
 use lib.Pow.{field, mod-mod-pow, shr-shr}
 use Rattle.alu.specs.Parity.{onesOf, evenOnes}
-use Rattle.alu.proofs.Bools.{two-bits}
+use Rattle.flags.proofs.Bools.{two-bits}
 
 -- bits above the k low ones do not count
 pub ones-low : (k x : ℕ) → onesOf k (x % 2 ^ k) ≡ onesOf k x

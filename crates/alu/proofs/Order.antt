@@ -9,13 +9,14 @@ use lib.Dec.{leb, ltb, eqb}
 use lib.Pow.{pow-pos}
 use borrow.Author.Tests.{lt-ltb, le-ltb, le-leb, lt-leb, leb-true, leb-false, eq-eqb, ne-eqb, eqb-true, eqb-false}
 use Rattle.alu.specs.declared.Arith.the-variants.{Cp}
-use Rattle.alu.specs.Width.{low, negative, one}
-use Rattle.alu.specs.Sums.{turned, computedOf, differenceOf}
-use Rattle.alu.specs.declared.Flags.{Flags}
+use Rattle.flags.specs.Width.{low, negative, one}
+use Rattle.flags.specs.Sums.{turned, computedOf, differenceOf}
+use Rattle.flags.specs.declared.Flags.{Flags}
 use Rattle.alu.specs.Operation.{operated}
-use Rattle.alu.specs.Condition.{lessThan, basic, holdsOf}
-use Rattle.alu.specs.Meaning.{off, ComparisonOrders}
-use Rattle.alu.proofs.Widths.{twice}
+use Rattle.flags.specs.Condition.{lessThan, basic, holdsOf}
+use Rattle.flags.specs.Meaning.{off}
+use Rattle.alu.specs.Meaning.{ComparisonOrders}
+use Rattle.flags.proofs.Widths.{twice}
 use Rattle.alu.proofs.Ranges.{difference-lt}
 use Rattle.alu.proofs.Results.{compared-same, exact}
 

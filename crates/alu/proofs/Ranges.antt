@@ -10,16 +10,16 @@ use Rattle.little.specs.Width.{bitsOf}
 use Rattle.alu.specs.declared.Arith.{Arith}
 use Rattle.alu.specs.declared.Arith.the-variants.{Add, Adc, Sub, Sbc, And, Xor, Or, Cp}
 use Rattle.alu.specs.declared.Shift.{Shift}
-use Rattle.alu.specs.declared.Flags.{Flags}
-use Rattle.alu.specs.Width.{low, negative}
-use Rattle.alu.specs.Sums.{computedOf, sumOf, differenceOf}
+use Rattle.flags.specs.declared.Flags.{Flags}
+use Rattle.flags.specs.Width.{low, negative}
+use Rattle.flags.specs.Sums.{computedOf, sumOf, differenceOf}
 use Rattle.alu.specs.Logic.{plain, andOf, orOf, xorOf}
 use Rattle.alu.specs.Operation.{operated}
 use Rattle.alu.specs.Shift.{shifted, shiftOf}
 use Rattle.alu.specs.Count.{incOf, decOf}
 use Rattle.alu.specs.Extend.{extzOf, extsOf}
 use Rattle.alu.proofs.Shifts.{shift-lt}
-use Rattle.alu.proofs.Widths.{half-le}
+use Rattle.flags.proofs.Widths.{half-le}
 
 pub sum-lt : (k a b : ℕ) (c : Bool) → sumOf k a b c .value < 2 ^ k
 unfolding sumOf computedOf

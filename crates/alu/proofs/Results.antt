@@ -11,16 +11,16 @@ use borrow.Author.Tests.{eq-eqb, ne-eqb, lt-ltb, le-ltb}
 use Rattle.alu.specs.declared.Arith.{Arith}
 use Rattle.alu.specs.declared.Arith.the-variants.{Add, Adc, Sub, Sbc, And, Xor, Or, Cp}
 use Rattle.alu.specs.declared.Shift.{Shift}
-use Rattle.alu.specs.declared.Computed.{Computed}
-use Rattle.alu.specs.Width.{low, negative, one}
-use Rattle.alu.specs.Sums.{computedOf, sumOf, differenceOf}
+use Rattle.flags.specs.declared.Computed.{Computed}
+use Rattle.flags.specs.Width.{low, negative, one}
+use Rattle.flags.specs.Sums.{computedOf, sumOf, differenceOf}
 use Rattle.alu.specs.Logic.{plain, andOf, orOf, xorOf}
 use Rattle.alu.specs.Operation.{operated}
 use Rattle.alu.specs.Shift.{shiftOf}
-use Rattle.alu.specs.declared.Flags.{Flags}
-use Rattle.alu.specs.Flag.{keepingC}
+use Rattle.flags.specs.declared.Flags.{Flags}
+use Rattle.flags.specs.Flag.{keepingC}
 use Rattle.alu.specs.Count.{countedOf, incOf, decOf}
-use Rattle.alu.proofs.Meaning.{difference-is-exact}
+use Rattle.flags.proofs.Meaning.{difference-is-exact}
 
 -- Z is 1 exactly where the value is 0, and S is the value's top bit
 pub record Judged (k : ℕ) (r : Computed) : Type 0 where

@@ -14,11 +14,12 @@ use Rattle.alu.specs.declared.Shift.{Shift}
 use Rattle.alu.specs.Extend.{extzOf, extsOf}
 use Rattle.alu.specs.declared.Shift.the-variants.{Sla, Sra, Sll, Srl}
 use Rattle.alu.specs.declared.shifter.Shifted.{Shifted}
-use Rattle.alu.specs.Width.{low, negative, weighed}
-use Rattle.alu.specs.Sums.{computedOf}
+use Rattle.flags.specs.Width.{low, negative, weighed}
+use Rattle.flags.specs.Sums.{computedOf}
 use Rattle.alu.specs.Shift.{shifted, onePlace, shiftBy, shiftOf}
-use Rattle.alu.specs.Meaning.{off, EndsWithAPlace, LeftMultiplies, RightDivides, SignedRightDivides, ExtsKeepsNumber}
-use Rattle.alu.proofs.Widths.{twice, bits-pos, half-le, half-top}
+use Rattle.flags.specs.Meaning.{off}
+use Rattle.alu.specs.Meaning.{EndsWithAPlace, LeftMultiplies, RightDivides, SignedRightDivides, ExtsKeepsNumber}
+use Rattle.flags.proofs.Widths.{twice, bits-pos, half-le, half-top}
 use Rattle.alu.proofs.Ranges.{extz-half}
 use Rattle.alu.proofs.Shifts.{shift-add}
 

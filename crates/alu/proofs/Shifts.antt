@@ -5,15 +5,15 @@ use Prim.Native.Nat.{ℕ, zero, suc, _+_, _-_, _*_, _/_, _%_, _^_, _≤_, _<_, z
 use native.Mathlib.Nat.{zero-add, suc-add, le-refl, mod-lt, mod-eq-of-lt, not-suc-le-zero}
 use native.Mathlib.Omega.{arith}
 use lib.Pow.{pow-pos}
-use Rattle.alu.proofs.Widths.{twice, size-le, bits-pos}
+use Rattle.flags.proofs.Widths.{twice, size-le, bits-pos}
 use Rattle.alu.specs.declared.Shift.the-variants.{Sla, Sra, Sll, Srl}
-use Rattle.alu.specs.Width.{low, negative, weighed, one}
+use Rattle.flags.specs.Width.{low, negative, weighed, one}
 use Rattle.little.specs.declared.Size.{Size}
 use Rattle.little.specs.Width.{bitsOf}
 use lib.Dec.{leb, eqb, lit≤}
 use borrow.Author.Tests.{le-leb, lt-leb, leb-false, eqb-true, eqb-false}
 use Rattle.alu.specs.Logic.{plain}
-use Rattle.alu.specs.Sums.{computedOf}
+use Rattle.flags.specs.Sums.{computedOf}
 use native.Mathlib.Numerals.{sub-one}
 use Rattle.alu.specs.declared.Shift.{Shift}
 use Rattle.alu.specs.declared.shifter.Shifted.{Shifted}

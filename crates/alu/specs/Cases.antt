@@ -1,7 +1,8 @@
 -- Worked cases, as one table: what is computed, and the value and the F that it must have. All numbers but the widths are in hex.
 use Rattle.little.specs.Words.{Bool, true, false, _&&_, List, [], _∷_, ℕ, zero, suc, _+_, _*_, _^_, eqb}
-use Rattle.alu.specs.{declared.Computed.Computed, declared.Flags.Flags, Flag.byteOf, Flag.flagsOf, Flag.rcfOf, Flag.scfOf, Flag.ccfOf}
-use Rattle.alu.specs.{Flag.zcfOf, Flag.copiedOf, Flag.comparedOf, Width.one, Condition.holdsOf, Operation.operated, Shift.shiftOf}
+use Rattle.flags.specs.{declared.Computed.Computed, declared.Flags.Flags, Flag.byteOf, Flag.flagsOf, Flag.rcfOf, Flag.scfOf, Flag.ccfOf}
+use Rattle.flags.specs.{Flag.zcfOf, Flag.copiedOf, Flag.comparedOf, Width.one, Condition.holdsOf}
+use Rattle.alu.specs.{Operation.operated, Shift.shiftOf}
 use Rattle.alu.specs.{Shift.placesOf, Count.incOf, Count.decOf, Change.changed}
 use Rattle.alu.specs.declared.Arith.the-variants.{Add, Adc, Sub, Sbc, And, Xor, Or, Cp}
 use Rattle.alu.specs.declared.Shift.the-variants.{Sla, Sra, Sll, Srl}

@@ -1,6 +1,7 @@
 -- What is made of one value of k bits by itself; `old` are the flags before.
 use Rattle.little.specs.Words.{ℕ}
-use Rattle.alu.specs.{declared.Computed.Computed, declared.Flags.Flags, declared.change.Change.Change, Count.stepsOf, Count.incOf, Count.decOf}
+use Rattle.flags.specs.{declared.Computed.Computed, declared.Flags.Flags}
+use Rattle.alu.specs.{declared.change.Change.Change, Count.stepsOf, Count.incOf, Count.decOf}
 use Rattle.alu.specs.{Shift.placesOf, Shift.shiftOf, Extend.extzOf, Extend.extsOf}
 use Rattle.alu.specs.declared.change.Change.the-variants.{Inc, Dec, ShiftBy, Extz, Exts}
 

@@ -1,6 +1,6 @@
 -- INC and DEC by n.
 use Rattle.little.specs.Words.{ℕ, _%_, false, cond, eqb}
-use Rattle.alu.specs.{declared.Computed.Computed, declared.Flags.Flags, Flag.keepingC, Sums.sumOf, Sums.differenceOf}
+use Rattle.flags.specs.{declared.Computed.Computed, declared.Flags.Flags, Flag.keepingC, Sums.sumOf, Sums.differenceOf}
 
 -- by how many a code counts: 0 means 8
 abbrev pub stepsOf : ℕ → ℕ

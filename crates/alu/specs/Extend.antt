@@ -1,6 +1,6 @@
 -- EXTZ and EXTS: the low half of k bits, with zeros or with its sign above it.
 use Rattle.little.specs.Words.{ℕ, _+_, _-_, _/_, _^_, cond}
-use Rattle.alu.specs.Width.{low, negative}
+use Rattle.flags.specs.Width.{low, negative}
 
 -- EXTZ: the low half, with zeros above it
 unfoldable pub extzOf : ℕ → ℕ → ℕ

@@ -1,7 +1,3 @@
-pub mod Width
-pub mod Flag
-pub mod Condition
-pub mod Sums
 pub mod Parity
 pub mod Logic
 pub mod Operation

@@ -1,6 +1,7 @@
 -- AND, OR and XOR of two operands of k bits.
 use Rattle.little.specs.Words.{ℕ, Bool, true, false, bitAnd, bitOr, bitXor}
-use Rattle.alu.specs.{declared.Computed.Computed, Width.low, Sums.computedOf, Parity.parityOf}
+use Rattle.flags.specs.{declared.Computed.Computed, Width.low, Sums.computedOf}
+use Rattle.alu.specs.{Parity.parityOf}
 
 -- a result of k bits whose V is its parity, N 0
 unfoldable pub plain : ℕ → ℕ → Bool → Bool → Computed

@@ -1,6 +1,7 @@
 -- The eight operations on two operands of k bits, with the carry that was.
 use Rattle.little.specs.Words.{ℕ, Bool, false}
-use Rattle.alu.specs.{declared.Computed.Computed, declared.Arith.Arith, Sums.sumOf, Sums.differenceOf, Logic.andOf, Logic.orOf, Logic.xorOf}
+use Rattle.flags.specs.{declared.Computed.Computed, Sums.sumOf, Sums.differenceOf}
+use Rattle.alu.specs.{declared.Arith.Arith, Logic.andOf, Logic.orOf, Logic.xorOf}
 use Rattle.alu.specs.declared.Arith.the-variants.{Add, Adc, Sub, Sbc, And, Xor, Or, Cp}
 
 -- ADD, SUB and CP leave the carry out, ADC and SBC take it; CP is SUB, and its value is put nowhere (step)

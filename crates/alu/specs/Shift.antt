@@ -1,6 +1,7 @@
 -- SLA, SRA, SLL and SRL by some places.
 use Rattle.little.specs.Words.{ℕ, zero, suc, _+_, _*_, _/_, _%_, _^_, Bool, false, cond, eqb}
-use Rattle.alu.specs.{declared.Computed.Computed, declared.Shift.Shift, Width.low, Width.negative, Width.weighed, Width.one, Logic.plain}
+use Rattle.flags.specs.{declared.Computed.Computed, Width.low, Width.negative, Width.weighed, Width.one}
+use Rattle.alu.specs.{declared.Shift.Shift, Logic.plain}
 use Rattle.alu.specs.declared.Shift.the-variants.{Sla, Sra, Sll, Srl}
 use Rattle.alu.specs.declared.shifter.Shifted.{Shifted}
 

@@ -1,18 +1,18 @@
 // What is made of one value by itself: INC, DEC, shifts and extensions.
 ghost use mathlib.Core.Path.{_≡_};
 ghost use Rattle.little.specs.Width.{bitsOf};
-ghost use Rattle.alu.specs.Flag.{byteOf, flagsOf};
+ghost use Rattle.flags.specs.Flag.{byteOf, flagsOf};
 ghost use Rattle.alu.specs.Change.{keeping, changed};
-use crate::Computed;
-use crate::Flags;
+use flags::Computed;
+use flags::Flags;
 use crate::Shift;
 use crate::count::dec;
 use crate::count::inc;
 use crate::count::steps_of;
 use crate::extend::exts;
 use crate::extend::extz;
-use crate::flag::settled;
-use crate::flag::unpack;
+use flags::flag::settled;
+use flags::flag::unpack;
 use crate::shifter::shift_by;
 use little::Size;
 

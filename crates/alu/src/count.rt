@@ -2,11 +2,11 @@
 ghost use mathlib.Core.Path.{_≡_};
 ghost use Rattle.little.specs.Width.{bitsOf};
 ghost use Rattle.alu.specs.Count.{stepsOf, countedOf, incOf, decOf};
-ghost use Rattle.alu.specs.Flag.{keepingC};
-use crate::Computed;
-use crate::Flags;
-use crate::sum::add;
-use crate::sum::sub;
+ghost use Rattle.flags.specs.Flag.{keepingC};
+use flags::Computed;
+use flags::Flags;
+use flags::sum::add;
+use flags::sum::sub;
 use little::Size;
 
 // By how many a code counts: 0 means 8.

@@ -1,36 +1,23 @@
-// Arithmetic, logic and shifts of the three sizes, with their flags.
+// Operations on two operands, and changes of one, of the three sizes, with their flags.
 ghost use mathlib.Core.Path.{_≡_};
 ghost use Rattle.little.specs.Width.{bitsOf};
 ghost use Rattle.alu.specs.Operation.{operated};
 pub use crate::change::Change;
 pub use crate::change::changed;
-pub use crate::condition::holds;
-pub use crate::flag::ccf;
-pub use crate::flag::compare_flags;
-pub use crate::flag::copy_flags;
-pub use crate::flag::pack;
-pub use crate::flag::rcf;
-pub use crate::flag::scf;
-pub use crate::flag::settled;
-pub use crate::flag::unpack;
-pub use crate::flag::zcf;
 use crate::logic::and;
 use crate::logic::or;
 use crate::logic::xor;
-use crate::sum::add;
-pub use crate::sum::sub;
+use flags::Computed;
+use flags::sum::add;
+use flags::sum::sub;
 use little::Size;
 
 mod change;
-mod condition;
 mod count;
 mod even;
 mod extend;
-mod flag;
 mod logic;
 mod shifter;
-mod sum;
-mod width;
 
 // The operations on two operands, in the order of their codes.
 pub enum Arith {
@@ -50,22 +37,6 @@ pub enum Shift {
     Sra,
     Sll,
     Srl,
-}
-
-// The flags, one by one.
-pub struct Flags {
-    pub s: bool,
-    pub z: bool,
-    pub h: bool,
-    pub v: bool,
-    pub n: bool,
-    pub c: bool,
-}
-
-// A result of some size, and the flags after it.
-pub struct Computed {
-    pub value: u32,
-    pub flags: Flags,
 }
 
 // The eight operations on two operands, with the carry that was.

@@ -3,10 +3,10 @@ ghost use mathlib.Core.Path.{_≡_};
 ghost use mathlib.Core.Bool.{false};
 ghost use Rattle.little.specs.Width.{bitsOf};
 ghost use Rattle.alu.specs.Logic.{plain, andOf, orOf, xorOf};
-use crate::Computed;
+use flags::Computed;
 use crate::even::parity;
-use crate::width::judged;
-use crate::width::low;
+use flags::width::judged;
+use flags::width::low;
 use little::Size;
 
 // A result of logic: its V is its parity, with N and C 0.

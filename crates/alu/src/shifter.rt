@@ -2,16 +2,16 @@
 ghost use mathlib.Core.Path.{_≡_};
 ghost use Prim.Native.Nat.{ℕ, _-_, _^_, _≤_, _<_};
 ghost use Rattle.little.specs.Width.{bitsOf};
-ghost use Rattle.alu.specs.Width.{weighed};
+ghost use Rattle.flags.specs.Width.{weighed};
 ghost use Rattle.alu.specs.inner.Place.{goesLeft, comesIn, Goes};
 ghost use Rattle.alu.specs.Shift.{placesOf, shifted, joined, leftOf, rightOf, onePlace, shiftBy, shiftOf};
-use crate::Computed;
+use flags::Computed;
 use crate::Shift;
 use crate::even::parity;
-use crate::width::judged;
-use crate::width::low;
-use crate::width::one;
-use crate::width::top;
+use flags::width::judged;
+use flags::width::low;
+use flags::width::one;
+use flags::width::top;
 use little::Size;
 
 // A value, and the bit that was shifted out of it last.

@@ -2,7 +2,7 @@
 use Rattle.little.specs.Words.{ℕ, List, Bool, false, cond, not, _&&_, eqb}
 use Rattle.little.specs.{declared.Size.Size, Width.bitsOf, Width.bytesOf}
 use Rattle.little.specs.declared.Size.the-variants.{Byte, Word, Long}
-use Rattle.alu.specs.{Flag.copiedOf, Flag.comparedOf, Sums.differenceOf}
+use Rattle.flags.specs.{Flag.copiedOf, Flag.comparedOf, Sums.differenceOf}
 use Rattle.code.specs.declared.Form.{Form}
 use Rattle.memory.specs.Access.{loadOf}
 use Rattle.state.specs.{declared.Bank.Bank, declared.State.State, State.withCounter, Register.registerAt, Register.getRegister, Register.setRegister}

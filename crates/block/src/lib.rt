@@ -4,7 +4,7 @@ ghost use mathlib.Core.Bool.{false, not};
 ghost use lib.Dec.{eqb};
 ghost use Rattle.little.specs.declared.Size.the-variants.{Word};
 ghost use Rattle.little.specs.Width.{bitsOf};
-ghost use Rattle.alu.specs.Sums.{differenceOf};
+ghost use Rattle.flags.specs.Sums.{differenceOf};
 ghost use Rattle.state.specs.declared.State.{State};
 ghost use Rattle.state.specs.Register.{registerAt};
 ghost use Rattle.state.specs.State.{banked};
@@ -14,7 +14,7 @@ ghost use Rattle.operand.specs.Operand.{pointerOf, storing};
 ghost use Rattle.memory.specs.Place.{placeOf};
 ghost use Rattle.block.specs.inner.Again.{inRom, againOf};
 ghost use Rattle.block.specs.Block.{counted, steppedOf, moved, copied, accumulatorIn, compared, roundOf, goesOn, endsAt};
-use alu::Computed;
+use flags::Computed;
 use answer::Answer;
 use code::Form;
 use little::ADDRESSES;
@@ -73,8 +73,8 @@ fn copied(f: Form, bank: Bank, flags: &mut u8, regs: &mut [u32; 20])
     moved(f, f.from, bank, &mut *regs);
     moved(f, f.to, bank, &mut *regs);
     counted(bank, &mut *regs);
-    let old = alu::unpack(*flags);
-    *flags = alu::pack(alu::copy_flags(old, more(bank, &*regs)));
+    let old = flags::unpack(*flags);
+    *flags = flags::pack(flags::copy_flags(old, more(bank, &*regs)));
 }
 
 // A, WA or XWA less v. The size is written out, so that each arm is compiled for its own.
@@ -82,9 +82,9 @@ fn difference(bank: Bank, regs: &[u32; 20], size: Size, v: u32) -> Computed
     ensures { λ r. ⌜ r ≡ differenceOf (bitsOf size) (accumulatorIn (now (regs .entry)) bank size) v false ⌝ }
 {
     match size {
-        Size::Byte => alu::sub(Size::Byte, state::read(regs, bank, Size::Byte, 1), v, false),
-        Size::Word => alu::sub(Size::Word, state::read(regs, bank, Size::Word, 0), v, false),
-        Size::Long => alu::sub(Size::Long, state::read(regs, bank, Size::Long, 0), v, false),
+        Size::Byte => flags::sub(Size::Byte, state::read(regs, bank, Size::Byte, 1), v, false),
+        Size::Word => flags::sub(Size::Word, state::read(regs, bank, Size::Word, 0), v, false),
+        Size::Long => flags::sub(Size::Long, state::read(regs, bank, Size::Long, 0), v, false),
     }
 }
 
@@ -97,8 +97,8 @@ fn compared(f: Form, v: u32, bank: Bank, flags: &mut u8, regs: &mut [u32; 20])
     let found = d.flags;
     moved(f, f.from, bank, &mut *regs);
     counted(bank, &mut *regs);
-    let old = alu::unpack(*flags);
-    *flags = alu::pack(alu::compare_flags(old, found, more(bank, &*regs)));
+    let old = flags::unpack(*flags);
+    *flags = flags::pack(flags::compare_flags(old, found, more(bank, &*regs)));
 }
 
 // The second half of a copy's round.
@@ -174,7 +174,7 @@ fn goes_on(f: Form, bank: Bank, flags: u8, regs: &[u32; 20]) -> bool
         if f.copies {
             return more(bank, regs);
         }
-        let now = alu::unpack(flags);
+        let now = flags::unpack(flags);
         return more(bank, regs) & !now.z;
     }
     false

@@ -5,8 +5,8 @@ use mathlib.Core.List.{List, [], _∷_}
 use mathlib.Core.Bool.{true, false}
 use native.Mathlib.Omega.{arith}
 use Rattle.little.specs.declared.Size.the-variants.{Byte}
-use Rattle.alu.specs.Flag.{byteOf, flagsOf}
-use Rattle.alu.specs.Sums.{computedOf, differenceOf}
+use Rattle.flags.specs.Flag.{byteOf, flagsOf}
+use Rattle.flags.specs.Sums.{computedOf, differenceOf}
 use Rattle.little.specs.Bytes.{valueOf, bytesFrom, replaced}
 use Rattle.memory.specs.Place.{placeOf}
 use Rattle.memory.specs.Access.{loadOf, storeOf, ramAfter, codeAt}

@@ -6,10 +6,10 @@ use Rattle.memory.specs.Place.{placeOf}
 use Rattle.memory.specs.Access.{loadOf, storeOf, ramAfter, codeAt}
 use Rattle.state.specs.State.{zeroState, validOf, longOf, withLong, withCounter, withBank, withBothFlags, withFlags}
 use Rattle.state.specs.Register.{getBits, setBits, slotIn, setSlot, slotOf, registerAt, setRegister}
-use Rattle.alu.specs.Flag.{byteOf, flagsOf}
-use Rattle.alu.specs.Condition.{basic, holdsOf}
+use Rattle.flags.specs.Flag.{byteOf, flagsOf}
+use Rattle.flags.specs.Condition.{basic, holdsOf}
 use Rattle.alu.specs.Parity.{onesOf, evenOnes, parityOf}
-use Rattle.alu.specs.Sums.{computedOf, sumOf, differenceOf}
+use Rattle.flags.specs.Sums.{computedOf, sumOf, differenceOf}
 use Rattle.alu.specs.Logic.{plain, andOf, orOf, xorOf}
 use Rattle.alu.specs.Operation.{operated}
 use Rattle.alu.specs.Shift.{placesOf, shiftBy, shiftOf}

@@ -1,7 +1,8 @@
 -- Loads, stores, operations on two operands and changes of one (alu/Change): what is put, and where.
 use Rattle.little.specs.Words.{ℕ, List, Bool, true, false, cond}
 use Rattle.little.specs.{declared.Size.Size, Width.bitsOf}
-use Rattle.alu.specs.{declared.Computed.Computed, declared.Arith.Arith, Operation.operated, Change.changed}
+use Rattle.flags.specs.{declared.Computed.Computed}
+use Rattle.alu.specs.{declared.Arith.Arith, Operation.operated, Change.changed}
 use Rattle.alu.specs.declared.Arith.the-variants.{Add, Adc, Sub, Sbc, And, Xor, Or, Cp}
 use Rattle.code.specs.declared.{Use.Use, Operand.Operand, Operand.the-variants.Register}
 use Rattle.code.specs.declared.Use.the-variants.{Number, From, Load, Compute, Changed}

@@ -1,6 +1,6 @@
 -- Banks, flags and jumps: what changes the counter, the bank and the flags alone.
 use Rattle.little.specs.Words.{ℕ, _+_, cond, List}
-use Rattle.alu.specs.{Condition.holdsOf, Flag.rcfOf, Flag.scfOf, Flag.ccfOf, Flag.zcfOf}
+use Rattle.flags.specs.{Condition.holdsOf, Flag.rcfOf, Flag.scfOf, Flag.ccfOf, Flag.zcfOf}
 use Rattle.state.specs.{declared.State.State, State.withBank, State.withCounter}
 use Rattle.code.specs.declared.Control.{Control}
 use Rattle.code.specs.declared.Control.the-variants.{Nop, Incf, Decf, Ldf, Rcf, Scf, Ccf, Zcf, Exf, Jp16, Jp24, Jr, Jrl}

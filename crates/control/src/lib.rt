@@ -3,13 +3,13 @@ ghost use mathlib.Core.Path.{_≡_};
 ghost use mathlib.Core.List.{List};
 ghost use Prim.Native.Nat.{ℕ, _+_, _%_, _^_};
 ghost use Rattle.little.specs.Width.{bitsOf};
-ghost use Rattle.alu.specs.Flag.{byteOf};
+ghost use Rattle.flags.specs.Flag.{byteOf};
 ghost use Rattle.state.specs.declared.State.{State};
 ghost use Rattle.state.specs.inner.Lent.{controlled, flaggedAt};
 ghost use Rattle.operand.specs.inner.Does.{Does};
 ghost use Rattle.operand.specs.Operand.{displaced};
 ghost use Rattle.control.specs.Control.{jumpOf, controlOf};
-use alu::Flags;
+use flags::Flags;
 use answer::Answer;
 use code::Control;
 use little::ADDRESSES;
@@ -31,7 +31,7 @@ pub fn jump(flags: u8, counter: &mut u32, cc: u8, size: Size, d: u32) -> Answer
         (flaggedAt s (now (counter .entry)) flags) ram
         a (flaggedAt s (now (counter .exit)) flags) ram) ⌝ }
 {
-    if alu::holds(alu::unpack(flags), cc) {
+    if flags::holds(flags::unpack(flags), cc) {
         *counter = displace(size, *counter, d);
     }
     Answer::Done
@@ -55,7 +55,7 @@ fn select(bank: &mut u8, n: u32) -> Answer
 fn set(flags: &mut u8, new: Flags) -> Answer
     ensures { λ a. ⌜ (a ≡ Answer.Done) × (now (flags .exit) ≡ byteOf new) ⌝ }
 {
-    *flags = alu::pack(new);
+    *flags = flags::pack(new);
     Answer::Done
 }
 
@@ -80,17 +80,17 @@ pub fn control(
         (controlled s (now (counter .entry)) (now (bank .entry)) (now (flags .entry)) (now (spare .entry))) ram
         a (controlled s (now (counter .exit)) (now (bank .exit)) (now (flags .exit)) (now (spare .exit))) ram) ⌝ }
 {
-    let f = alu::unpack(*flags);
+    let f = flags::unpack(*flags);
     let b = *bank as u32;
     match what {
         Control::Nop => Answer::Done,
         Control::Incf => select(bank, b + 1),
         Control::Decf => select(bank, b + 3),
         Control::Ldf => select(bank, number),
-        Control::Rcf => set(flags, alu::rcf(f)),
-        Control::Scf => set(flags, alu::scf(f)),
-        Control::Ccf => set(flags, alu::ccf(f)),
-        Control::Zcf => set(flags, alu::zcf(f)),
+        Control::Rcf => set(flags, flags::rcf(f)),
+        Control::Scf => set(flags, flags::scf(f)),
+        Control::Ccf => set(flags, flags::ccf(f)),
+        Control::Zcf => set(flags, flags::zcf(f)),
         Control::Exf => exchange(flags, spare),
         Control::Jp16 => go(counter, number),
         Control::Jp24 => go(counter, number),

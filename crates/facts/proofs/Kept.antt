@@ -5,9 +5,9 @@ use mathlib.Core.List.{List}
 use native.Mathlib.Omega.{arith}
 use lib.ListN.{length}
 use Rattle.little.specs.declared.Size.{Size}
-use Rattle.alu.specs.Flag.{byteOf}
-use Rattle.alu.specs.declared.Flags.{Flags}
-use Rattle.alu.proofs.Packed.{packed-bits, packed-lt}
+use Rattle.flags.specs.Flag.{byteOf}
+use Rattle.flags.specs.declared.Flags.{Flags}
+use Rattle.flags.proofs.Packed.{packed-bits, packed-lt}
 use Rattle.memory.specs.Access.{codeAt}
 use Rattle.state.specs.State.{withCounter, withBank, withFlags, withBothFlags}
 use Rattle.state.specs.Register.{setRegister}

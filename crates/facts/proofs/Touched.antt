@@ -12,9 +12,9 @@ use Rattle.little.specs.declared.Size.{Size}
 use Rattle.little.specs.declared.Size.the-variants.{Byte, Word, Long}
 use Rattle.little.specs.Width.{bytesOf}
 use Rattle.little.specs.Bytes.{valueOf}
-use Rattle.alu.specs.Flag.{byteOf}
-use Rattle.alu.specs.declared.Flags.{Flags}
-use Rattle.alu.specs.declared.Computed.{Computed}
+use Rattle.flags.specs.Flag.{byteOf}
+use Rattle.flags.specs.declared.Flags.{Flags}
+use Rattle.flags.specs.declared.Computed.{Computed}
 use Rattle.alu.specs.declared.Arith.{Arith}
 use Rattle.memory.specs.Access.{loadOf, loadFrom, storeOf, ramAfter, operandAt}
 use Rattle.memory.specs.declared.Place.{Place}
@@ -35,7 +35,7 @@ use Rattle.code.specs.declared.Stack.the-variants.{PushF, PopF, Push, Pop, Call
 use Rattle.code.specs.declared.Use.{Use}
 use Rattle.code.specs.declared.Use.the-variants.{Number, From, Load, Compute, Changed}
 use Rattle.code.specs.declared.Side.the-variants.{First, Second, With}
-use Rattle.alu.specs.Condition.{holdsOf}
+use Rattle.flags.specs.Condition.{holdsOf}
 use Rattle.operand.specs.Try.{Try, did, no, andThen, withLoaded}
 use Rattle.operand.specs.Operand.{pointerOf, valueAt, valueIn, storing, storedBy, putAt}
 use Rattle.operand.specs.Round.{plus}

@@ -5,9 +5,9 @@ use Rattle.memory.specs.Access.{loadOf, codeAt}
 use Rattle.memory.specs.Place.{placeOf}
 use Rattle.state.specs.Register.{getBits, setBits, slotIn, setSlot, slotOf, registerAt, setRegister}
 use Rattle.state.specs.State.{zeroState, resetState, validOf, longOf, withLong, withCounter, withBothFlags, withFlags}
-use Rattle.alu.specs.Flag.{byteOf, flagsOf}
+use Rattle.flags.specs.Flag.{byteOf, flagsOf}
 use Rattle.alu.specs.Operation.{operated}
-use Rattle.alu.specs.Sums.{computedOf, sumOf}
+use Rattle.flags.specs.Sums.{computedOf, sumOf}
 use Rattle.code.specs.Listed.{bankNumberRows, bankRows, flagRows, constantRows, stackRows, jumpRows, relativeRows, registerFormRows, absoluteRows, memoryFormRows, memoryAtRows, storeFormRows, aloneRows, memoryFirstRows, firstRows, decodeOf}
 use Rattle.code.specs.Registers.{placesRows, registerRows}
 use Rattle.code.specs.Rows.{lookup}

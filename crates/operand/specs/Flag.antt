@@ -1,5 +1,5 @@
 -- The flags in the state: F as six flags, changed and packed again.
-use Rattle.alu.specs.{declared.Flags.Flags, Flag.byteOf, Flag.flagsOf}
+use Rattle.flags.specs.{declared.Flags.Flags, Flag.byteOf, Flag.flagsOf}
 use Rattle.state.specs.{declared.State.State, State.withFlags, State.withBothFlags}
 
 -- the six flags of a state

@@ -2,7 +2,7 @@
 use Rattle.little.specs.Words.{ℕ, _+_, _-_, _%_, _^_, List, cond}
 use Rattle.answer.specs.declared.{Answer.Answer, Answer.the-variants.Done, Answer.the-variants.Refused}
 use Rattle.little.specs.declared.{Size.Size, Size.the-variants.Long}
-use Rattle.alu.specs.Width.{negative}
+use Rattle.flags.specs.Width.{negative}
 use Rattle.memory.specs.{declared.Loaded.Loaded, declared.Loaded.the-variants.Value, Access.loadOf, Access.storeOf, Access.ramAfter}
 use Rattle.state.specs.{declared.Bank.Bank, declared.State.State, Register.registerAt, Register.setRegister}
 use Rattle.code.specs.declared.{Base.Base, MemoryForm.MemoryForm, Operand.Operand}

@@ -10,9 +10,9 @@ use borrow.Author.Tests.{ltb-true, ltb-false}
 use Rattle.little.specs.declared.Size.{Size}
 use Rattle.little.specs.declared.Size.the-variants.{Byte, Word, Long}
 use Rattle.little.specs.Width.{bytesOf}
-use Rattle.alu.specs.Flag.{byteOf}
-use Rattle.alu.specs.declared.Flags.{Flags}
-use Rattle.alu.proofs.Packed.{packed-lt}
+use Rattle.flags.specs.Flag.{byteOf}
+use Rattle.flags.specs.declared.Flags.{Flags}
+use Rattle.flags.proofs.Packed.{packed-lt}
 use Rattle.state.specs.State.{longOf, withFlags, withBothFlags}
 use Rattle.state.specs.Sound.{Sound}
 use Rattle.state.specs.Register.{indexOf, slotOf, namedIn, slotIn, registerAt, getRegister, setRegister}

@@ -15,11 +15,11 @@ use Rattle.answer.specs.declared.Why.the-variants as why
 use Rattle.little.specs.declared.Size.{Size}
 use Rattle.little.specs.declared.Size.the-variants.{Byte, Word, Long}
 use Rattle.little.specs.Width.{bitsOf, bytesOf}
-use Rattle.alu.specs.Flag.{comparedOf}
-use Rattle.alu.specs.Sums.{differenceOf}
+use Rattle.flags.specs.Flag.{comparedOf}
+use Rattle.flags.specs.Sums.{differenceOf}
 use Rattle.alu.specs.Operation.{operated}
-use Rattle.alu.specs.declared.Flags.{Flags}
-use Rattle.alu.proofs.Packed.{unpacked}
+use Rattle.flags.specs.declared.Flags.{Flags}
+use Rattle.flags.proofs.Packed.{unpacked}
 use Rattle.alu.proofs.Results.{compared-same}
 use Rattle.memory.specs.Place.{placeOf}
 use Rattle.memory.specs.Access.{loadOf, loadFrom, storeOf, storeTo, ramAfter, operandAt}

@@ -16,8 +16,8 @@ use Rattle.answer.specs.declared.Why.{Why}
 use Rattle.little.specs.declared.Size.{Size}
 use Rattle.little.specs.declared.Size.the-variants.{Byte, Word, Long}
 use Rattle.little.specs.Width.{bitsOf, bytesOf}
-use Rattle.alu.specs.Flag.{comparedOf}
-use Rattle.alu.specs.Sums.{differenceOf}
+use Rattle.flags.specs.Flag.{comparedOf}
+use Rattle.flags.specs.Sums.{differenceOf}
 use Rattle.memory.specs.Place.{placeOf}
 use Rattle.memory.specs.Access.{loadOf, storeOf, ramAfter, codeAt}
 use Rattle.memory.specs.declared.Place.{Place}

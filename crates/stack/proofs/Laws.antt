@@ -10,7 +10,7 @@ use Rattle.answer.specs.declared.Why.{Why}
 use Rattle.little.specs.declared.Size.{Size}
 use Rattle.little.specs.declared.Size.the-variants.{Long}
 use Rattle.little.specs.Width.{bytesOf}
-use Rattle.alu.specs.Flag.{flagsOf}
+use Rattle.flags.specs.Flag.{flagsOf}
 use Rattle.memory.specs.Access.{loadOf, storeOf, ramAfter}
 use Rattle.memory.specs.declared.Loaded.the-variants as loaded
 use Rattle.state.specs.declared.State.{State}

@@ -1,7 +1,7 @@
 -- Pushes, pops, calls and returns.
 use Rattle.little.specs.Words.{ℕ, _%_, _^_, List}
 use Rattle.little.specs.{declared.Size.Size, declared.Size.the-variants.Byte, declared.Size.the-variants.Long, Width.bytesOf}
-use Rattle.alu.specs.Flag.{byteOf, flagsOf}
+use Rattle.flags.specs.Flag.{byteOf, flagsOf}
 use Rattle.memory.specs.Access.{loadOf}
 use Rattle.state.specs.{declared.State.State, State.withCounter, State.withFlags, Register.getRegister, Register.setRegister}
 use Rattle.operand.specs.{Try.Try, Try.did, Try.andThen, Try.withLoaded, Operand.displaced, Operand.pointerOf, Operand.storing, Flag.flagsIn}

@@ -2,7 +2,7 @@
 ghost use mathlib.Core.Path.{_≡_};
 ghost use Rattle.little.specs.Width.{bytesOf};
 ghost use Rattle.little.specs.declared.Size.the-variants.{Byte, Long};
-ghost use Rattle.alu.specs.Flag.{byteOf, flagsOf};
+ghost use Rattle.flags.specs.Flag.{byteOf, flagsOf};
 ghost use Rattle.state.specs.declared.State.{State};
 ghost use Rattle.state.specs.State.{banked, withCounter, withFlags};
 ghost use Rattle.state.specs.inner.Lent.{bankedWith, bankedAt, bankedAtWith};
@@ -118,7 +118,7 @@ fn pop_f(bank: Bank, regs: &mut [u32; 20], flags: &mut u8, ram: &[u8], rom: &[u8
         Loaded::Value(v) => {
             let f = (v % 256) as u8;
             popped(bank, regs, Size::Byte);
-            *flags = alu::pack(alu::unpack(f));
+            *flags = flags::pack(flags::unpack(f));
             Answer::Done
         }
         Loaded::Refused(w) => Answer::Refused(w),
@@ -142,7 +142,7 @@ pub fn stack(
 {
     match what {
         Stack::PushF => {
-            let f = alu::pack(alu::unpack(*flags));
+            let f = flags::pack(flags::unpack(*flags));
             push(bank, regs, ram, rom, Size::Byte, f as u32)
         }
         Stack::PopF => pop_f(bank, regs, flags, &*ram, rom),

@@ -1,6 +1,7 @@
 -- What stays the same from place to place of a shift: all that one place is made by.
 use Rattle.little.specs.Words.{ℕ, _-_, _^_, _<_, _≡_, Bool, true, false}
-use Rattle.alu.specs.{declared.Shift.Shift, Width.weighed}
+use Rattle.flags.specs.{Width.weighed}
+use Rattle.alu.specs.{declared.Shift.Shift}
 use Rattle.alu.specs.declared.Shift.the-variants.{Sla, Sra, Sll, Srl}
 
 -- whether a shift goes to the left

@@ -1,8 +1,8 @@
 use mathlib.Core.Path.{ap, _∙_}
 use mathlib.Core.Bool.{false}
 use Rattle.little.specs.Width.{bitsOf}
-use Rattle.alu.specs.Sums.{differenceOf}
-use Rattle.alu.specs.Flag.{byteOf, flagsOf, comparedOf}
+use Rattle.flags.specs.Sums.{differenceOf}
+use Rattle.flags.specs.Flag.{byteOf, flagsOf, comparedOf}
 use Rattle.state.specs.State.{withFlags, withBothFlags}
 use Rattle.state.specs.inner.Lent.{bankedWith}
 use Rattle.state.specs.declared.State.{State}

@@ -1,5 +1,5 @@
 use mathlib.Core.Path.{ap, _∙_}
-use Rattle.alu.specs.Flag.{byteOf, flagsOf, copiedOf}
+use Rattle.flags.specs.Flag.{byteOf, flagsOf, copiedOf}
 use Rattle.state.specs.State.{withFlags, withBothFlags}
 use Rattle.state.specs.inner.Lent.{bankedWith}
 use Rattle.state.specs.declared.State.{State}

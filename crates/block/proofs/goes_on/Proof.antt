@@ -2,7 +2,7 @@ use mathlib.Core.Path.{_∙_}
 use mathlib.Core.Bool.{not}
 use lib.Dec.{eqb}
 use Rattle.little.specs.declared.Size.the-variants.{Word}
-use Rattle.alu.specs.Flag.{flagsOf}
+use Rattle.flags.specs.Flag.{flagsOf}
 use Rattle.state.specs.Register.{registerAt}
 use Rattle.block.specs.Block.{goesOn}
 use Rattle.block.proofs.Rounds.{goes-copy, goes-compare, goes-not}

@@ -2,7 +2,8 @@
 use Rattle.little.specs.Words.{ℕ, List, cond}
 use Rattle.answer.specs.declared.{Answer.Answer, Answer.the-variants.Done, Answer.the-variants.Refused}
 use Rattle.little.specs.declared.Size.{Size}
-use Rattle.alu.specs.declared.{Computed.Computed, Arith.Arith}
+use Rattle.flags.specs.declared.{Computed.Computed}
+use Rattle.alu.specs.declared.{Arith.Arith}
 use Rattle.memory.specs.Access.{loadOf}
 use Rattle.code.specs.declared.Operand.the-variants.{Register}
 use Rattle.state.specs.{declared.State.State, Register.getRegister, Register.setRegister}

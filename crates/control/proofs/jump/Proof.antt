@@ -3,9 +3,9 @@ use mathlib.Core.Path.{_≡_, refl, sym, _∙_}
 use mathlib.Core.Bool.{true, false, cond}
 use lib.Pow.{mod-mod-pow}
 use Rattle.little.specs.Width.{bitsOf}
-use Rattle.alu.specs.Width.{negative}
-use Rattle.alu.specs.Flag.{flagsOf}
-use Rattle.alu.specs.Condition.{holdsOf}
+use Rattle.flags.specs.Width.{negative}
+use Rattle.flags.specs.Flag.{flagsOf}
+use Rattle.flags.specs.Condition.{holdsOf}
 use Rattle.state.specs.State.{withCounter}
 use Rattle.control.specs.Control.{jumpOf}
 use borrow.Author.Needs.{needs}

@@ -1,6 +1,6 @@
 use mathlib.Core.Path.{ap, sym, _∙_}
 use Rattle.little.specs.declared.Size.the-variants.{Byte}
-use Rattle.alu.specs.Flag.{byteOf, flagsOf}
+use Rattle.flags.specs.Flag.{byteOf, flagsOf}
 use Rattle.state.specs.State.{withFlags, withBothFlags}
 use Rattle.state.specs.inner.Lent.{bankedWith}
 use Rattle.stack.proofs.Laws.{popped-by, not-popped, flags-low}

@@ -8,7 +8,7 @@ use Rattle.alu.proofs.shifter.places.Reads as places
 use Rattle.alu.proofs.shifter.places.Kinds as places-kinds
 use Rattle.alu.proofs.shifter.+places.Lts-places as places-lts
 use Rattle.alu.proofs.shifter.place.Reads as place-reads
-use Rattle.alu.proofs.width.one.Reads as one-reads
+use Rattle.flags.proofs.width.one.Reads as one-reads
 use Rattle.alu.proofs.shifter.+places.{statement}
 use Rattle.alu.proofs.shifter.+places.Tie.{close}
 

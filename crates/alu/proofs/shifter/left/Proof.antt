@@ -1,7 +1,7 @@
 use Prim.Native.Nat.{_-_}
 use native.Mathlib.Omega.{arith}
 use lib.Bits.{and-mask, and-le-r}
-use Rattle.alu.proofs.Widths.{low-twice}
+use Rattle.flags.proofs.Widths.{low-twice}
 use borrow.Author.Needs.{needs}
 use Rattle.alu.proofs.shifter.left.Statement.{statement}
 use Rattle.alu.proofs.shifter.left.Tie as tie

@@ -1,0 +1,9 @@
+pub mod Widths
+pub mod Bools
+pub mod Conditions
+pub mod Half
+pub mod Turned
+pub mod Raised
+pub mod Overflow
+pub mod Meaning
+pub mod Packed

@@ -1,0 +1,15 @@
+-- The sixteen conditions of a jump.
+use Rattle.little.specs.Words.{ℕ, _%_, Bool, false, not, cond, _||_, Bool·beq, [], _∷_, ltb, getD}
+use Rattle.flags.specs.declared.Flags.{Flags}
+
+-- S differs from V
+abbrev pub lessThan : Flags → Bool
+lessThan f = not (Bool·beq (f .s) (f .v))
+
+-- 0 to 7: never, LT, LE, ULE, V, S, Z, C
+unfoldable pub basic : Flags → ℕ → Bool
+basic f n = getD (false ∷ lessThan f ∷ (f .z || lessThan f) ∷ (f .c || f .z) ∷ f .v ∷ f .s ∷ f .z ∷ f .c ∷ []) n false
+
+-- 8 to 15 are their opposites in the same order; of a larger code the low four bits count
+unfoldable pub holdsOf : Flags → ℕ → Bool
+holdsOf f cc = cond (ltb (cc % 16) 8) (basic f (cc % 8)) (not (basic f (cc % 8)))
