@@ -3,17 +3,17 @@ ghost use mathlib.Core.Path.{_≡_};
 ghost use Rattle.little.specs.Width.{bitsOf};
 ghost use Rattle.flags.specs.Flag.{byteOf, flagsOf};
 ghost use Rattle.alu.specs.Change.{keeping, changed};
-use flags::Computed;
-use flags::Flags;
 use crate::Shift;
 use crate::count::dec;
 use crate::count::inc;
 use crate::count::steps_of;
 use crate::extend::exts;
 use crate::extend::extz;
+use crate::shifter::shift_by;
+use flags::Computed;
+use flags::Flags;
 use flags::flag::settled;
 use flags::flag::unpack;
-use crate::shifter::shift_by;
 use little::Size;
 
 // Counts and places are as the code has them.

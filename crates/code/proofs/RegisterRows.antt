@@ -146,6 +146,14 @@ module _ (Y : Type 0) (z : Size) (r a : ℕ) (e : a ≡ 0xC8 + sizeStep z + r) (
   register-walk = by-rows Y (registerRows z (Register r)) 1 (a ∷ []) (can-register z (Register r)) register-rows
 
 -- ---- a change within its range is what its bytes say after the register's
+-- what is said of words and longs only is said of them
+not-byte :
+    (z : Size) (o : Operand) (b : ℕ) (how : Change) → Lists (registerRows z o) b (notByte z (whole (Puts (Changed how)) z o)) →
+    Holds (noByte z) → Lists (registerRows z o) b (whole (Puts (Changed how)) z o)
+not-byte Byte o b how e h = absurd h
+not-byte Word o b how e h = e
+not-byte Long o b how e h = e
+
 module _ (z : Size) (o : Operand) where
   inc-byte : (n : ℕ) → n < 8 → Lists (registerRows z o) (0x60 + n) (whole (Puts (Changed (Inc n))) z o)
   unfolding registerRows lookup
@@ -163,21 +171,10 @@ module _ (z : Size) (o : Operand) where
   unfolding placesRows lookup
   places-byte t = table _ _ 16 refl
 
-extz-byte : (z : Size) (o : Operand) → Holds (noByte z) → Lists (registerRows z o) 0x12 (whole (Puts (Changed Extz)) z o)
-unfolding registerRows lookup
-extz-byte Byte o h = absurd h
-extz-byte Word o h = refl
-extz-byte Long o h = refl
-
-exts-byte : (z : Size) (o : Operand) → Holds (noByte z) → Lists (registerRows z o) 0x13 (whole (Puts (Changed Exts)) z o)
-unfolding registerRows lookup
-exts-byte Byte o h = absurd h
-exts-byte Word o h = refl
-exts-byte Long o h = refl
-
 pub of-change : (how : Change) (z : Size) (o : Operand) → Holds (changeRange how z) → Says (byRows (registerRows z o)) (changeCode how) (whole (Puts (Changed how)) z o)
+unfolding registerRows lookup
 of-change (Inc n) z o h = byte (registerRows z o) (0x60 + n) (inc-byte z o n h)
 of-change (Dec n) z o h = byte (registerRows z o) (0x68 + n) (dec-byte z o n h)
 of-change (ShiftBy t n) z o h = next (byte (registerRows z o) (0xEC + shiftNumber t) (shift-byte z o t)) (byte (placesRows z o t) n (places-byte z o t n h))
-of-change Extz z o h = byte (registerRows z o) 0x12 (extz-byte z o h)
-of-change Exts z o h = byte (registerRows z o) 0x13 (exts-byte z o h)
+of-change Extz z o h = byte (registerRows z o) 0x12 (not-byte z o 0x12 Extz refl h)
+of-change Exts z o h = byte (registerRows z o) 0x13 (not-byte z o 0x13 Exts refl h)

@@ -131,7 +131,11 @@ pub fn decode(code: &[u8]) -> Decoded
     match b / 8 {
         25 | 27 | 29 => {
             let size = reader::first::size_of(b / 16);
-            whole_of_register(reader::registers::read(code, size), size, Operand::Register(b % 8))
+            whole_of_register(
+                reader::registers::read(code, size),
+                size,
+                Operand::Register(b % 8),
+            )
         }
         _ => whole_begun(code, b),
     }

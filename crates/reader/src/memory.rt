@@ -8,6 +8,7 @@ ghost use Rattle.code.specs.Rows.{lookup, byRows};
 ghost use Rattle.code.specs.Memory.{memoryRows, storeRows, blocks, form};
 ghost use Rattle.code.specs.Listed.{memoryFirstRows};
 ghost use Rattle.code.specs.inner.Parts.{rowsBegun, memoryAs, begunAs};
+use crate::first::size_of;
 use code::Base;
 use code::Begun;
 use code::Form;
@@ -16,7 +17,6 @@ use code::MemoryForm;
 use code::OfMemory;
 use code::Op;
 use code::Operand;
-use crate::first::size_of;
 use little::Size;
 
 // A copy or a compare by the byte c, 10 to 17: up in 10, 11, 14, 15, and again where c is odd.

@@ -7,14 +7,14 @@ ghost use Rattle.code.specs.Said.{Said, judge};
 ghost use Rattle.code.specs.Rows.{lookup, byRows};
 ghost use Rattle.code.specs.Registers.{registerRows, placesRows, arithOf, shiftKind, notByte};
 ghost use Rattle.code.specs.inner.Parts.{registerAs};
+use alu::Arith;
+use alu::Change;
+use alu::Shift;
 use code::Found;
 use code::OfRegister;
 use code::Op;
 use code::Operand;
 use code::Use;
-use alu::Arith;
-use alu::Change;
-use alu::Shift;
 use little::Size;
 
 // The operation of a number, 0 to 7.

@@ -23,7 +23,6 @@ use block::round;
 use code::Begun;
 use code::Form;
 use code::OfMemory;
-use reader::first::size_of;
 use compute::form;
 use control::past;
 use exec::alone;
@@ -32,6 +31,7 @@ use exec::current;
 use exec::of_register;
 use exec::on;
 use operand::address;
+use reader::first::size_of;
 use state::Bank;
 use state::State;
 

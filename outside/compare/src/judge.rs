@@ -68,6 +68,18 @@ pub struct Tally {
 }
 
 impl Tally {
+    /// What two groups compared.
+    pub fn and(mut self, other: Tally) -> Tally {
+        self.single += other.single;
+        self.runs += other.runs;
+        self.others += other.others;
+        self.done += other.done;
+        for (met, more) in self.met.iter_mut().zip(other.met) {
+            *met += more;
+        }
+        self
+    }
+
     fn add(&mut self, call: Call, answer: Answer) {
         match call {
             Call::Step => {
@@ -207,6 +219,8 @@ impl Judge {
     /// Prints a disagreement. In a run, the first step that differs is
     /// looked for; it says more than the whole run.
     fn narrow(&mut self, case: &Case) {
+        // Other groups print nothing in the middle of it.
+        let _whole = std::io::stdout().lock();
         let steps = match case.call {
             Call::Run(steps) if steps <= second::MOST_STEPS => steps,
             _ => return self.print(case),

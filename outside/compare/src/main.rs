@@ -26,6 +26,8 @@ use chance::Chance;
 use groups::{Bench, Group, GROUPS};
 use judge::{Judge, Tally};
 use std::process::ExitCode;
+use std::sync::atomic::{AtomicUsize, Ordering};
+use std::thread;
 use std::time::Instant;
 
 const SEED: u64 = 900;
@@ -89,20 +91,16 @@ fn replay(text: &str) -> bool {
 
 fn compare(wish: &Wish) -> bool {
     println!("compare: seed {}, rounds {}", wish.seed, wish.rounds);
-    let mut judge = Judge::new();
-    let (mut passed, mut failed) = (0, 0);
     let wanted = |group: &&Group| match &wish.group {
         Some(name) => name == group.0,
         None => true,
     };
-    for group in GROUPS.iter().filter(wanted) {
-        if agrees(group, &mut judge, wish) {
-            passed += 1;
-        } else {
-            failed += 1;
-        }
-    }
-    let all = judge.tally;
+    let groups: Vec<&Group> = GROUPS.iter().filter(wanted).collect();
+    let judges = side_by_side(&groups, wish);
+    let failed = judges.iter().filter(|judge| judge.failures > 0).count();
+    let (mut passed, mut failed) = (judges.len() - failed, failed);
+    let tallies = judges.iter().map(|judge| judge.tally);
+    let all = tallies.fold(Tally::default(), Tally::and);
     println!(
         "compare: {} steps done by the library; {} single steps, {} runs and {} other calls compared",
         all.done, all.single, all.runs, all.others
@@ -110,33 +108,50 @@ fn compare(wish: &Wish) -> bool {
     println!("compare: numbers 0 to 7 answered {:?} times", all.met);
     if wish.group.is_none() {
         let enough = enough(&all);
-        passed += u32::from(enough);
-        failed += u32::from(!enough);
+        passed += usize::from(enough);
+        failed += usize::from(!enough);
     }
     println!("{passed} passed, {failed} failed");
     failed == 0 && passed > 0
 }
 
+/// Does the groups, as many at a time as there are processors: each hangs on
+/// the seed and its name alone.
+fn side_by_side(groups: &[&Group], wish: &Wish) -> Vec<Judge> {
+    let next = AtomicUsize::new(0);
+    let work = || {
+        let mut judges = Vec::new();
+        while let Some(group) = groups.get(next.fetch_add(1, Ordering::Relaxed)) {
+            judges.push(judged(group, wish));
+        }
+        judges
+    };
+    let processors = thread::available_parallelism().map_or(1, usize::from);
+    thread::scope(|scope| {
+        let workers: Vec<_> = (0..processors).map(|_| scope.spawn(work)).collect();
+        let ended = |worker: thread::ScopedJoinHandle<'_, Vec<Judge>>| worker.join().expect("a group that ends");
+        workers.into_iter().flat_map(ended).collect()
+    })
+}
+
 /// Does a group, and says how it went.
-fn agrees(Group(name, work): &Group, judge: &mut Judge, wish: &Wish) -> bool {
-    let before = judge.tally;
+fn judged(Group(name, work): &Group, wish: &Wish) -> Judge {
+    let mut judge = Judge::new();
     let start = Instant::now();
-    judge.failures = 0;
     work(&mut Bench {
         chance: Chance::for_purpose(wish.seed, name),
-        judge,
+        judge: &mut judge,
         rounds: wish.rounds,
     });
-    let agreed = judge.failures == 0;
     println!(
         "{:>26}: {:>8} single steps, {:>8} steps in all, {:>5.1} s, {}",
         name,
-        judge.tally.single - before.single,
-        judge.tally.done - before.done,
+        judge.tally.single,
+        judge.tally.done,
         start.elapsed().as_secs_f64(),
-        if agreed { "agreed" } else { "FAILED" }
+        if judge.failures == 0 { "agreed" } else { "FAILED" }
     );
-    agreed
+    judge
 }
 
 /// Whether enough was compared for the agreement to say anything: millions
