@@ -12,8 +12,8 @@ use crate::extend::extz;
 use crate::shifter::shift_by;
 use flags::Computed;
 use flags::Flags;
-use flags::flag::settled;
-use flags::flag::unpack;
+use flags::settled;
+use flags::unpack;
 use little::Size;
 
 // Counts and places are as the code has them.

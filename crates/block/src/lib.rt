@@ -82,9 +82,9 @@ fn difference(bank: Bank, regs: &[u32; 20], size: Size, v: u32) -> Computed
     ensures { λ r. ⌜ r ≡ differenceOf (bitsOf size) (accumulatorIn (now (regs .entry)) bank size) v false ⌝ }
 {
     match size {
-        Size::Byte => flags::sub(Size::Byte, state::read(regs, bank, Size::Byte, 1), v, false),
-        Size::Word => flags::sub(Size::Word, state::read(regs, bank, Size::Word, 0), v, false),
-        Size::Long => flags::sub(Size::Long, state::read(regs, bank, Size::Long, 0), v, false),
+        Size::Byte => flags::sum::sub(Size::Byte, state::read(regs, bank, Size::Byte, 1), v, false),
+        Size::Word => flags::sum::sub(Size::Word, state::read(regs, bank, Size::Word, 0), v, false),
+        Size::Long => flags::sum::sub(Size::Long, state::read(regs, bank, Size::Long, 0), v, false),
     }
 }
 

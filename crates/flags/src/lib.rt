@@ -9,10 +9,9 @@ pub use crate::flag::scf;
 pub use crate::flag::settled;
 pub use crate::flag::unpack;
 pub use crate::flag::zcf;
-pub use crate::sum::sub;
 
 mod condition;
-pub mod flag;
+mod flag;
 pub mod sum;
 pub mod width;
 

@@ -9,7 +9,7 @@ use crate::Flags;
 use little::Size;
 
 // 2 to the number of bits of a size.
-pub fn modulus(size: Size) -> u64
+fn modulus(size: Size) -> u64
     ensures { λ r. ⌜ r ≡ 2 ^ bitsOf size ⌝ }
     ensures bounded { λ r. ⌜ (0 < r) × (r ≤ 4294967296) ⌝ }
 {
@@ -36,7 +36,7 @@ pub fn low(size: Size, x: u64) -> u32
     (x & (modulus(size) - 1)) as u32
 }
 
-pub fn negative(size: Size, x: u32) -> bool
+fn negative(size: Size, x: u32) -> bool
     ensures { λ r. ⌜ r ≡ negative (bitsOf size) x ⌝ }
 {
     top(size) <= x
