@@ -59,11 +59,11 @@ module _ (Y : Type 0) where
     memory-rows : p ≡ placeCode (sizeStep z) (form base n) → Rows Y (memoryRows z (form base n)) i p
     unfolding memoryRows codeOf
     memory-rows e = (
-      λ b h. (l, ap₂ (λ (c : List ℕ) (x : ℕ). c ++ (x ∷ [])) e (let x = run-in 0x20 0x27 b h in omega arith), λ y. (mod-lt b (omega arith), q y)),
+      λ b h. (l, ap₂ (λ (c : List ℕ) (x : ℕ). c ++ (x ∷ [])) e (let x = run-in _ _ b h in omega arith), λ y. (mod-lt b (omega arith), q y)),
       (
-        λ b h. (l, ap₂ (λ (c : List ℕ) (x : ℕ). c ++ (x ∷ [])) e (let x = columns-in 0x80 b h in computes b (x .0 .0) (x .0 .1) (x .1)), λ y. (mod-lt b (omega arith), q y)),
+        λ b h. (l, ap₂ (λ (c : List ℕ) (x : ℕ). c ++ (x ∷ [])) e (let x = columns-in _ b h in computes b (x .0 .0) (x .0 .1) (x .1)), λ y. (mod-lt b (omega arith), q y)),
         (
-          λ b h. (l, ap₂ (λ (c : List ℕ) (x : ℕ). c ++ (x ∷ [])) e (let x = columns-in 0x88 b h in computes-into b (x .0 .0) (x .0 .1) (x .1)), λ y. (mod-lt b (omega arith), q y)),
+          λ b h. (l, ap₂ (λ (c : List ℕ) (x : ℕ). c ++ (x ∷ [])) e (let x = columns-in _ b h in computes-into b (x .0 .0) (x .0 .1) (x .1)), λ y. (mod-lt b (omega arith), q y)),
           tt,
         ),
       ),
@@ -72,11 +72,11 @@ module _ (Y : Type 0) where
     store-rows : p ≡ placeCode 48 (form base n) → Rows Y (storeRows (form base n)) i p
     unfolding storeRows codeOf
     store-rows e = (
-      λ b h. (l, ap₂ (λ (c : List ℕ) (x : ℕ). c ++ (x ∷ [])) e (let x = run-in 0x40 0x47 b h in omega arith), λ y. (mod-lt b (omega arith), q y)),
+      λ b h. (l, ap₂ (λ (c : List ℕ) (x : ℕ). c ++ (x ∷ [])) e (let x = run-in _ _ b h in omega arith), λ y. (mod-lt b (omega arith), q y)),
       (
-        λ b h. (l, ap₂ (λ (c : List ℕ) (x : ℕ). c ++ (x ∷ [])) e (let x = run-in 0x50 0x57 b h in omega arith), λ y. (mod-lt b (omega arith), q y)),
+        λ b h. (l, ap₂ (λ (c : List ℕ) (x : ℕ). c ++ (x ∷ [])) e (let x = run-in _ _ b h in omega arith), λ y. (mod-lt b (omega arith), q y)),
         (
-          λ b h. (l, ap₂ (λ (c : List ℕ) (x : ℕ). c ++ (x ∷ [])) e (let x = run-in 0x60 0x67 b h in omega arith), λ y. (mod-lt b (omega arith), q y)),
+          λ b h. (l, ap₂ (λ (c : List ℕ) (x : ℕ). c ++ (x ∷ [])) e (let x = run-in _ _ b h in omega arith), λ y. (mod-lt b (omega arith), q y)),
           tt,
         ),
       ),
@@ -91,13 +91,13 @@ module _ (Y : Type 0) where
     unfolding copies codeOf
     copy-rows to q =
         let l : 2 ≤ 6 = omega arith in (
-          λ b h. (l, both-bytes b 0x10 (eqb-true b 0x10 h), λ y. (q, (w, (refl, (refl, refl))))),
+          λ b h. (l, both-bytes b 0x10 (eqb-true b _ h), λ y. (q, (w, (refl, (refl, refl))))),
           (
-            λ b h. (l, both-bytes b 0x11 (eqb-true b 0x11 h), λ y. (q, (w, (refl, (refl, refl))))),
+            λ b h. (l, both-bytes b 0x11 (eqb-true b _ h), λ y. (q, (w, (refl, (refl, refl))))),
             (
-              λ b h. (l, both-bytes b 0x12 (eqb-true b 0x12 h), λ y. (q, (w, (refl, (refl, refl))))),
+              λ b h. (l, both-bytes b 0x12 (eqb-true b _ h), λ y. (q, (w, (refl, (refl, refl))))),
               (
-                λ b h. (l, both-bytes b 0x13 (eqb-true b 0x13 h), λ y. (q, (w, (refl, (refl, refl))))),
+                λ b h. (l, both-bytes b 0x13 (eqb-true b _ h), λ y. (q, (w, (refl, (refl, refl))))),
                 tt,
               ),
             ),
@@ -108,13 +108,13 @@ module _ (Y : Type 0) where
     unfolding compares codeOf
     compare-rows q =
         let l : 2 ≤ 6 = omega arith in (
-          λ b h. (l, both-bytes b 0x14 (eqb-true b 0x14 h), λ y. (q, (w, (refl, (refl, refl))))),
+          λ b h. (l, both-bytes b 0x14 (eqb-true b _ h), λ y. (q, (w, (refl, (refl, refl))))),
           (
-            λ b h. (l, both-bytes b 0x15 (eqb-true b 0x15 h), λ y. (q, (w, (refl, (refl, refl))))),
+            λ b h. (l, both-bytes b 0x15 (eqb-true b _ h), λ y. (q, (w, (refl, (refl, refl))))),
             (
-              λ b h. (l, both-bytes b 0x16 (eqb-true b 0x16 h), λ y. (q, (w, (refl, (refl, refl))))),
+              λ b h. (l, both-bytes b 0x16 (eqb-true b _ h), λ y. (q, (w, (refl, (refl, refl))))),
               (
-                λ b h. (l, both-bytes b 0x17 (eqb-true b 0x17 h), λ y. (q, (w, (refl, (refl, refl))))),
+                λ b h. (l, both-bytes b 0x17 (eqb-true b _ h), λ y. (q, (w, (refl, (refl, refl))))),
                 tt,
               ),
             ),
@@ -193,7 +193,7 @@ module _ (Y : Type 0) where
 
   bank-number-rows : (b : ℕ) → b ≡ 0x17 → Rows Y bankNumberRows 2 (b ∷ [])
   unfolding bankNumberRows codeOf
-  bank-number-rows b e = (λ n h. let x = run-in 0 3 n h in (omega arith, ap (λ (x : ℕ). x ∷ n ∷ []) e, λ y. (tt, omega arith)), tt)
+  bank-number-rows b e = (λ n h. let x = run-in _ _ n h in (omega arith, ap (λ (x : ℕ). x ∷ n ∷ []) e, λ y. (tt, omega arith)), tt)
 
   bank-rows : Rows Y bankRows 1 []
   unfolding bankRows codeOf
@@ -204,7 +204,7 @@ module _ (Y : Type 0) where
       (
         alone-row (Controls Decf) 0x0D refl (tt, omega arith),
         (
-          λ b h. by-rows Y bankNumberRows 1 (b ∷ []) can-bank (bank-number-rows b (eqb-true b 0x17 h)),
+          λ b h. by-rows Y bankNumberRows 1 (b ∷ []) can-bank (bank-number-rows b (eqb-true b _ h)),
           tt,
         ),
       ),
@@ -239,11 +239,11 @@ module _ (Y : Type 0) where
   constant-rows : Rows Y constantRows 1 []
   unfolding constantRows codeOf
   constant-rows = (
-    λ b h. constant-row (Sets (b % 8)) Byte 1 b (0x20 + sizeStep Byte + b % 8) (omega arith) (let x = run-in 0x20 0x27 b h in omega arith) (λ v. refl) (λ v g. (mod-lt b (omega arith), g)),
+    λ b h. constant-row (Sets (b % 8)) Byte 1 b (0x20 + sizeStep Byte + b % 8) (omega arith) (let x = run-in _ _ b h in omega arith) (λ v. refl) (λ v g. (mod-lt b (omega arith), g)),
     (
-      λ b h. constant-row (Sets (b % 8)) Word 2 b (0x20 + sizeStep Word + b % 8) (omega arith) (let x = run-in 0x30 0x37 b h in omega arith) (λ v. refl) (λ v g. (mod-lt b (omega arith), g)),
+      λ b h. constant-row (Sets (b % 8)) Word 2 b (0x20 + sizeStep Word + b % 8) (omega arith) (let x = run-in _ _ b h in omega arith) (λ v. refl) (λ v g. (mod-lt b (omega arith), g)),
       (
-        λ b h. constant-row (Sets (b % 8)) Long 4 b (0x20 + sizeStep Long + b % 8) (omega arith) (let x = run-in 0x40 0x47 b h in omega arith) (λ v. refl) (λ v g. (mod-lt b (omega arith), g)),
+        λ b h. constant-row (Sets (b % 8)) Long 4 b (0x20 + sizeStep Long + b % 8) (omega arith) (let x = run-in _ _ b h in omega arith) (λ v. refl) (λ v g. (mod-lt b (omega arith), g)),
         tt,
       ),
     ),
@@ -252,13 +252,13 @@ module _ (Y : Type 0) where
   stack-rows : Rows Y stackRows 1 []
   unfolding stackRows codeOf
   stack-rows = (
-    λ b h. let x = run-in 0x28 0x2E b h in (omega arith, ap (λ (x : ℕ). x ∷ []) (omega arith), λ y. (tt, omega arith)),
+    λ b h. let x = run-in _ _ b h in (omega arith, ap (λ (x : ℕ). x ∷ []) (omega arith), λ y. (tt, omega arith)),
     (
-      λ b h. let x = run-in 0x38 0x3E b h in (omega arith, ap (λ (x : ℕ). x ∷ []) (omega arith), λ y. (tt, omega arith)),
+      λ b h. let x = run-in _ _ b h in (omega arith, ap (λ (x : ℕ). x ∷ []) (omega arith), λ y. (tt, omega arith)),
       (
-        λ b h. let x = run-in 0x48 0x4E b h in (omega arith, ap (λ (x : ℕ). x ∷ []) (omega arith), λ y. (tt, omega arith)),
+        λ b h. let x = run-in _ _ b h in (omega arith, ap (λ (x : ℕ). x ∷ []) (omega arith), λ y. (tt, omega arith)),
         (
-          λ b h. let x = run-in 0x58 0x5E b h in (omega arith, ap (λ (x : ℕ). x ∷ []) (omega arith), λ y. (tt, omega arith)),
+          λ b h. let x = run-in _ _ b h in (omega arith, ap (λ (x : ℕ). x ∷ []) (omega arith), λ y. (tt, omega arith)),
           tt,
         ),
       ),
@@ -268,15 +268,15 @@ module _ (Y : Type 0) where
   jump-rows : Rows Y jumpRows 1 []
   unfolding jumpRows codeOf
   jump-rows = (
-    λ b h. constant-row (Controls Jp16) Byte 2 b 0x1A (omega arith) (eqb-true b 0x1A h) (λ v. refl) (λ v g. (tt, g)),
+    λ b h. constant-row (Controls Jp16) Byte 2 b 0x1A (omega arith) (eqb-true b _ h) (λ v. refl) (λ v g. (tt, g)),
     (
-      λ b h. constant-row (Controls Jp24) Byte 3 b 0x1B (omega arith) (eqb-true b 0x1B h) (λ v. refl) (λ v g. (tt, g)),
+      λ b h. constant-row (Controls Jp24) Byte 3 b 0x1B (omega arith) (eqb-true b _ h) (λ v. refl) (λ v g. (tt, g)),
       (
-        λ b h. constant-row (Stacks Call16) Byte 2 b 0x1C (omega arith) (eqb-true b 0x1C h) (λ v. refl) (λ v g. (tt, g)),
+        λ b h. constant-row (Stacks Call16) Byte 2 b 0x1C (omega arith) (eqb-true b _ h) (λ v. refl) (λ v g. (tt, g)),
         (
-          λ b h. constant-row (Stacks Call24) Byte 3 b 0x1D (omega arith) (eqb-true b 0x1D h) (λ v. refl) (λ v g. (tt, g)),
+          λ b h. constant-row (Stacks Call24) Byte 3 b 0x1D (omega arith) (eqb-true b _ h) (λ v. refl) (λ v g. (tt, g)),
           (
-            λ b h. constant-row (Stacks Calr) Byte 2 b 0x1E (omega arith) (eqb-true b 0x1E h) (λ v. refl) (λ v g. (tt, g)),
+            λ b h. constant-row (Stacks Calr) Byte 2 b 0x1E (omega arith) (eqb-true b _ h) (λ v. refl) (λ v g. (tt, g)),
             (
               alone-row (Stacks Ret) 0x0E refl (tt, omega arith),
               tt,
@@ -290,9 +290,9 @@ module _ (Y : Type 0) where
   relative-rows : Rows Y relativeRows 1 []
   unfolding relativeRows codeOf
   relative-rows = (
-    λ b h. constant-row (Controls (Jr (b % 16))) Byte 1 b (0x60 + b % 16) (omega arith) (let x = run-in 0x60 0x6F b h in omega arith) (λ v. refl) (λ v g. (mod-lt b (omega arith), (tt, g))),
+    λ b h. constant-row (Controls (Jr (b % 16))) Byte 1 b (0x60 + b % 16) (omega arith) (let x = run-in _ _ b h in omega arith) (λ v. refl) (λ v g. (mod-lt b (omega arith), (tt, g))),
     (
-      λ b h. constant-row (Controls (Jrl (b % 16))) Byte 2 b (0x70 + b % 16) (omega arith) (let x = run-in 0x70 0x7F b h in omega arith) (λ v. refl) (λ v g. (mod-lt b (omega arith), (tt, g))),
+      λ b h. constant-row (Controls (Jrl (b % 16))) Byte 2 b (0x70 + b % 16) (omega arith) (let x = run-in _ _ b h in omega arith) (λ v. refl) (λ v g. (mod-lt b (omega arith), (tt, g))),
       tt,
     ),
   )
@@ -300,11 +300,11 @@ module _ (Y : Type 0) where
   register-form-rows : Rows Y registerFormRows 1 []
   unfolding registerFormRows
   register-form-rows = (
-    λ b h. register-walk Y Byte (b % 8) b (let x = run-in 0xC8 0xCF b h in omega arith) (mod-lt b (omega arith)),
+    λ b h. register-walk Y Byte (b % 8) b (let x = run-in _ _ b h in omega arith) (mod-lt b (omega arith)),
     (
-      λ b h. register-walk Y Word (b % 8) b (let x = run-in 0xD8 0xDF b h in omega arith) (mod-lt b (omega arith)),
+      λ b h. register-walk Y Word (b % 8) b (let x = run-in _ _ b h in omega arith) (mod-lt b (omega arith)),
       (
-        λ b h. register-walk Y Long (b % 8) b (let x = run-in 0xE8 0xEF b h in omega arith) (mod-lt b (omega arith)),
+        λ b h. register-walk Y Long (b % 8) b (let x = run-in _ _ b h in omega arith) (mod-lt b (omega arith)),
         tt,
       ),
     ),
@@ -313,17 +313,17 @@ module _ (Y : Type 0) where
   memory-form-rows : Rows Y memoryFormRows 1 []
   unfolding memoryFormRows
   memory-form-rows = (
-    λ b h. by-rows Y (indirectRows Byte (b % 8)) 1 (b ∷ []) (can-indirect Byte (b % 8)) (indirect-rows Byte (b % 8) b (let x = run-in 0x80 0x87 b h in omega arith) (mod-lt b (omega arith))),
+    λ b h. by-rows Y (indirectRows Byte (b % 8)) 1 (b ∷ []) (can-indirect Byte (b % 8)) (indirect-rows Byte (b % 8) b (let x = run-in _ _ b h in omega arith) (mod-lt b (omega arith))),
     (
-      λ b h. displaced 0 (memoryRows Byte) (can-memory Byte) (memory-rows Byte) (b % 8) b (let x = run-in 0x88 0x8F b h in omega arith) (mod-lt b (omega arith)),
+      λ b h. displaced 0 (memoryRows Byte) (can-memory Byte) (memory-rows Byte) (b % 8) b (let x = run-in _ _ b h in omega arith) (mod-lt b (omega arith)),
       (
-        λ b h. by-rows Y (indirectRows Word (b % 8)) 1 (b ∷ []) (can-indirect Word (b % 8)) (indirect-rows Word (b % 8) b (let x = run-in 0x90 0x97 b h in omega arith) (mod-lt b (omega arith))),
+        λ b h. by-rows Y (indirectRows Word (b % 8)) 1 (b ∷ []) (can-indirect Word (b % 8)) (indirect-rows Word (b % 8) b (let x = run-in _ _ b h in omega arith) (mod-lt b (omega arith))),
         (
-          λ b h. displaced 16 (memoryRows Word) (can-memory Word) (memory-rows Word) (b % 8) b (let x = run-in 0x98 0x9F b h in omega arith) (mod-lt b (omega arith)),
+          λ b h. displaced 16 (memoryRows Word) (can-memory Word) (memory-rows Word) (b % 8) b (let x = run-in _ _ b h in omega arith) (mod-lt b (omega arith)),
           (
-            λ b h. by-rows Y (indirectRows Long (b % 8)) 1 (b ∷ []) (can-indirect Long (b % 8)) (indirect-rows Long (b % 8) b (let x = run-in 0xA0 0xA7 b h in omega arith) (mod-lt b (omega arith))),
+            λ b h. by-rows Y (indirectRows Long (b % 8)) 1 (b ∷ []) (can-indirect Long (b % 8)) (indirect-rows Long (b % 8) b (let x = run-in _ _ b h in omega arith) (mod-lt b (omega arith))),
             (
-              λ b h. displaced 32 (memoryRows Long) (can-memory Long) (memory-rows Long) (b % 8) b (let x = run-in 0xA8 0xAF b h in omega arith) (mod-lt b (omega arith)),
+              λ b h. displaced 32 (memoryRows Long) (can-memory Long) (memory-rows Long) (b % 8) b (let x = run-in _ _ b h in omega arith) (mod-lt b (omega arith)),
               tt,
             ),
           ),
@@ -342,9 +342,9 @@ module _ (Y : Type 0) where
   store-form-rows : Rows Y storeFormRows 1 []
   unfolding storeFormRows
   store-form-rows = (
-    λ b h. by-rows Y (storeRows (form (Indirect (b % 8)) 0)) 1 (b ∷ []) (can-store (form (Indirect (b % 8)) 0)) (store-rows Byte (Indirect (b % 8)) 0 2 (b ∷ []) (omega arith) (λ y. (mod-lt b (omega arith), refl)) (ap (λ (x : ℕ). x ∷ []) (let x = run-in 0xB0 0xB7 b h in omega arith))),
+    λ b h. by-rows Y (storeRows (form (Indirect (b % 8)) 0)) 1 (b ∷ []) (can-store (form (Indirect (b % 8)) 0)) (store-rows Byte (Indirect (b % 8)) 0 2 (b ∷ []) (omega arith) (λ y. (mod-lt b (omega arith), refl)) (ap (λ (x : ℕ). x ∷ []) (let x = run-in _ _ b h in omega arith))),
     (
-      λ b h. displaced 48 storeRows can-store (store-rows Byte) (b % 8) b (let x = run-in 0xB8 0xBF b h in omega arith) (mod-lt b (omega arith)),
+      λ b h. displaced 48 storeRows can-store (store-rows Byte) (b % 8) b (let x = run-in _ _ b h in omega arith) (mod-lt b (omega arith)),
       absolute 48 storeRows can-store (store-rows Byte) 0xF0 refl,
     ),
   )

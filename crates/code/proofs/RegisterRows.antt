@@ -99,7 +99,7 @@ module _ (Y : Type 0) (z : Size) (r a : ℕ) (e : a ≡ 0xC8 + sizeStep z + r) (
 
   places-rows : (shift : Shift) (b : ℕ) → b ≡ 0xEC + shiftNumber shift → Rows Y (placesRows z (Register r) shift) 3 (a ∷ b ∷ [])
   unfolding placesRows codeOf
-  places-rows shift b f = (λ n h. let x = run-in 0 15 n h in (omega arith, ap₂ (λ (c d : ℕ). c ∷ d ∷ n ∷ []) e f, λ y. (omega arith, q)), tt)
+  places-rows shift b f = (λ n h. let x = run-in _ _ n h in (omega arith, ap₂ (λ (c d : ℕ). c ∷ d ∷ n ∷ []) e f, λ y. (omega arith, q)), tt)
 
   extension : {p : List ℕ} (how : Change) (y : Size) → p ≡ codeOf (Puts (Changed how)) y (Register r) → ((y : Size) → Holds (noByte y) → Holds (changeRange how y)) → Walk Y (notByte y (whole (Puts (Changed how)) y (Register r))) 2 p
   extension how Byte f g = tt
@@ -111,25 +111,25 @@ module _ (Y : Type 0) (z : Size) (r a : ℕ) (e : a ≡ 0xC8 + sizeStep z + r) (
   register-rows =
       let n : bytesOf z ≤ 4 = bytes-bounds z (bytesOf z) refl .1 in
       let l : 2 ≤ 6 = omega arith in (
-        λ b h. (λ v. tt, λ v g. (omega arith, more b 0x03 v (eqb-true b 0x03 h), λ y. (g y, q))),
+        λ b h. (λ v. tt, λ v g. (omega arith, more b 0x03 v (eqb-true b _ h), λ y. (g y, q))),
         (
-          λ b h. (l, two b _ (let x = run-in 0x88 0x8F b h in omega arith), λ y. (mod-lt b (omega arith), q)),
+          λ b h. (l, two b _ (let x = run-in _ _ b h in omega arith), λ y. (mod-lt b (omega arith), q)),
           (
-            λ b h. (l, two b _ (let x = run-in 0x98 0x9F b h in omega arith), λ y. (mod-lt b (omega arith), q)),
+            λ b h. (l, two b _ (let x = run-in _ _ b h in omega arith), λ y. (mod-lt b (omega arith), q)),
             (
-              λ b h. (l, two b _ (let x = columns-in 0x80 b h in computes b (x .0 .0) (x .0 .1) (x .1)), λ y. (mod-lt b (omega arith), q)),
+              λ b h. (l, two b _ (let x = columns-in _ b h in computes b (x .0 .0) (x .0 .1) (x .1)), λ y. (mod-lt b (omega arith), q)),
               (
-                λ b h. (λ v. tt, λ v g. (omega arith, more b _ v (let x = run-in 0xC8 0xCF b h in rw (arith-back (b % 8) (mod-lt b (omega arith))) (omega arith)), λ y. (g y, q))),
+                λ b h. (λ v. tt, λ v g. (omega arith, more b _ v (let x = run-in _ _ b h in rw (arith-back (b % 8) (mod-lt b (omega arith))) (omega arith)), λ y. (g y, q))),
                 (
-                  λ b h. (l, two b _ (let x = run-in 0x60 0x67 b h in omega arith), λ y. (mod-lt b (omega arith), q)),
+                  λ b h. (l, two b _ (let x = run-in _ _ b h in omega arith), λ y. (mod-lt b (omega arith), q)),
                   (
-                    λ b h. (l, two b _ (let x = run-in 0x68 0x6F b h in omega arith), λ y. (mod-lt b (omega arith), q)),
+                    λ b h. (l, two b _ (let x = run-in _ _ b h in omega arith), λ y. (mod-lt b (omega arith), q)),
                     (
-                      λ b h. by-rows Y (placesRows z (Register r) (shiftKind (b % 4))) 2 (a ∷ b ∷ []) (can-place z (Register r) (shiftKind (b % 4))) (places-rows (shiftKind (b % 4)) b (let x = run-in 0xEC 0xEF b h in rw (shift-back (b % 4) (mod-lt b (omega arith))) (omega arith))),
+                      λ b h. by-rows Y (placesRows z (Register r) (shiftKind (b % 4))) 2 (a ∷ b ∷ []) (can-place z (Register r) (shiftKind (b % 4))) (places-rows (shiftKind (b % 4)) b (let x = run-in _ _ b h in rw (shift-back (b % 4) (mod-lt b (omega arith))) (omega arith))),
                       (
-                        λ b h. extension Extz z (two b 0x12 (eqb-true b 0x12 h)) (λ y w. w),
+                        λ b h. extension Extz z (two b 0x12 (eqb-true b _ h)) (λ y w. w),
                         (
-                          λ b h. extension Exts z (two b 0x13 (eqb-true b 0x13 h)) (λ y w. w),
+                          λ b h. extension Exts z (two b 0x13 (eqb-true b _ h)) (λ y w. w),
                           tt,
                         ),
                       ),
