@@ -19,10 +19,10 @@ use Rattle.code.specs.declared.Base.{Base}
 use Rattle.code.specs.declared.Base.the-variants.{Indirect, Displaced, Absolute8, Absolute16, Absolute24}
 use Rattle.code.specs.declared.Operand.{Operand}
 use Rattle.code.specs.declared.Operand.the-variants.{Constant}
-use Rattle.code.specs.Rows.{Row, lookup, byRows}
+use Rattle.code.specs.Rows.{Row, lookup, byRows, noLong}
 use Rattle.code.specs.Memory.{form, memoryRows, storeRows, copies, compares, blocks, blockRows, indirectRows}
 use Rattle.code.specs.Listed.{alone, withConstant, formWith, absoluteRows, bankNumberRows, bankRows, flagRows, constantRows, stackRows, jumpRows, relativeRows, registerFormRows, memoryFormRows, memoryAtRows, storeFormRows, aloneRows, memoryFirstRows, firstRows}
-use Rattle.code.specs.Range.{Holds, InRange, baseRange, noLong, pointerRange}
+use Rattle.code.specs.Range.{Holds, that, InRange, baseRange, pointerRange}
 use Rattle.code.specs.Written.{codeOf, placeCode, sizeStep}
 use Rattle.code.proofs.RowBytes.{run-in, columns-in, computes, computes-into}
 use Rattle.code.proofs.Walk.{Can, Walk, Rows, by-rows, both}
@@ -83,7 +83,7 @@ module _ (Y : Type 0) where
     )
 
   -- ---- copies and compares
-  module _ (z : Size) (r a : ℕ) (e : a ≡ 0x80 + sizeStep z + r) (w : Holds (noLong z)) where
+  module _ (z : Size) (r a : ℕ) (e : a ≡ 0x80 + sizeStep z + r) (w : Holds (that (noLong z))) where
     both-bytes : (x y : ℕ) → x ≡ y → a ∷ x ∷ [] ≡ (0x80 + sizeStep z + r) ∷ y ∷ []
     both-bytes x y f = ap₂ (λ (c d : ℕ). c ∷ d ∷ []) e f
 

@@ -19,11 +19,11 @@ use Rattle.code.specs.declared.Base.the-variants.{Indirect, Displaced, A
 use Rattle.code.specs.declared.Operand.{Operand}
 use Rattle.code.specs.declared.Operand.the-variants.{Register, Constant}
 use Rattle.code.specs.Said.{whole, number}
-use Rattle.code.specs.Rows.{Row, lookup, byRows}
+use Rattle.code.specs.Rows.{Row, lookup, byRows, noLong, noByte}
 use Rattle.code.specs.Registers.{registerRows}
 use Rattle.code.specs.Memory.{form, memoryRows, storeRows, copies, compares, block, copy, compare, blocks, blockRows, indirectRows}
 use Rattle.code.specs.Listed.{withConstant, bankNumberRows, firstRows}
-use Rattle.code.specs.Range.{Holds, noByte, noLong, pointerRange}
+use Rattle.code.specs.Range.{Holds, that, pointerRange}
 use Rattle.code.specs.Written.{sizeStep, arithNumber, blockCode}
 use Rattle.code.proofs.FirstRows.{first}
 use Rattle.code.proofs.Tables.{table, by-size, by-arith, each-size, each-arith, each-test, by-test}
@@ -34,13 +34,13 @@ pub set : (z : Size) (r : ℕ) → r < 8 → Lists firstRows (0x20 + sizeStep z 
 unfolding first
 set = by-size _ _ 8 refl
 
-pub push : (z : Size) → Holds (noByte z) → (r : ℕ) → r < 7 → Lists firstRows (0x18 + sizeStep z + r) (whole (Stacks Push) z (Register r))
+pub push : (z : Size) → Holds (that (noByte z)) → (r : ℕ) → r < 7 → Lists firstRows (0x18 + sizeStep z + r) (whole (Stacks Push) z (Register r))
 unfolding first
 push Byte h = absurd h
 push Word h = table _ _ 7 refl
 push Long h = table _ _ 7 refl
 
-pub pop : (z : Size) → Holds (noByte z) → (r : ℕ) → r < 7 → Lists firstRows (0x38 + sizeStep z + r) (whole (Stacks Pop) z (Register r))
+pub pop : (z : Size) → Holds (that (noByte z)) → (r : ℕ) → r < 7 → Lists firstRows (0x38 + sizeStep z + r) (whole (Stacks Pop) z (Register r))
 unfolding first
 pop Byte h = absurd h
 pop Word h = table _ _ 7 refl
@@ -149,27 +149,27 @@ unfolding storeRows lookup
 store o = by-size _ _ 8 refl
 
 -- ---- copies and compares
-copy-hl : (z : Size) → Holds (noLong z) → (up again : Bool) → Lists (rowsOf z (Indirect 3) 0) (blockCode true up again) (copy z up again 2 3)
+copy-hl : (z : Size) → Holds (that (noLong z)) → (up again : Bool) → Lists (rowsOf z (Indirect 3) 0) (blockCode true up again) (copy z up again 2 3)
 unfolding memoryRows blocks copies lookup
 copy-hl Byte h = each-test _ _ refl
 copy-hl Word h = each-test _ _ refl
 copy-hl Long h = absurd h
 
-copy-iy : (z : Size) → Holds (noLong z) → (up again : Bool) → Lists (rowsOf z (Indirect 5) 0) (blockCode true up again) (copy z up again 4 5)
+copy-iy : (z : Size) → Holds (that (noLong z)) → (up again : Bool) → Lists (rowsOf z (Indirect 5) 0) (blockCode true up again) (copy z up again 4 5)
 unfolding memoryRows blocks copies lookup
 copy-iy Byte h = each-test _ _ refl
 copy-iy Word h = each-test _ _ refl
 copy-iy Long h = absurd h
 
 -- from XDE (2) on
-compare-from : (z : Size) → Holds (noLong z) → (k : ℕ) → k < 6 → (up again : Bool) → Lists (rowsOf z (Indirect (2 + k)) 0) (blockCode false up again) (compare z up again (2 + k))
+compare-from : (z : Size) → Holds (that (noLong z)) → (k : ℕ) → k < 6 → (up again : Bool) → Lists (rowsOf z (Indirect (2 + k)) 0) (blockCode false up again) (compare z up again (2 + k))
 unfolding memoryRows blocks copies compares lookup
 compare-from Byte h = by-test _ _ 6 refl
 compare-from Word h = by-test _ _ 6 refl
 compare-from Long h = absurd h
 
 pub block-byte :
-    (c up again : Bool) (z : Size) (to from : ℕ) → Holds (noLong z) → Holds (pointerRange c to from) →
+    (c up again : Bool) (z : Size) (to from : ℕ) → Holds (that (noLong z)) → Holds (pointerRange c to from) →
     Lists (rowsOf z (Indirect from) 0) (blockCode c up again) (block (record { copies = c; size = z; up = up; again = again; to = to; from = from }))
 block-byte true up again z to from h (inl p) = rw (p .0, p .1) (copy-hl z h up again)
 block-byte true up again z to from h (inr p) = rw (p .0, p .1) (copy-iy z h up again)

@@ -26,12 +26,12 @@ use Rattle.code.specs.declared.Base.the-variants.{Indirect, Displaced, A
 use Rattle.code.specs.declared.Operand.{Operand}
 use Rattle.code.specs.declared.Operand.the-variants.{Register, Constant, Memory}
 use Rattle.code.specs.Said.{Said, whole, number}
-use Rattle.code.specs.Rows.{Row, byRows}
+use Rattle.code.specs.Rows.{Row, byRows, onlyByte, noLong}
 use Rattle.code.specs.Registers.{registerRows}
 use Rattle.code.specs.Memory.{form, memoryRows, storeRows}
 use Rattle.code.specs.Listed.{alone, withConstant, bankNumberRows, firstRows}
 use Rattle.alu.specs.declared.Arith.{Arith}
-use Rattle.code.specs.Range.{Holds, InRange, controlRange, stackRange, sideRange, useRange, onlyByte, noLong, aloneRange, pointerRange, constantBelow, registerBelow, baseRange, memoryRange, placeRange, blockRange}
+use Rattle.code.specs.Range.{Holds, that, InRange, controlRange, stackRange, sideRange, useRange, aloneRange, pointerRange, constantBelow, registerBelow, baseRange, memoryRange, placeRange, blockRange}
 use Rattle.code.specs.Written.{codeOf, controlCode, stackCode, sideCode, useCode, placeCode, baseCode, sizeStep, arithNumber, blockCode, constantIn, registerIn}
 use Rattle.code.proofs.FirstRows.{first}
 use Rattle.code.proofs.Says.{Says, Lists, byte, value, next}
@@ -61,7 +61,7 @@ on-memory P f (Memory m) h = f (m .base) (m .number) h
 -- what has no size of its own, and a constant
 on-byte :
     (P : Size → Operand → Type 0) (n : ℕ) → ((v : ℕ) → v < n → P Byte (Constant v)) →
-    (z : Size) (o : Operand) → Holds (onlyByte z) × Holds (constantBelow n o) → P z o
+    (z : Size) (o : Operand) → Holds (that (onlyByte z)) × Holds (constantBelow n o) → P z o
 on-byte P n f Byte o h = on-constant (P Byte) n f o (h .1)
 on-byte P n f Word o h = absurd (h .0)
 on-byte P n f Long o h = absurd (h .0)
@@ -70,10 +70,10 @@ on-byte P n f Long o h = absurd (h .0)
 is-alone : (op : Op) (b : ℕ) → Lists firstRows b (alone op) → (z : Size) (o : Operand) → Holds (aloneRange z o) → Is (b ∷ []) op z o
 is-alone op b e = on-byte _ 1 (λ v h. let q : v ≡ 0 = omega arith in rw q (byte firstRows b e))
 
-is-bank : Lists firstRows 0x17 (byRows bankNumberRows) → (z : Size) (o : Operand) → Holds (onlyByte z) × Holds (constantBelow 4 o) → Is (0x17 ∷ constantIn o ∷ []) (Controls Ldf) z o
+is-bank : Lists firstRows 0x17 (byRows bankNumberRows) → (z : Size) (o : Operand) → Holds (that (onlyByte z)) × Holds (constantBelow 4 o) → Is (0x17 ∷ constantIn o ∷ []) (Controls Ldf) z o
 is-bank e = on-byte _ 4 (λ n h. next (byte firstRows 0x17 e) (byte bankNumberRows n (bank-number n h)))
 
-is-jump : (op : Op) (b n : ℕ) → Lists firstRows b (withConstant op Byte n) → (z : Size) (o : Operand) → Holds (onlyByte z) × Holds (constantBelow (256 ^ n) o) → Is (b ∷ bytesFrom n (constantIn o)) op z o
+is-jump : (op : Op) (b n : ℕ) → Lists firstRows b (withConstant op Byte n) → (z : Size) (o : Operand) → Holds (that (onlyByte z)) × Holds (constantBelow (256 ^ n) o) → Is (b ∷ bytesFrom n (constantIn o)) op z o
 is-jump op b n e = on-byte _ (256 ^ n) (λ v h. next (byte firstRows b e) (value n v h))
 
 is-set : (r : ℕ) → r < 8 → (z : Size) (o : Operand) → Holds (constantBelow (256 ^ bytesOf z) o) → Is ((0x20 + sizeStep z + r) ∷ bytesFrom (bytesOf z) (constantIn o)) (Sets r) z o
@@ -149,7 +149,7 @@ pointer-below false to from p = omega arith
 is-block : (f : Form) (z : Size) (base : Base) (v : ℕ) → Holds (blockRange f z (form base v)) → Is ((0x80 + sizeStep z + f .from) ∷ blockCode (f .copies) (f .up) (f .again) ∷ []) (Blocks f) z (form base v)
 is-block f z (Indirect r) v h =
     let e : f .size ≡ z = sym (size-back (f .size)) ∙ (ap size-of-bytes (h .1 .1 .0) ∙ size-back z) in
-    let l : Holds (noLong (f .size)) = subst (λ (y : Size). Holds (noLong y)) (sym e) (h .1 .0) in
+    let l : Holds (that (noLong (f .size))) = subst (λ (y : Size). Holds (that (noLong y))) (sym e) (h .1 .0) in
     rw (h .1 .1 .1 .0, h .1 .1 .1 .1, ← e)
     (next
     (byte firstRows (0x80 + sizeStep (f .size) + f .from) (indirect (f .size) (f .from) (pointer-below (f .copies) (f .to) (f .from) (h .0))))

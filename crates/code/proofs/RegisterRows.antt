@@ -2,6 +2,7 @@
 -- and that a change is what its bytes say.
 use Prim.Native.Nat.{ℕ, _+_, _/_, _%_, _≤_, _<_}
 use mathlib.Core.Path.{_≡_, refl, ap₂}
+use mathlib.Core.Bool.{Bool, true, false}
 use mathlib.Core.List.{List, [], _∷_}
 use native.Mathlib.Omega.{arith}
 use native.Mathlib.Nat.{mod-lt}
@@ -19,10 +20,10 @@ use Rattle.code.specs.declared.Use.the-variants.{From, Load, Compute, Ch
 use Rattle.code.specs.declared.Side.the-variants.{First, With}
 use Rattle.code.specs.declared.Operand.{Operand}
 use Rattle.code.specs.declared.Operand.the-variants.{Register}
-use Rattle.code.specs.Said.{whole, unlisted, number}
-use Rattle.code.specs.Rows.{lookup, byRows}
-use Rattle.code.specs.Registers.{registerRows, placesRows, arithOf, shiftKind, notByte}
-use Rattle.code.specs.Range.{Holds, changeRange, noByte}
+use Rattle.code.specs.Said.{Said, whole, unlisted, number}
+use Rattle.code.specs.Rows.{Row, lookup, byRows, only, noByte}
+use Rattle.code.specs.Registers.{registerRows, placesRows, arithOf, shiftKind}
+use Rattle.code.specs.Range.{Holds, that, changeRange}
 use Rattle.code.specs.Written.{codeOf, changeCode, sizeStep, shiftNumber}
 use Rattle.code.proofs.Groups.{in-group, Missed}
 use Rattle.code.proofs.Tables.{table, each-shift, in-arm, in-no-arm}
@@ -101,10 +102,9 @@ module _ (Y : Type 0) (z : Size) (r a : ℕ) (e : a ≡ 0xC8 + sizeStep z + r) (
   unfolding placesRows codeOf
   places-rows shift b f = (λ n h. let x = run-in _ _ n h in (omega arith, ap₂ (λ (c d : ℕ). c ∷ d ∷ n ∷ []) e f, λ y. (omega arith, q)), tt)
 
-  extension : {p : List ℕ} (how : Change) (y : Size) → p ≡ codeOf (Puts (Changed how)) y (Register r) → ((y : Size) → Holds (noByte y) → Holds (changeRange how y)) → Walk Y (notByte y (whole (Puts (Changed how)) y (Register r))) 2 p
-  extension how Byte f g = tt
-  extension how Word f g = (omega arith, f, λ y. (g Word tt, q))
-  extension how Long f g = (omega arith, f, λ y. (g Long tt, q))
+  extension : {p : List ℕ} (how : Change) (b : Bool) → p ≡ codeOf (Puts (Changed how)) z (Register r) → (Holds (that b) → Holds (changeRange how z)) → Walk Y (only b (whole (Puts (Changed how)) z (Register r))) 2 p
+  extension how true f g = (omega arith, f, λ y. (g tt, q))
+  extension how false f g = tt
 
   register-rows : Rows Y (registerRows z (Register r)) 2 (a ∷ [])
   unfolding registerRows codeOf
@@ -127,9 +127,9 @@ module _ (Y : Type 0) (z : Size) (r a : ℕ) (e : a ≡ 0xC8 + sizeStep z + r) (
                     (
                       λ b h. by-rows Y (placesRows z (Register r) (shiftKind (b % 4))) 2 (a ∷ b ∷ []) (can-place z (Register r) (shiftKind (b % 4))) (places-rows (shiftKind (b % 4)) b (let x = run-in _ _ b h in rw (shift-back (b % 4) (mod-lt b (omega arith))) (omega arith))),
                       (
-                        λ b h. extension Extz z (two b 0x12 (eqb-true b _ h)) (λ y w. w),
+                        λ b h. extension Extz (noByte z) (two b 0x12 (eqb-true b _ h)) (λ w. w),
                         (
-                          λ b h. extension Exts z (two b 0x13 (eqb-true b _ h)) (λ y w. w),
+                          λ b h. extension Exts (noByte z) (two b 0x13 (eqb-true b _ h)) (λ w. w),
                           tt,
                         ),
                       ),
@@ -146,13 +146,10 @@ module _ (Y : Type 0) (z : Size) (r a : ℕ) (e : a ≡ 0xC8 + sizeStep z + r) (
   register-walk = by-rows Y (registerRows z (Register r)) 1 (a ∷ []) (can-register z (Register r)) register-rows
 
 -- ---- a change within its range is what its bytes say after the register's
--- what is said of words and longs only is said of them
-not-byte :
-    (z : Size) (o : Operand) (b : ℕ) (how : Change) → Lists (registerRows z o) b (notByte z (whole (Puts (Changed how)) z o)) →
-    Holds (noByte z) → Lists (registerRows z o) b (whole (Puts (Changed how)) z o)
-not-byte Byte o b how e h = absurd h
-not-byte Word o b how e h = e
-not-byte Long o b how e h = e
+-- what is listed only where a test is so is listed there
+so-listed : (rows : List Row) (c : ℕ) (b : Bool) (d : Said) → Lists rows c (only b d) → Holds (that b) → Lists rows c d
+so-listed rows c true d e h = e
+so-listed rows c false d e h = absurd h
 
 module _ (z : Size) (o : Operand) where
   inc-byte : (n : ℕ) → n < 8 → Lists (registerRows z o) (0x60 + n) (whole (Puts (Changed (Inc n))) z o)
@@ -176,5 +173,5 @@ unfolding registerRows lookup
 of-change (Inc n) z o h = byte (registerRows z o) (0x60 + n) (inc-byte z o n h)
 of-change (Dec n) z o h = byte (registerRows z o) (0x68 + n) (dec-byte z o n h)
 of-change (ShiftBy t n) z o h = next (byte (registerRows z o) (0xEC + shiftNumber t) (shift-byte z o t)) (byte (placesRows z o t) n (places-byte z o t n h))
-of-change Extz z o h = byte (registerRows z o) 0x12 (not-byte z o 0x12 Extz refl h)
-of-change Exts z o h = byte (registerRows z o) 0x13 (not-byte z o 0x13 Exts refl h)
+of-change Extz z o h = byte (registerRows z o) 0x12 (so-listed (registerRows z o) 0x12 (noByte z) _ refl h)
+of-change Exts z o h = byte (registerRows z o) 0x13 (so-listed (registerRows z o) 0x13 (noByte z) _ refl h)

@@ -1,9 +1,9 @@
 -- What a whole instruction can hold: each code and number within its range, its size and its operand of its kind.
 use Rattle.little.specs.Words.{ℕ, _<_, _^_, _≡_, Bool, true, false, _&&_, _||_, _⊎_, ltb, eqb}
 use Rattle.little.specs.{declared.Size.Size, Width.bytesOf}
-use Rattle.little.specs.declared.Size.the-variants.{Byte, Word, Long}
 use Rattle.alu.specs.declared.change.Change.{Change}
 use Rattle.alu.specs.declared.change.Change.the-variants.{Inc, Dec, ShiftBy, Extz, Exts}
+use Rattle.code.specs.Rows.{onlyByte, noByte, noLong}
 use Rattle.code.specs.declared.{Form.Form, Op.Op, Control.Control, Stack.Stack, Use.Use, Side.Side, Base.Base, Operand.Operand}
 use Rattle.code.specs.declared.Op.the-variants.{Controls, Stacks, Puts, Sets, Blocks}
 use Rattle.code.specs.declared.Control.the-variants.{Nop, Incf, Decf, Ldf, Rcf, Scf, Ccf, Zcf, Exf, Jp16, Jp24, Jr, Jrl}
@@ -75,23 +75,10 @@ placeRange (Register r) = r below 8
 placeRange (Constant v) = never
 placeRange (Memory m) = baseRange (m .base) (m .number)
 
--- the size of what has no size of its own
-abbrev pub onlyByte : Size → Range
-onlyByte Byte = always
-onlyByte Word = never
-onlyByte Long = never
-
--- a word or a long
-abbrev pub noByte : Size → Range
-noByte Byte = never
-noByte Word = always
-noByte Long = always
-
--- a byte or a word
-abbrev pub noLong : Size → Range
-noLong Byte = always
-noLong Word = always
-noLong Long = never
+-- a test, as a range
+abbrev pub that : Bool → Range
+that true = always
+that false = never
 
 -- a copy goes to XDE from XHL or to XIX from XIY; a compare reads at XDE to XSP
 abbrev pub pointerRange : Bool → ℕ → ℕ → Range
@@ -114,22 +101,22 @@ blockOperand r (Memory m) = pointsAt r (m .base) and m .number equals 0
 
 -- a copy or a compare: its pointers, its size and its operand
 abbrev pub blockRange : Form → Size → Operand → Range
-blockRange f z o = pointerRange (f .copies) (f .to) (f .from) and noLong z and bytesOf (f .size) equals bytesOf z and blockOperand (f .from) o
+blockRange f z o = pointerRange (f .copies) (f .to) (f .from) and that (noLong z) and bytesOf (f .size) equals bytesOf z and blockOperand (f .from) o
 
 -- an operation that has neither an operand nor a size
 abbrev pub aloneRange : Size → Operand → Range
-aloneRange z o = onlyByte z and constantBelow 1 o
+aloneRange z o = that (onlyByte z) and constantBelow 1 o
 
 -- an operation that has a constant of n bytes and no size of its own
 abbrev pub constantRange : ℕ → Size → Operand → Range
-constantRange n z o = onlyByte z and constantBelow (256 ^ n) o
+constantRange n z o = that (onlyByte z) and constantBelow (256 ^ n) o
 
 -- what the numbers, the size and the operand of each operation can be, by the kind of work
 abbrev pub controlRange : Control → Size → Operand → Range
 controlRange Nop z o = aloneRange z o
 controlRange Incf z o = aloneRange z o
 controlRange Decf z o = aloneRange z o
-controlRange Ldf z o = onlyByte z and constantBelow 4 o
+controlRange Ldf z o = that (onlyByte z) and constantBelow 4 o
 controlRange Rcf z o = aloneRange z o
 controlRange Scf z o = aloneRange z o
 controlRange Ccf z o = aloneRange z o
@@ -143,8 +130,8 @@ controlRange (Jrl cc) z o = cc below 16 and constantRange 2 z o
 abbrev pub stackRange : Stack → Size → Operand → Range
 stackRange PushF z o = aloneRange z o
 stackRange PopF z o = aloneRange z o
-stackRange Push z o = noByte z and registerBelow 7 o
-stackRange Pop z o = noByte z and registerBelow 7 o
+stackRange Push z o = that (noByte z) and registerBelow 7 o
+stackRange Pop z o = that (noByte z) and registerBelow 7 o
 stackRange Call16 z o = constantRange 2 z o
 stackRange Call24 z o = constantRange 3 z o
 stackRange Calr z o = constantRange 2 z o
@@ -159,8 +146,8 @@ abbrev pub changeRange : Change → Size → Range
 changeRange (Inc n) z = n below 8
 changeRange (Dec n) z = n below 8
 changeRange (ShiftBy kind n) z = n below 16
-changeRange Extz z = noByte z
-changeRange Exts z = noByte z
+changeRange Extz z = that (noByte z)
+changeRange Exts z = that (noByte z)
 
 abbrev pub useRange : Use → Size → Operand → Range
 useRange (Number n) z o = n below 256 ^ bytesOf z and registerBelow 8 o

@@ -1,14 +1,13 @@
 -- The byte after a register form's register.
 use Rattle.little.specs.Words.{ℕ, zero, suc, _/_, _%_, List, [], _∷_}
 use Rattle.little.specs.{declared.Size.Size, Width.bytesOf}
-use Rattle.little.specs.declared.Size.the-variants.{Byte, Word, Long}
 use Rattle.alu.specs.declared.{Arith.Arith, Shift.Shift}
 use Rattle.alu.specs.declared.Arith.the-variants.{Add, Adc, Sub, Sbc, And, Xor, Or, Cp}
 use Rattle.alu.specs.declared.Shift.the-variants.{Sla, Sra, Sll, Srl}
 use Rattle.alu.specs.declared.change.Change.the-variants.{Inc, Dec, ShiftBy, Extz, Exts}
 use Rattle.code.specs.{declared.Op.the-variants.Puts, declared.Side.the-variants.First, declared.Side.the-variants.With}
-use Rattle.code.specs.{declared.Operand.Operand, Said.Said, Said.whole, Said.unlisted, Said.number, Rows.one, Rows.run, Rows.columns, Rows.Row}
-use Rattle.code.specs.{Rows._⇒_, Rows.byRows}
+use Rattle.code.specs.{declared.Operand.Operand, Said.Said, Said.whole, Said.number, Rows.one, Rows.run, Rows.columns, Rows.Row}
+use Rattle.code.specs.{Rows._⇒_, Rows.byRows, Rows.only, Rows.noByte}
 use Rattle.code.specs.declared.Use.the-variants.{Number, From, Load, Compute, Changed}
 
 -- ADD ADC SUB SBC AND XOR OR CP by number, 0 to 7
@@ -33,12 +32,6 @@ shiftKind (suc (suc (suc n))) = Srl
 unfoldable pub placesRows : Size → Operand → Shift → List Row
 placesRows z o shift = (run 0x00 0x0F ⇒ λ n. whole (Puts (Changed (ShiftBy shift n))) z o) ∷ []
 
--- words and longs only
-abbrev pub notByte : Size → Said → Said
-notByte Byte d = unlisted
-notByte Word d = d
-notByte Long d = d
-
 -- 03 constant (load); 88+R load R from r; 98+R load r from R; 80, 90 .. F0 +R: ADD .. CP of R with r; C8 to CF and a constant:
 -- ADD .. CP of r; 60+n INC, 68+n DEC; EC SLA, ED SRA, EE SLL, EF SRL and a byte 00 to 0F; 12 EXTZ, 13 EXTS (word and long only)
 unfoldable pub registerRows : Size → Operand → List Row
@@ -51,6 +44,6 @@ registerRows z o =
     ∷ (run 0x60 0x67 ⇒ λ b. whole (Puts (Changed (Inc (b % 8)))) z o)
     ∷ (run 0x68 0x6F ⇒ λ b. whole (Puts (Changed (Dec (b % 8)))) z o)
     ∷ (run 0xEC 0xEF ⇒ λ b. byRows (placesRows z o (shiftKind (b % 4))))
-    ∷ (one 0x12 ⇒ λ b. notByte z (whole (Puts (Changed Extz)) z o))
-    ∷ (one 0x13 ⇒ λ b. notByte z (whole (Puts (Changed Exts)) z o))
+    ∷ (one 0x12 ⇒ λ b. only (noByte z) (whole (Puts (Changed Extz)) z o))
+    ∷ (one 0x13 ⇒ λ b. only (noByte z) (whole (Puts (Changed Exts)) z o))
     ∷ []

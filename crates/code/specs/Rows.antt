@@ -1,5 +1,7 @@
 -- A list of codes as data: a row has the bytes that it is for, and what each of them says.
-use Rattle.little.specs.Words.{ℕ, _/_, _%_, List, [], _∷_, Bool, cond, _&&_, leb, eqb}
+use Rattle.little.specs.Words.{ℕ, _/_, _%_, List, [], _∷_, Bool, true, false, cond, _&&_, leb, eqb}
+use Rattle.little.specs.declared.Size.{Size}
+use Rattle.little.specs.declared.Size.the-variants.{Byte, Word, Long}
 use Rattle.code.specs.Said.{Said, unlisted, next}
 
 -- the bytes of a row
@@ -28,6 +30,27 @@ b ⇒ f = record { bytes = b; says = f }
 unfoldable pub lookup : List Row → ℕ → Said
 lookup [] b = unlisted
 lookup (r ∷ rs) b = cond (has (r .bytes) b) (r .says b) (lookup rs b)
+
+-- which sizes some codes have: bytes; words and longs; bytes and words
+abbrev pub onlyByte : Size → Bool
+onlyByte Byte = true
+onlyByte Word = false
+onlyByte Long = false
+
+abbrev pub noByte : Size → Bool
+noByte Byte = false
+noByte Word = true
+noByte Long = true
+
+abbrev pub noLong : Size → Bool
+noLong Byte = true
+noLong Word = true
+noLong Long = false
+
+-- what is listed only where a test is so, as for some sizes
+abbrev pub only : Bool → Said → Said
+only true d = d
+only false d = unlisted
 
 -- the byte that follows stands in these rows
 abbrev pub byRows : List Row → Said

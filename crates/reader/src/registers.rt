@@ -4,8 +4,8 @@ ghost use mathlib.Core.List.{List};
 ghost use Prim.Native.Nat.{ℕ, _/_, _<_, _≤_};
 ghost use lib.ListN.{length};
 ghost use Rattle.code.specs.Said.{Said, judge};
-ghost use Rattle.code.specs.Rows.{lookup, byRows};
-ghost use Rattle.code.specs.Registers.{registerRows, placesRows, arithOf, shiftKind, notByte};
+ghost use Rattle.code.specs.Rows.{lookup, byRows, only, noByte};
+ghost use Rattle.code.specs.Registers.{registerRows, placesRows, arithOf, shiftKind};
 ghost use Rattle.code.specs.inner.Parts.{registerAs};
 use alu::Arith;
 use alu::Change;
@@ -44,8 +44,8 @@ pub fn shift_of(n: u8) -> Shift
     }
 }
 
-// 03 and a constant, and nothing else from 00 to 07.
-fn load_constant(code: &[u8], size: Size, c: u8) -> OfRegister
+// 00 to 07: 03 and a constant.
+fn case_00(code: &[u8], size: Size, c: u8) -> OfRegister
     requires { ⌜ (2 ≤ length (now code)) × (c < 8) ⌝ }
     ensures { λ d. ⌜ ((o : Operand) → registerAs d size o ≡ judge (lookup (registerRows size o) c) (now (code .entry)) 2) ⌝ }
 {
@@ -71,25 +71,36 @@ fn compute_constant(code: &[u8], size: Size, c: u8) -> OfRegister
     }
 }
 
-// A change of words and longs only.
-fn not_byte(how: Change, size: Size) -> OfRegister
-    ensures { λ d. ⌜ ((o : Operand) (s : List ℕ) → registerAs d size o ≡ judge (notByte size (Said.whole (Op.Puts (Use.Changed how)) size o)) s 2) ⌝ }
+// A word or a long.
+fn no_byte(size: Size) -> bool
+    ensures { λ r. ⌜ r ≡ noByte size ⌝ }
 {
     match size {
-        Size::Byte => OfRegister::Unlisted,
-        Size::Word => OfRegister::Changed(how, 2),
-        Size::Long => OfRegister::Changed(how, 2),
+        Size::Byte => false,
+        Size::Word => true,
+        Size::Long => true,
     }
 }
 
-// 12 EXTZ, 13 EXTS, and nothing else from 10 to 17.
-fn extension(size: Size, c: u8) -> OfRegister
+// A change that is listed only where a test is so.
+fn only(listed: bool, how: Change) -> OfRegister
+    ensures { λ d. ⌜ ((z : Size) (o : Operand) (s : List ℕ) → registerAs d z o ≡ judge (only listed (Said.whole (Op.Puts (Use.Changed how)) z o)) s 2) ⌝ }
+{
+    if listed {
+        OfRegister::Changed(how, 2)
+    } else {
+        OfRegister::Unlisted
+    }
+}
+
+// 10 to 17: 12 EXTZ, 13 EXTS.
+fn case_10(size: Size, c: u8) -> OfRegister
     requires { ⌜ c / 8 ≡ 2 ⌝ }
     ensures { λ d. ⌜ ((o : Operand) (s : List ℕ) → registerAs d size o ≡ judge (lookup (registerRows size o) c) s 2) ⌝ }
 {
     match c {
-        0x12 => not_byte(Change::Extz, size),
-        0x13 => not_byte(Change::Exts, size),
+        0x12 => only(no_byte(size), Change::Extz),
+        0x13 => only(no_byte(size), Change::Exts),
         _ => OfRegister::Unlisted,
     }
 }
@@ -108,8 +119,8 @@ fn shifted(code: &[u8], size: Size, shift: Shift) -> OfRegister
     OfRegister::Changed(Change::ShiftBy(shift, places), 3)
 }
 
-// EC SLA, ED SRA, EE SLL, EF SRL, and nothing else from E8 to EF.
-fn shift_case(code: &[u8], size: Size, c: u8) -> OfRegister
+// E8 to EF: EC SLA, ED SRA, EE SLL, EF SRL.
+fn case_e8(code: &[u8], size: Size, c: u8) -> OfRegister
     requires { ⌜ c / 8 ≡ 29 ⌝ }
     ensures { λ d. ⌜ ((o : Operand) → registerAs d size o ≡ judge (lookup (registerRows size o) c) (now (code .entry)) 2) ⌝ }
 {
@@ -126,15 +137,15 @@ fn second(code: &[u8], size: Size, c: u8) -> OfRegister
 {
     let n = c % 8;
     match c / 8 {
-        0 => load_constant(code, size, c),
-        2 => extension(size, c),
+        0 => case_00(code, size, c),
+        2 => case_10(size, c),
         12 => OfRegister::Changed(Change::Inc(n), 2),
         13 => OfRegister::Changed(Change::Dec(n), 2),
         17 => OfRegister::Load(n, 2),
         19 => OfRegister::From(n, 2),
         16 | 18 | 20 | 22 | 24 | 26 | 28 | 30 => OfRegister::Compute(arith_of(c / 16 % 8), n, 2),
         25 => compute_constant(code, size, c),
-        29 => shift_case(code, size, c),
+        29 => case_e8(code, size, c),
         _ => OfRegister::Unlisted,
     }
 }

@@ -5,11 +5,11 @@ use borrow.Author.Needs.{needs}
 use Rattle.reader.proofs.registers.second.Statement.{statement}
 use Rattle.reader.proofs.registers.second.Tie as tie
 
-load-constant-requires : tie.Need-load-constant-requires
-load-constant-requires c κs = search needs
+case-00-requires : tie.Need-case-00-requires
+case-00-requires c κs = search needs
 
-extension-requires : tie.Need-extension-requires
-extension-requires c κs = search needs
+case-10-requires : tie.Need-case-10-requires
+case-10-requires c κs = search needs
 
 arith-of-requires : tie.Need-arith-of-requires
 arith-of-requires c κs = search needs
@@ -17,14 +17,14 @@ arith-of-requires c κs = search needs
 compute-constant-requires : tie.Need-compute-constant-requires
 compute-constant-requires c κs = search needs
 
-shift-case-requires : tie.Need-shift-case-requires
-shift-case-requires c κs = search needs
+case-e8-requires : tie.Need-case-e8-requires
+case-e8-requires c κs = search needs
 
 returns : tie.Need-returns
 returns c = search needs
 
 returns-2 : tie.Need-returns-2
-returns-2 c = λ o. c .extension .ensures o _
+returns-2 c = λ o. c .case-10 .ensures o _
 
 returns-3 : tie.Need-returns-3
 unfolding judge
@@ -58,6 +58,6 @@ returns-10 c = λ o. rw (no-register _ _ _ (omega arith) (c .match .rest))
 
 pub second-spec : {M : Type 1} → statement M
 second-spec =
-    tie.close (tie.spec load-constant-requires extension-requires arith-of-requires compute-constant-requires
-    shift-case-requires returns returns-2 returns-3 returns-4 returns-5 returns-6 returns-7 returns-8 returns-9
+    tie.close (tie.spec case-00-requires case-10-requires arith-of-requires compute-constant-requires
+    case-e8-requires returns returns-2 returns-3 returns-4 returns-5 returns-6 returns-7 returns-8 returns-9
     returns-10)

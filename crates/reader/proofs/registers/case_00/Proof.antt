@@ -6,8 +6,8 @@ use Rattle.code.specs.Said.{judge}
 use Rattle.code.proofs.Judge.{bytes-bounds, number-whole, number-short}
 use Rattle.code.proofs.RegisterRows.{no-load}
 use borrow.Author.Needs.{needs}
-use Rattle.reader.proofs.registers.load_constant.Statement.{statement}
-use Rattle.reader.proofs.registers.load_constant.Tie as tie
+use Rattle.reader.proofs.registers.case_00.Statement.{statement}
+use Rattle.reader.proofs.registers.case_00.Tie as tie
 
 bytes-requires : tie.Need-bytes-requires
 bytes-requires c κs = search needs
@@ -36,6 +36,6 @@ returns-3 : tie.Need-returns-3
 unfolding judge
 returns-3 c = λ o. rw (no-load _ _ _ (omega arith) (c .if1 .left))
 
-pub load-constant-spec : {M : Type 1} → statement M
-load-constant-spec =
+pub case-00-spec : {M : Type 1} → statement M
+case-00-spec =
     tie.close (tie.spec bytes-requires number-requires enum-known-v add-t9 enum-told returns returns-2 returns-3)

@@ -3,8 +3,8 @@ use native.Mathlib.Omega.{arith}
 use Rattle.code.specs.Said.{judge}
 use Rattle.code.proofs.RegisterRows.{shift, no-shift}
 use borrow.Author.Needs.{needs}
-use Rattle.reader.proofs.registers.shift_case.Statement.{statement}
-use Rattle.reader.proofs.registers.shift_case.Tie as tie
+use Rattle.reader.proofs.registers.case_e8.Statement.{statement}
+use Rattle.reader.proofs.registers.case_e8.Tie as tie
 
 returns : tie.Need-returns
 unfolding judge
@@ -19,5 +19,5 @@ shifted-requires c κs = search needs
 returns-2 : tie.Need-returns-2
 returns-2 c = λ o. rw (shift _ _ (c .before .before .before .before .args .c) (omega arith) (omega arith)) (c .shifted .ensures o ∙ rw (c .before .shift-of .ensures))
 
-pub shift-case-spec : {M : Type 1} → statement M
-shift-case-spec = tie.close (tie.spec returns shift-of-requires shifted-requires returns-2)
+pub case-e8-spec : {M : Type 1} → statement M
+case-e8-spec = tie.close (tie.spec returns shift-of-requires shifted-requires returns-2)
