@@ -9,6 +9,13 @@ tell() {
   printf '%s: %s [%d:%02d]\n' "$who" "$*" $((spent / 60)) $((spent % 60)) >&2
 }
 
+# Whether a file has to be made: it is missing, or something that it is made of is newer.
+stale() {
+  product=$1
+  shift
+  [ ! -e "$product" ] || [ -n "$(find "$@" -newer "$product" -print -quit)" ]
+}
+
 # How many crates there are to prove for those named: these and all that they know; with none named, every crate.
 crates_for() {
   awk -v wanted=" $* " '
