@@ -104,13 +104,13 @@ fn whole_of_memory(read: OfMemory, m: MemoryForm) -> Decoded
 fn whole_begun(code: &[u8], b: u8) -> Decoded
     ensures { λ r. ⌜ r ≡ judge (lookup memoryFirstRows b) (now (code .entry)) 1 ⌝ }
 {
-    match reader::memory::begin(code, b) {
+    match forms::begin(code, b) {
         Begun::Form(base, v, n) => {
             let m = MemoryForm {
                 base: base,
                 number: v,
             };
-            whole_of_memory(reader::memory::after(code, b, n), m)
+            whole_of_memory(forms::after(code, b, n), m)
         }
         Begun::Short => Decoded::Short,
         Begun::Unlisted => Decoded::Unlisted,
@@ -126,13 +126,13 @@ pub fn decode(code: &[u8]) -> Decoded
     }
     let b = code[0];
     if b < 0x80 {
-        return whole_alone(reader::first::read(code, b));
+        return whole_alone(first::read(code, b));
     }
     match b / 8 {
         25 | 27 | 29 => {
-            let size = reader::first::size_of(b / 16);
+            let size = number::size_of(b / 16);
             whole_of_register(
-                reader::registers::read(code, size),
+                registers::read(code, size),
                 size,
                 Operand::Register(b % 8),
             )

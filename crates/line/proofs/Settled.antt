@@ -24,7 +24,7 @@ use Rattle.step.specs.Step.{guarded, tryOf}
 use Rattle.turn.specs.Many.{manyOf}
 use Rattle.run.specs.Run.{runOf}
 use Rattle.line.specs.Lines.{ranLine, lineFor}
-use Rattle.line.specs.Text.{hexOf, decimalIn}
+use Rattle.text.specs.Text.{hexOf, decimalIn}
 use Rattle.line.specs.Statements.{Settled, ExampleLine}
 
 pub settled : Settled

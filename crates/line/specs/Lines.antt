@@ -1,5 +1,5 @@
 -- The line that the program prints.
-use Rattle.little.specs.Words.{ℕ, _+_, _≤_, _≡_, List, [], _∷_, _++_, cond, length, take, set, replicate, ltb}
+use Rattle.little.specs.Words.{ℕ, _≤_, _≡_, List, [], _∷_, _++_, cond, length, replicate, ltb}
 use Rattle.answer.specs.{declared.Answer.Answer, declared.Answer.the-variants.Done, declared.Answer.the-variants.Refused, declared.Why.Why}
 use Rattle.answer.specs.{declared.Why.the-variants.TooLong, Number.whyNumber, Number.numberOf}
 use Rattle.little.specs.declared.Size.the-variants.{Long}
@@ -7,26 +7,7 @@ use Rattle.state.specs.{declared.State.State, Register.getRegister, Sr.srOf}
 use Rattle.turn.specs.Many.{Result}
 use Rattle.step.specs.{Reset.resetOf}
 use Rattle.run.specs.Run.{runOf}
-use Rattle.line.specs.Text.{decimalOf, hexOf, lineOf}
-use Rattle.line.specs.declared.Line.{Line}
-
--- ---- a line that is being made: its bytes so far, and a byte more where there is room
--- the bytes of a line so far
-abbrev pub written : Line → List ℕ
-written l = take (l .length) (l .text)
-
--- no byte yet, and room for 128
-abbrev pub emptyLine : Line
-emptyLine = record { text = replicate 128 0; length = 0 }
-
--- a byte more, where there is room
-abbrev pub withByte : Line → ℕ → Line
-withByte l b = cond (ltb (l .length) 128) (record { text = set (l .text) (l .length) b; length = l .length + 1 }) l
-
--- several bytes more, one after the other
-unfoldable pub grown : Line → List ℕ → Line
-grown l [] = l
-grown l (b ∷ bs) = grown (withByte l b) bs
+use Rattle.text.specs.{declared.Line.Line, Text.decimalOf, Text.hexOf, Text.lineOf, Grown.written, Grown.emptyLine, Grown.grown}
 
 -- ---- the fields
 -- the counter has six hex digits, SR four and each register eight

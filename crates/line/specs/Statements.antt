@@ -2,7 +2,7 @@
 use Rattle.little.specs.Words.{ℕ, code, _≡_, List, [], _∷_, _++_, replicate}
 use Rattle.line.specs.Lines.{lineFor, LineMeets}
 use Prim.Native.String as string
-use Rattle.line.specs.declared.Line.{Line}
+use Rattle.text.specs.declared.Line.{Line}
 
 -- any two lines that meet what the call promises are the same, with the bytes behind their end
 abbrev pub Settled : Type 0

@@ -30,8 +30,8 @@ use exec::back;
 use exec::current;
 use exec::of_register;
 use exec::on;
+use number::size_of;
 use operand::address;
-use reader::first::size_of;
 use state::Bank;
 use state::State;
 
@@ -147,20 +147,20 @@ fn once(
     }
     let b = code[0];
     if b < 0x80 {
-        let read = reader::first::read(code, b);
+        let read = first::read(code, b);
         return alone(read, regs, counter, bank, flags, spare, ram, rom);
     }
     let bank = current(&*bank);
     match b / 8 {
         25 | 27 | 29 => {
             let size = size_of(b / 16);
-            let read = reader::registers::read(code, size);
+            let read = registers::read(code, size);
             of_register(read, size, b % 8, bank, flags, regs, counter)
         }
-        _ => match reader::memory::begin(code, b) {
+        _ => match forms::begin(code, b) {
             Begun::Form(base, v, n) => {
                 let at = address(bank, &*regs, base, v);
-                let read = reader::memory::after(code, b, n);
+                let read = forms::after(code, b, n);
                 of_memory(read, at, bank, flags, regs, counter, ram, rom, more)
             }
             Begun::Short => Answer::Refused(Why::NoCode),

@@ -1,5 +1,5 @@
 use mathlib.Core.Path.{ap, sym, _∙_}
-use Rattle.line.specs.Lines.{emptyLine, grown}
+use Rattle.text.specs.Grown.{emptyLine, grown}
 use Rattle.line.proofs.Laws.{line-whole, for-long, for-stops, for-ran}
 use borrow.Author.Needs.{needs}
 use Rattle.line.proofs.for_image.Statement.{statement}

@@ -1,7 +1,7 @@
 use mathlib.Core.List.{[], _∷_}
 use Rattle.state.specs.Sr.{srOf}
-use Rattle.line.specs.Text.{hexOf}
-use Rattle.line.proofs.Laws.{field, more}
+use Rattle.text.specs.Text.{hexOf}
+use Rattle.text.proofs.Laws.{field, more}
 use borrow.Author.Needs.{needs}
 use Rattle.line.proofs.placed.Statement.{statement}
 use Rattle.line.proofs.placed.Tie as tie

@@ -1,5 +1,5 @@
 use Rattle.line.specs.Lines.{registerOf}
-use Rattle.line.proofs.Laws.{field}
+use Rattle.text.proofs.Laws.{field}
 use borrow.Author.Needs.{needs}
 use Rattle.line.proofs.register.Statement.{statement}
 use Rattle.line.proofs.register.Tie as tie

@@ -1,6 +1,6 @@
 use mathlib.Core.List.{[], _∷_}
 use Rattle.line.specs.Lines.{registerOf}
-use Rattle.line.proofs.Laws.{more, four}
+use Rattle.text.proofs.Laws.{more, four}
 use borrow.Author.Needs.{needs}
 use Rattle.line.proofs.registers.Statement.{statement}
 use Rattle.line.proofs.registers.Tie as tie

@@ -1,0 +1,146 @@
+// The register forms: what the byte after the register says.
+ghost use mathlib.Core.Path.{_≡_};
+ghost use mathlib.Core.List.{List};
+ghost use Prim.Native.Nat.{ℕ, _/_, _<_, _≤_};
+ghost use lib.ListN.{length};
+ghost use Rattle.code.specs.Said.{Said, judge};
+ghost use Rattle.code.specs.Rows.{lookup, byRows, only, noByte};
+ghost use Rattle.code.specs.Registers.{registerRows, placesRows, shiftKind};
+ghost use Rattle.code.specs.inner.Parts.{registerAs};
+use alu::Change;
+use alu::Shift;
+use code::Found;
+use code::OfRegister;
+use code::Op;
+use code::Operand;
+use code::Use;
+use little::Size;
+use number::arith_of;
+
+// The kind of shift, by the low bits of its code.
+fn shift_of(n: u8) -> Shift
+    ensures { λ r. ⌜ r ≡ shiftKind n ⌝ }
+{
+    match n {
+        0 => Shift::Sla,
+        1 => Shift::Sra,
+        2 => Shift::Sll,
+        _ => Shift::Srl,
+    }
+}
+
+// 00 to 07: 03 and a constant.
+fn case_00(code: &[u8], size: Size, c: u8) -> OfRegister
+    requires { ⌜ (2 ≤ length (now code)) × (c < 8) ⌝ }
+    ensures { λ d. ⌜ ((o : Operand) → registerAs d size o ≡ judge (lookup (registerRows size o) c) (now (code .entry)) 2) ⌝ }
+{
+    if c == 3 {
+        let n = little::bytes(size);
+        return match number::number(code, 2, n) {
+            Found::Value(v) => OfRegister::Number(v, 2 + n),
+            Found::Missing => OfRegister::Short,
+        };
+    }
+    OfRegister::Unlisted
+}
+
+// C8 to CF and a constant.
+fn compute_constant(code: &[u8], size: Size, c: u8) -> OfRegister
+    requires { ⌜ (2 ≤ length (now code)) × (c / 8 ≡ 25) ⌝ }
+    ensures { λ d. ⌜ ((o : Operand) → registerAs d size o ≡ judge (lookup (registerRows size o) c) (now (code .entry)) 2) ⌝ }
+{
+    let n = little::bytes(size);
+    match number::number(code, 2, n) {
+        Found::Value(v) => OfRegister::With(arith_of(c % 8), v, 2 + n),
+        Found::Missing => OfRegister::Short,
+    }
+}
+
+// A word or a long.
+fn no_byte(size: Size) -> bool
+    ensures { λ r. ⌜ r ≡ noByte size ⌝ }
+{
+    match size {
+        Size::Byte => false,
+        Size::Word => true,
+        Size::Long => true,
+    }
+}
+
+// A change that is listed only where a test is so.
+fn only(listed: bool, how: Change) -> OfRegister
+    ensures { λ d. ⌜ ((z : Size) (o : Operand) (s : List ℕ) → registerAs d z o ≡ judge (only listed (Said.whole (Op.Puts (Use.Changed how)) z o)) s 2) ⌝ }
+{
+    if listed {
+        OfRegister::Changed(how, 2)
+    } else {
+        OfRegister::Unlisted
+    }
+}
+
+// 10 to 17: 12 EXTZ, 13 EXTS.
+fn case_10(size: Size, c: u8) -> OfRegister
+    requires { ⌜ c / 8 ≡ 2 ⌝ }
+    ensures { λ d. ⌜ ((o : Operand) (s : List ℕ) → registerAs d size o ≡ judge (lookup (registerRows size o) c) s 2) ⌝ }
+{
+    match c {
+        0x12 => only(no_byte(size), Change::Extz),
+        0x13 => only(no_byte(size), Change::Exts),
+        _ => OfRegister::Unlisted,
+    }
+}
+
+// A shift, by the byte of its places.
+fn shifted(code: &[u8], size: Size, shift: Shift) -> OfRegister
+    ensures { λ d. ⌜ ((o : Operand) → registerAs d size o ≡ judge (byRows (placesRows size o shift)) (now (code .entry)) 2) ⌝ }
+{
+    if code.len() <= 2 {
+        return OfRegister::Short;
+    }
+    let places = code[2];
+    if 15 < places {
+        return OfRegister::Unlisted;
+    }
+    OfRegister::Changed(Change::ShiftBy(shift, places), 3)
+}
+
+// E8 to EF: EC SLA, ED SRA, EE SLL, EF SRL.
+fn case_e8(code: &[u8], size: Size, c: u8) -> OfRegister
+    requires { ⌜ c / 8 ≡ 29 ⌝ }
+    ensures { λ d. ⌜ ((o : Operand) → registerAs d size o ≡ judge (lookup (registerRows size o) c) (now (code .entry)) 2) ⌝ }
+{
+    if c < 0xEC {
+        return OfRegister::Unlisted;
+    }
+    shifted(code, size, shift_of(c % 4))
+}
+
+// What the second byte c says.
+fn second(code: &[u8], size: Size, c: u8) -> OfRegister
+    requires { ⌜ 2 ≤ length (now code) ⌝ }
+    ensures { λ d. ⌜ ((o : Operand) → registerAs d size o ≡ judge (lookup (registerRows size o) c) (now (code .entry)) 2) ⌝ }
+{
+    let n = c % 8;
+    match c / 8 {
+        0 => case_00(code, size, c),
+        2 => case_10(size, c),
+        12 => OfRegister::Changed(Change::Inc(n), 2),
+        13 => OfRegister::Changed(Change::Dec(n), 2),
+        17 => OfRegister::Load(n, 2),
+        19 => OfRegister::From(n, 2),
+        16 | 18 | 20 | 22 | 24 | 26 | 28 | 30 => OfRegister::Compute(arith_of(c / 16 % 8), n, 2),
+        25 => compute_constant(code, size, c),
+        29 => case_e8(code, size, c),
+        _ => OfRegister::Unlisted,
+    }
+}
+
+// A register form of a size, whatever its register.
+pub fn read(code: &[u8], size: Size) -> OfRegister
+    ensures { λ d. ⌜ ((o : Operand) → registerAs d size o ≡ judge (byRows (registerRows size o)) (now (code .entry)) 1) ⌝ }
+{
+    if code.len() <= 1 {
+        return OfRegister::Short;
+    }
+    second(code, size, code[1])
+}
