@@ -75,7 +75,7 @@ value-4 s i h =
     let f : i + 1 + 2 ≡ i + 3 = omega arith in
     omega (arith, value-more s i 3 (omega arith), rw (e, f) at (value-3 s (i + 1) (omega arith)))
 
-pub bytes-bounds : (z : Size) (n : ℕ) → n ≡ bytesOf z → (1 ≤ n) × (n ≤ 4)
+pub bytes-bounds : (z : Size) (n : ℕ) → n ≡ bytesOf z → n ≤ 4
 bytes-bounds Byte n e = omega arith
 bytes-bounds Word n e = omega arith
 bytes-bounds Long n e = omega arith

@@ -109,7 +109,7 @@ module _ (Y : Type 0) (z : Size) (r a : ℕ) (e : a ≡ 0xC8 + sizeStep z + r) (
   register-rows : Rows Y (registerRows z (Register r)) 2 (a ∷ [])
   unfolding registerRows codeOf
   register-rows =
-      let n : bytesOf z ≤ 4 = bytes-bounds z (bytesOf z) refl .1 in
+      let n : bytesOf z ≤ 4 = bytes-bounds z (bytesOf z) refl in
       let l : 2 ≤ 6 = omega arith in (
         λ b h. (λ v. tt, λ v g. (omega arith, more b 0x03 v (eqb-true b _ h), λ y. (g y, q))),
         (

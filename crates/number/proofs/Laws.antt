@@ -5,7 +5,7 @@ use mathlib.Core.List.{List}
 use native.Mathlib.Omega.{arith}
 use Rattle.code.specs.declared.Found.{Found}
 use Rattle.code.specs.Said.{numberAt}
-use Rattle.number.specs.Number.{upToFour}
+use Rattle.code.specs.inner.Parts.{upToFour}
 
 few : (n : ℕ) → n ≤ 4 → upToFour n ≡ n
 few zero h = refl

@@ -1,5 +1,5 @@
 -- What each of the readers gives, as a decoded instruction.
-use Rattle.little.specs.Words.{ℕ, _+_, _/_, _%_, cond, _||_, List, [], _++_, eqb}
+use Rattle.little.specs.Words.{ℕ, _+_, _/_, _%_, cond, _||_, List, [], _++_, eqb, ltb}
 use Rattle.little.specs.declared.Size.{Size}
 use Rattle.little.specs.declared.Size.the-variants.{Byte, Word, Long}
 use Rattle.code.specs.{declared.MemoryForm.MemoryForm, declared.Base.the-variants.Indirect, declared.Operand.Operand}
@@ -17,6 +17,10 @@ use Rattle.code.specs.declared.Begun.{Begun}
 use Rattle.code.specs.declared.Begun.the-variants as begun
 use Rattle.code.specs.declared.OfMemory.{OfMemory}
 use Rattle.code.specs.declared.OfMemory.the-variants as memory
+
+-- no number of a code has more than four bytes: of more, four
+abbrev pub upToFour : ℕ → ℕ
+upToFour n = cond (ltb n 4) n 4
 
 -- the size of an operand, by the high digit of the first byte: word for 9 and D, long for A and E, and byte for any other
 unfoldable pub sizeOf : ℕ → Size

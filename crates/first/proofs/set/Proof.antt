@@ -22,10 +22,10 @@ enum-told : tie.Need-enum-told
 enum-told c = search needs
 
 returns : tie.Need-returns
-returns c = rw (← c .before .before .before .before .bytes .ensures) (number-whole _ _ _ _ _ _ _ _ _ (as-many _ _ _ (bytes-bounds (c .before .before .before .before .before .before .args .size) _ (c .before .before .before .before .bytes .ensures) .1) (c .before .before .before .number .ensures)) (c .before .v .given .1) refl)
+returns c = rw (← c .before .before .before .before .bytes .ensures) (number-whole _ _ _ _ _ _ _ _ _ (as-many _ _ _ (bytes-bounds (c .before .before .before .before .before .before .args .size) _ (c .before .before .before .before .bytes .ensures)) (c .before .before .before .number .ensures)) (c .before .v .given .1) refl)
 
 returns-2 : tie.Need-returns-2
-returns-2 c = rw (← c .before .before .before .bytes .ensures) (number-short _ _ _ _ _ (as-many _ _ _ (bytes-bounds (c .before .before .before .before .before .args .size) _ (c .before .before .before .bytes .ensures) .1) (c .before .before .number .ensures)) (c .enum-told .given .1))
+returns-2 c = rw (← c .before .before .before .bytes .ensures) (number-short _ _ _ _ _ (as-many _ _ _ (bytes-bounds (c .before .before .before .before .before .args .size) _ (c .before .before .before .bytes .ensures)) (c .before .before .number .ensures)) (c .enum-told .given .1))
 
 pub set-spec : {M : Type 1} → statement M
 set-spec = tie.close (tie.spec bytes-requires number-requires enum-known-v add-t8 enum-told returns returns-2)

@@ -27,11 +27,11 @@ enum-told c = search needs
 
 returns : tie.Need-returns
 unfolding registerRows lookup
-returns c = λ o. rw (c .before .before .before .before .before .if1 .taken, ← c .before .before .before .before .bytes .ensures) (number-whole _ _ _ _ _ _ _ _ _ (as-many _ _ _ (bytes-bounds (c .before .before .before .before .before .before .before .args .size) _ (c .before .before .before .before .bytes .ensures) .1) (c .before .before .before .number .ensures)) (c .before .v .given .1) refl)
+returns c = λ o. rw (c .before .before .before .before .before .if1 .taken, ← c .before .before .before .before .bytes .ensures) (number-whole _ _ _ _ _ _ _ _ _ (as-many _ _ _ (bytes-bounds (c .before .before .before .before .before .before .before .args .size) _ (c .before .before .before .before .bytes .ensures)) (c .before .before .before .number .ensures)) (c .before .v .given .1) refl)
 
 returns-2 : tie.Need-returns-2
 unfolding registerRows lookup
-returns-2 c = λ o. rw (c .before .before .before .before .if1 .taken, ← c .before .before .before .bytes .ensures) (number-short _ _ _ _ _ (as-many _ _ _ (bytes-bounds (c .before .before .before .before .before .before .args .size) _ (c .before .before .before .bytes .ensures) .1) (c .before .before .number .ensures)) (c .enum-told .given .1))
+returns-2 c = λ o. rw (c .before .before .before .before .if1 .taken, ← c .before .before .before .bytes .ensures) (number-short _ _ _ _ _ (as-many _ _ _ (bytes-bounds (c .before .before .before .before .before .before .args .size) _ (c .before .before .before .bytes .ensures)) (c .before .before .number .ensures)) (c .enum-told .given .1))
 
 returns-3 : tie.Need-returns-3
 unfolding judge

@@ -25,10 +25,10 @@ enum-told : tie.Need-enum-told
 enum-told c = search needs
 
 returns : tie.Need-returns
-returns c = λ o. rw (compute-constant _ _ _ (c .before .before .before .before .before .before .before .pre .1), ← c .before .before .before .before .before .bytes .ensures) (number-whole _ _ _ _ _ _ _ _ _ (as-many _ _ _ (bytes-bounds (c .before .before .before .before .before .before .before .args .size) _ (c .before .before .before .before .before .bytes .ensures) .1) (c .before .before .before .before .number .ensures)) (c .before .before .v .given .1) (rw (c .arith-of .ensures)))
+returns c = λ o. rw (compute-constant _ _ _ (c .before .before .before .before .before .before .before .pre .1), ← c .before .before .before .before .before .bytes .ensures) (number-whole _ _ _ _ _ _ _ _ _ (as-many _ _ _ (bytes-bounds (c .before .before .before .before .before .before .before .args .size) _ (c .before .before .before .before .before .bytes .ensures)) (c .before .before .before .before .number .ensures)) (c .before .before .v .given .1) (rw (c .arith-of .ensures)))
 
 returns-2 : tie.Need-returns-2
-returns-2 c = λ o. rw (compute-constant _ _ _ (c .before .before .before .before .before .pre .1), ← c .before .before .before .bytes .ensures) (number-short _ _ _ _ _ (as-many _ _ _ (bytes-bounds (c .before .before .before .before .before .args .size) _ (c .before .before .before .bytes .ensures) .1) (c .before .before .number .ensures)) (c .enum-told .given .1))
+returns-2 c = λ o. rw (compute-constant _ _ _ (c .before .before .before .before .before .pre .1), ← c .before .before .before .bytes .ensures) (number-short _ _ _ _ _ (as-many _ _ _ (bytes-bounds (c .before .before .before .before .before .args .size) _ (c .before .before .before .bytes .ensures)) (c .before .before .number .ensures)) (c .enum-told .given .1))
 
 pub compute-constant-spec : {M : Type 1} → statement M
 compute-constant-spec =
