@@ -131,11 +131,7 @@ pub fn decode(code: &[u8]) -> Decoded
     match b / 8 {
         25 | 27 | 29 => {
             let size = number::size_of(b / 16);
-            whole_of_register(
-                registers::read(code, size),
-                size,
-                Operand::Register(b % 8),
-            )
+            whole_of_register(registers::read(code, size), size, Operand::Register(b % 8))
         }
         _ => whole_begun(code, b),
     }
