@@ -17,6 +17,7 @@ use code::OfMemory;
 use code::Op;
 use code::Operand;
 use little::Size;
+use number::arith_of;
 use number::size_of;
 
 // A copy or a compare by the byte c, 10 to 17: up in 10, 11, 14, 15, and again where c is odd.
@@ -113,7 +114,7 @@ pub fn after(code: &[u8], b: u8, at: usize) -> OfMemory
     let size = size_of(b / 16);
     let r = c % 8;
     if 0x80 <= c {
-        let op = number::arith_of(c / 16 % 8);
+        let op = arith_of(c / 16 % 8);
         if c / 8 % 2 == 1 {
             return OfMemory::ComputeInto(op, r, size, at + 1);
         }

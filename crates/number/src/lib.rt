@@ -1,4 +1,4 @@
-// Numbers in a code: a constant of some bytes, and what a digit of it stands for.
+// Numbers in a code, low byte first, and the size and the operation that a digit names.
 ghost use mathlib.Core.Path.{_≡_};
 ghost use Prim.Native.Nat.{_+_, _*_, _%_, _<_, _≤_};
 ghost use lib.ListN.{length, getD, take, drop};
@@ -46,7 +46,7 @@ fn up_to_four(n: usize) -> usize
     if n < 4 { n } else { 4 }
 }
 
-// The same, or that the bytes are not all there. No number of a code has more than four: of more, the first four are meant.
+// The same, or that the bytes are not all there. No number of a code has more than four: of more, the first four are read.
 pub fn number(code: &[u8], at: usize, n: usize) -> Found
     ensures { λ r. ⌜ r ≡ numberAt (now (code .entry)) at (upToFour n) ⌝ }
 {

@@ -1,4 +1,4 @@
--- What each of the readers gives, as a decoded instruction.
+-- What each of the readers gives, as a decoded instruction, and what they read it by.
 use Rattle.little.specs.Words.{ℕ, _+_, _/_, _%_, cond, _||_, List, [], _++_, eqb, ltb}
 use Rattle.little.specs.declared.Size.{Size}
 use Rattle.little.specs.declared.Size.the-variants.{Byte, Word, Long}
@@ -18,7 +18,7 @@ use Rattle.code.specs.declared.Begun.the-variants as begun
 use Rattle.code.specs.declared.OfMemory.{OfMemory}
 use Rattle.code.specs.declared.OfMemory.the-variants as memory
 
--- no number of a code has more than four bytes: of more, four
+-- how many bytes of a number are read: no code has one of more than four
 abbrev pub upToFour : ℕ → ℕ
 upToFour n = cond (ltb n 4) n 4
 

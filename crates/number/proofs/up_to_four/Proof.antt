@@ -2,14 +2,10 @@ use native.Mathlib.Omega.{arith}
 use borrow.Author.Tests.{lt-ltb, le-ltb}
 use Rattle.number.proofs.up_to_four.Statement.{statement}
 use Rattle.number.proofs.up_to_four.Tie as tie
-use Rattle.number.proofs.up_to_four.Reads as reads
-use Rattle.number.proofs.up_to_four.Lts as lts
 
--- src/lib.rt:44:1
 returns : tie.Need-returns
 returns c = (simp (lt-ltb _ _ (c .if1 .taken)), omega arith)
 
--- src/lib.rt:44:1
 returns-2 : tie.Need-returns-2
 returns-2 c = (simp (le-ltb _ _ (c .if1 .left)), omega arith)
 
