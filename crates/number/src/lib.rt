@@ -10,6 +10,13 @@ use alu::Arith;
 use code::Found;
 use little::Size;
 
+// No number of a code has more than four bytes.
+fn up_to_four(n: usize) -> usize
+    ensures { λ r. ⌜ (r ≡ upToFour n) × (r ≤ 4) ⌝ }
+{
+    if n < 4 { n } else { 4 }
+}
+
 // The byte at an index.
 fn byte(code: &[u8], at: usize) -> u32
     requires { ⌜ at < length (now code) ⌝ }
@@ -40,13 +47,7 @@ fn read(code: &[u8], at: usize, n: usize) -> u32
     }
 }
 
-fn up_to_four(n: usize) -> usize
-    ensures { λ r. ⌜ (r ≡ upToFour n) × (r ≤ 4) ⌝ }
-{
-    if n < 4 { n } else { 4 }
-}
-
-// The same, or that the bytes are not all there. No number of a code has more than four: of more, the first four are read.
+// The same of up to four bytes, or that they are not all there.
 pub fn number(code: &[u8], at: usize, n: usize) -> Found
     ensures { λ r. ⌜ r ≡ numberAt (now (code .entry)) at (upToFour n) ⌝ }
 {

@@ -5,7 +5,7 @@ ghost use Prim.Native.Nat.{_%_};
 ghost use Rattle.text.specs.Text.{digitOf, decimalIn, decimalOf, hexOf};
 ghost use Rattle.text.specs.Grown.{emptyLine, grown};
 
-// A text that grows at its end. 128 bytes are more than the longest line has; past them nothing is added.
+// A text that grows at its end, up to 128 bytes; past them nothing is added.
 pub struct Line {
     pub text: [u8; 128],
     pub length: usize,
