@@ -49,9 +49,11 @@ extern "C" {
 /*
  * The version of this header and of the archive beside it. The first number grows where a program that was right before
  * has to be changed; the second where something was added.
+ *   1.0  the first
+ *   1.1  LDF with 04 to 07 is done, where it was refused with 4: it selects the bank of the number's low two bits, 0 to 3
  */
 #define TLCS900H_VERSION_MAJOR 1
-#define TLCS900H_VERSION_MINOR 0
+#define TLCS900H_VERSION_MINOR 1
 
 #define TLCS900H_RECORD 88          /* the bytes of a record */
 #define TLCS900H_MEMORY 65536       /* the most bytes of RAM, and of ROM */

@@ -120,7 +120,7 @@ static void same_number(unsigned long is, unsigned long expected) {
 
 static void constants(void) {
     same_number(TLCS900H_VERSION_MAJOR, 1);
-    same_number(TLCS900H_VERSION_MINOR, 0);
+    same_number(TLCS900H_VERSION_MINOR, 1);
     same_number(TLCS900H_RECORD, 88);
     same_number(TLCS900H_MEMORY, 65536);
     same_number(TLCS900H_LEAST_ROM, 256);
@@ -277,11 +277,13 @@ static void show_end(struct lent *memory, uint32_t end, const uint8_t *bytes, ui
 static void lengths(void) {
     static const struct code listed[] = {{1, {0x00}},
                                          {2, {0x21, 0x05}},
+                                         {2, {0x17, 0x05}},
+                                         {2, {0x17, 0x07}},
                                          {3, {0x31, 0x34, 0x12}},
                                          {4, {0x1D, 0x10, 0x20, 0x30}},
                                          {5, {0x43, 0x78, 0x56, 0x34, 0x12}},
                                          {6, {0xE8, 0xC8, 0x78, 0x56, 0x34, 0x12}}};
-    static const struct code unlisted[] = {{1, {0x01}}, {1, {0x2F}}, {2, {0x17, 0x04}}, {3, {0xC9, 0xEC, 0x10}}};
+    static const struct code unlisted[] = {{1, {0x01}}, {1, {0x2F}}, {2, {0x17, 0x08}}, {3, {0xC9, 0xEC, 0x10}}};
     size_t i;
     uint8_t there;
     for (i = 0; i < COUNT(listed); i++)
@@ -363,7 +365,7 @@ static void registers(void) {
 static void changes(void) {
     static const uint8_t store[6] = {0xF1, 0x10, 0x00, 0x60}; /* LD (0010H),XWA, of bank 2 */
     static const uint8_t swap[6] = {0x16};                    /* EX F,F' */
-    static const uint8_t bank[6] = {0x17, 0x03};              /* LDF 3 */
+    uint8_t bank[6] = {0x17};                                 /* LDF */
     lend_code(0, store, 6);
     keep();
     memcpy(kept(&ram) + 0x10, kept(&record) + 32, 4);
@@ -374,11 +376,13 @@ static void changes(void) {
     put(kept(&record) + 80, 4, 1);
     put(kept(&record) + 84, 4, 0x00D7DA91);
     held("step", step(), 0);
-    lend_code(0, bank, 6);
-    keep();
-    put(kept(&record) + 80, 4, 2);
-    kept(&record)[85] = 0xDB;
-    held("step", step(), 0);
+    for (bank[1] = 0; bank[1] < 8; bank[1]++) {
+        lend_code(0, bank, 6);
+        keep();
+        put(kept(&record) + 80, 4, 2);
+        kept(&record)[85] = (uint8_t)(0xD8 | bank[1] % 4);
+        held("step", step(), 0);
+    }
 }
 
 /* ---- a run that stops, and is asked again; and the longest run */

@@ -18,7 +18,7 @@ use Rattle.code.specs.Rows.{lookup}
 use Rattle.code.specs.Registers.{placesRows, registerRows}
 use Rattle.code.specs.Memory.{memoryRows, blocks, indirectRows}
 use Rattle.code.specs.Memory as memory
-use Rattle.code.specs.Listed.{bankRows, flagRows, constantRows, stackRows, jumpRows, relativeRows, registerFormRows, absoluteRows, memoryFormRows, memoryAtRows, storeFormRows, aloneRows, memoryFirstRows, firstRows, decodeOf}
+use Rattle.code.specs.Listed.{bankNumberRows, bankRows, flagRows, constantRows, stackRows, jumpRows, relativeRows, registerFormRows, absoluteRows, memoryFormRows, memoryAtRows, storeFormRows, aloneRows, memoryFirstRows, firstRows, decodeOf}
 use Rattle.operand.specs.Operand.{valueIn, storing}
 use Rattle.operand.specs.Flag.{flagged}
 use Rattle.control.specs.Control.{jumpOf, controlOf}
@@ -31,14 +31,15 @@ use Rattle.step.specs.Step.{guarded, tryOf}
 use Rattle.turn.specs.Many.{manyOf}
 use Rattle.run.specs.Run.{runOf}
 use Rattle.cases.specs.Table.{begin}
-use Rattle.cases.specs.Runs.{copyRuns, compareRuns, refused, onto, checks, RunsHold}
+use Rattle.cases.specs.Runs.{copyRuns, compareRuns, refused, onto, checks, startUp, RunsHold}
 
 pub runs-hold : RunsHold
-unfolding begin copyRuns compareRuns refused onto checks byteOf flagsOf basic holdsOf onesOf evenOnes parityOf computedOf sumOf differenceOf plain andOf orOf xorOf operated placesOf shiftOf shiftBy incOf decOf valueOf bytesFrom replaced placeOf loadOf storeOf ramAfter codeAt resetState validOf longOf withLong withCounter withBank withBothFlags withFlags getBits setBits slotIn setSlot slotOf registerAt setRegister numberAt judge lookup placesRows registerRows memoryRows memory.copies memory.compares blocks indirectRows bankRows flagRows constantRows stackRows jumpRows relativeRows registerFormRows memoryFormRows memoryAtRows absoluteRows storeFormRows aloneRows memoryFirstRows firstRows decodeOf valueIn storing flagged jumpOf counted moved copied compared roundOf goesOn endsAt pastOf controlOf stackOf putsOf effectOf executedOf guarded onceOf tryOf manyOf runOf
+unfolding begin copyRuns compareRuns refused onto checks startUp byteOf flagsOf basic holdsOf onesOf evenOnes parityOf computedOf sumOf differenceOf plain andOf orOf xorOf operated placesOf shiftOf shiftBy incOf decOf valueOf bytesFrom replaced placeOf loadOf storeOf ramAfter codeAt resetState validOf longOf withLong withCounter withBank withBothFlags withFlags getBits setBits slotIn setSlot slotOf registerAt setRegister numberAt judge lookup placesRows registerRows memoryRows memory.copies memory.compares blocks indirectRows bankNumberRows bankRows flagRows constantRows stackRows jumpRows relativeRows registerFormRows memoryFormRows memoryAtRows absoluteRows storeFormRows aloneRows memoryFirstRows firstRows decodeOf valueIn storing flagged jumpOf counted moved copied compared roundOf goesOn endsAt pastOf controlOf stackOf putsOf effectOf executedOf guarded onceOf tryOf manyOf runOf
 runs-hold = (
   (refl, (refl, (refl, (refl, (refl, tt))))),
   (refl, (refl, (refl, (refl, (refl, (refl, (refl, (refl, tt)))))))),
   (refl, (refl, (refl, (refl, tt)))),
   (refl, (refl, tt)),
+  (refl, (refl, (refl, (refl, (refl, (refl, tt)))))),
   (refl, (refl, (refl, (refl, (refl, (refl, tt)))))),
 )

@@ -1,8 +1,9 @@
--- Runs of repeating copies and compares, to the end and not so far, refused in the middle, and onto their own code; and the checks of a run.
+-- Runs of repeating copies and compares, to the end and not so far, refused in the middle, and onto their own code; the checks of a run;
+-- and the mill's start-up.
 use Rattle.little.specs.Words.{ℕ, List, [], _∷_, replicate}
 use Rattle.answer.specs.declared.Answer.the-variants.{Done, Refused}
-use Rattle.answer.specs.declared.Why.the-variants.{TooMany, TooLong, Invalid, NoCode, Missing, ToRom}
-use Rattle.cases.specs.Table.{Machine, Case, ComesOut, OfEach, begin, _▹_, _&_, nothing, A, WA, BC, XDE, XHL, XIX, XIY, F, Counter, Ram, row, does}
+use Rattle.answer.specs.declared.Why.the-variants.{TooMany, TooLong, Invalid, NoCode, Unlisted, Missing, ToRom}
+use Rattle.cases.specs.Table.{Machine, Case, ComesOut, OfEach, begin, _▹_, _&_, nothing, A, WA, BC, XDE, XHL, XIX, XIY, F, Bank, Counter, Ram, row, does}
 
 -- ---- the starts
 -- LDIR of three bytes at 4 to 7
@@ -27,6 +28,10 @@ toRomStart = begin 0x00 (0x00 ∷ 0x00 ∷ 0x00 ∷ 0xC3 ∷ 0xC4 ∷ 0xC5 ∷ [
 
 abbrev pub toRomRom : List ℕ
 toRomRom = 0x83 ∷ 0x13 ∷ 0x00 ∷ 0x00 ∷ []
+
+-- LDF n and LD A,2AH, from bank 3 on
+abbrev pub ldfStart : ℕ → Machine
+ldfStart n = begin 0xD7 (0x17 ∷ n ∷ 0x21 ∷ 0x2A ∷ []) ▹ Bank 3
 
 -- ---- the tables
 unfoldable pub copyRuns : List Case
@@ -98,6 +103,22 @@ checks =
     ∷ row 0 (begin 0x20 []) [] 0 nothing (Refused Invalid)
     ∷ []
 
+-- the mill's start-up, and each number from 4 on (request K2): the bank is its low two bits, and nothing else changes
+unfoldable pub startUp : List Case
+startUp =
+    -- LDF 5: bank 1, and the A that is loaded next is that of bank 1
+    does 1 (ldfStart 0x05) (Bank 1 & Counter 2)
+    ∷ does 2 (ldfStart 0x05) (Bank 1 & A 0x2A & Counter 4)
+    -- LDF 4, 6 and 7: banks 0, 2 and 3
+    ∷ does 1 (ldfStart 0x04) (Bank 0 & Counter 2)
+    ∷ does 1 (ldfStart 0x06) (Bank 2 & Counter 2)
+    ∷ does 1 (ldfStart 0x07) (Bank 3 & Counter 2)
+    -- 08 is not listed
+    ∷ row 1 (ldfStart 0x08) [] 0 nothing (Refused Unlisted)
+    ∷ []
+
 -- all these tables hold
 abbrev pub RunsHold : Type 0
-RunsHold = OfEach ComesOut copyRuns × OfEach ComesOut compareRuns × OfEach ComesOut refused × OfEach ComesOut onto × OfEach ComesOut checks
+RunsHold =
+    OfEach ComesOut copyRuns × OfEach ComesOut compareRuns × OfEach ComesOut refused × OfEach ComesOut onto × OfEach ComesOut checks
+    × OfEach ComesOut startUp

@@ -54,9 +54,9 @@ pub long-jump : (cc : ℕ) → cc < 16 → Lists firstRows (0x70 + cc) (withCons
 unfolding first
 long-jump = table _ _ 16 refl
 
-pub bank-number : (n : ℕ) → n < 4 → Lists bankNumberRows n (whole (Controls Ldf) Byte (Constant n))
+pub bank-number : (n : ℕ) → n < 8 → Lists bankNumberRows n (whole (Controls Ldf) Byte (Constant n))
 unfolding bankNumberRows lookup
-bank-number = table _ _ 4 refl
+bank-number = table _ _ 8 refl
 
 -- ---- register forms
 pub register-form : (z : Size) (r : ℕ) → r < 8 → Lists firstRows (0xC8 + sizeStep z + r) (byRows (registerRows z (Register r)))

@@ -70,8 +70,8 @@ on-byte P n f Long o h = absurd (h .0)
 is-alone : (op : Op) (b : ℕ) → Lists firstRows b (alone op) → (z : Size) (o : Operand) → Holds (aloneRange z o) → Is (b ∷ []) op z o
 is-alone op b e = on-byte _ 1 (λ v h. let q : v ≡ 0 = omega arith in rw q (byte firstRows b e))
 
-is-bank : Lists firstRows 0x17 (byRows bankNumberRows) → (z : Size) (o : Operand) → Holds (that (onlyByte z)) × Holds (constantBelow 4 o) → Is (0x17 ∷ constantIn o ∷ []) (Controls Ldf) z o
-is-bank e = on-byte _ 4 (λ n h. next (byte firstRows 0x17 e) (byte bankNumberRows n (bank-number n h)))
+is-bank : Lists firstRows 0x17 (byRows bankNumberRows) → (z : Size) (o : Operand) → Holds (controlRange Ldf z o) → Is (0x17 ∷ constantIn o ∷ []) (Controls Ldf) z o
+is-bank e = on-byte _ _ (λ n h. next (byte firstRows 0x17 e) (byte bankNumberRows n (bank-number n h)))
 
 is-jump : (op : Op) (b n : ℕ) → Lists firstRows b (withConstant op Byte n) → (z : Size) (o : Operand) → Holds (that (onlyByte z)) × Holds (constantBelow (256 ^ n) o) → Is (b ∷ bytesFrom n (constantIn o)) op z o
 is-jump op b n e = on-byte _ (256 ^ n) (λ v h. next (byte firstRows b e) (value n v h))

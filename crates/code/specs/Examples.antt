@@ -34,6 +34,7 @@ examples =
     -- NOP, INCF, DECF, LDF
     ((0x00 ∷ []) is wholeOf (Controls Nop) Byte (Constant 0) 1) ∷ ((0x0C ∷ []) is wholeOf (Controls Incf) Byte (Constant 0) 1) ∷
     ((0x0D ∷ []) is wholeOf (Controls Decf) Byte (Constant 0) 1) ∷ ((0x17 ∷ 0x03 ∷ []) is wholeOf (Controls Ldf) Byte (Constant 3) 2) ∷
+    ((0x17 ∷ 0x05 ∷ []) is wholeOf (Controls Ldf) Byte (Constant 5) 2) ∷ ((0x17 ∷ 0x07 ∷ []) is wholeOf (Controls Ldf) Byte (Constant 7) 2) ∷
     -- flags
     ((0x13 ∷ []) is wholeOf (Controls Zcf) Byte (Constant 0) 1) ∷ ((0x16 ∷ []) is wholeOf (Controls Exf) Byte (Constant 0) 1) ∷
     ((0x19 ∷ []) is wholeOf (Stacks PopF) Byte (Constant 0) 1) ∷
@@ -87,7 +88,7 @@ examples =
     ((0xF2 ∷ []) is Short) ∷
     -- unlisted
     ((0x2F ∷ []) is Unlisted) ∷ ((0x3F ∷ []) is Unlisted) ∷ ((0x4F ∷ []) is Unlisted) ∷ ((0x5F ∷ []) is Unlisted) ∷ ((0x01 ∷ []) is Unlisted) ∷
-    ((0x17 ∷ 0x04 ∷ []) is Unlisted) ∷ ((0xDB ∷ 0xEC ∷ 0x10 ∷ []) is Unlisted) ∷ ((0xC8 ∷ 0x12 ∷ []) is Unlisted) ∷ ((0x84 ∷ 0x10 ∷ []) is Unlisted) ∷
+    ((0x17 ∷ 0x08 ∷ []) is Unlisted) ∷ ((0xDB ∷ 0xEC ∷ 0x10 ∷ []) is Unlisted) ∷ ((0xC8 ∷ 0x12 ∷ []) is Unlisted) ∷ ((0x84 ∷ 0x10 ∷ []) is Unlisted) ∷
     ((0x80 ∷ 0x14 ∷ []) is Unlisted) ∷ ((0x93 ∷ 0x18 ∷ []) is Unlisted) ∷ ((0xA3 ∷ 0x11 ∷ []) is Unlisted) ∷ ((0xFF ∷ []) is Unlisted) ∷
     ((0xB3 ∷ 0x20 ∷ []) is Unlisted) ∷ ((0xC3 ∷ []) is Unlisted) ∷ []
 

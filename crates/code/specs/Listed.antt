@@ -19,11 +19,11 @@ alone op = whole op Byte (Constant 0)
 abbrev pub withConstant : Op → Size → ℕ → Said
 withConstant op z n = number n (λ v. whole op z (Constant v))
 
--- a byte 00 to 03
+-- a byte 00 to 07
 unfoldable pub bankNumberRows : List Row
-bankNumberRows = (run 0x00 0x03 ⇒ λ n. whole (Controls Ldf) Byte (Constant n)) ∷ []
+bankNumberRows = (run 0x00 0x07 ⇒ λ n. whole (Controls Ldf) Byte (Constant n)) ∷ []
 
--- 00 NOP. 0C INCF, 0D DECF. 17 n LDF, n 00 to 03
+-- 00 NOP. 0C INCF, 0D DECF. 17 n LDF, n 00 to 07 (request K2)
 unfoldable pub bankRows : List Row
 bankRows =
     (one 0x00 ⇒ λ b. alone (Controls Nop))

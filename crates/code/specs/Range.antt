@@ -116,7 +116,7 @@ abbrev pub controlRange : Control → Size → Operand → Range
 controlRange Nop z o = aloneRange z o
 controlRange Incf z o = aloneRange z o
 controlRange Decf z o = aloneRange z o
-controlRange Ldf z o = that (onlyByte z) and constantBelow 4 o
+controlRange Ldf z o = that (onlyByte z) and constantBelow 8 o
 controlRange Rcf z o = aloneRange z o
 controlRange Scf z o = aloneRange z o
 controlRange Ccf z o = aloneRange z o

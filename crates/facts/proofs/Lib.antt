@@ -2,3 +2,4 @@ pub mod Touched
 pub mod Kept
 pub mod Statements
 pub mod Shown
+pub mod Banks

@@ -56,7 +56,7 @@ within a b e = go (ltb (2 ^ 16) a) (ltb (2 ^ 16) b) refl refl e
     go false true p q h = let z : _≡_ {A = ℕ} 0 1 = cc in absurd (omega arith)
     go false false p q h = (ltb-false _ _ p, ltb-false _ _ q)
 
-not-long : (a b : ℕ) → a ≤ 2 ^ 16 → b ≤ 2 ^ 16 → tooLong a b ≡ false
+pub not-long : (a b : ℕ) → a ≤ 2 ^ 16 → b ≤ 2 ^ 16 → tooLong a b ≡ false
 not-long a b p q = rw (le-ltb (2 ^ 16) a p, le-ltb (2 ^ 16) b q) refl
 
 -- ---- what a fair try leaves
@@ -136,11 +136,11 @@ module _ (s : State) (ram rom : List ℕ) where
   step-invalid e f = rw (e, f) refl
 
   -- past the checks, the code bytes are judged
-  step-judged : (d : Decoded) → tooLong (length ram) (length rom) ≡ false → validOf s ≡ true → judged ≡ d → stepOf s ram rom ≡ leaves s ram (done d s ram rom)
+  pub step-judged : (d : Decoded) → tooLong (length ram) (length rom) ≡ false → validOf s ≡ true → judged ≡ d → stepOf s ram rom ≡ leaves s ram (done d s ram rom)
   unfolding stepOf tryOf guarded onceOf
   step-judged d e f h = rw (e, f, h) refl
 
-  step-whole : (i : Instruction) → Passed s ram rom → judged ≡ decoded.Whole i → stepOf s ram rom ≡ leaves s ram (executedOf i s ram rom)
+  pub step-whole : (i : Instruction) → Passed s ram rom → judged ≡ decoded.Whole i → stepOf s ram rom ≡ leaves s ram (executedOf i s ram rom)
   step-whole i p e = step-judged (decoded.Whole i) (not-long (length ram) (length rom) (p .0 .0) (p .0 .1)) (p .1) e
 
   answered : (i : Instruction) → Passed s ram rom → judged ≡ decoded.Whole i → answer ≡ answerBy ram rom (reads i) (target i)

@@ -1,2 +1,3 @@
 pub mod Touched
 pub mod Statements
+pub mod Banks

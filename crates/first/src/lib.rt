@@ -60,7 +60,7 @@ fn stack(what: Stack, size: Size, r: u8) -> Alone
     Alone::Stacks(what, size, Operand::Register(r), 1)
 }
 
-// LDF, by the byte of its bank.
+// LDF, by the byte of its number: 00 to 07.
 fn bank_number(code: &[u8]) -> Alone
     ensures { λ r. ⌜ aloneAs r ≡ judge (byRows bankNumberRows) (now (code .entry)) 1 ⌝ }
 {
@@ -68,11 +68,11 @@ fn bank_number(code: &[u8]) -> Alone
         return Alone::Short;
     }
     let n = code[1];
-    if 3 < n {
+    if 7 < n {
         return Alone::Unlisted;
     }
-    let bank = n as u32;
-    Alone::Controls(Control::Ldf, bank, 2)
+    let number = n as u32;
+    Alone::Controls(Control::Ldf, number, 2)
 }
 
 // 00 to 0F.

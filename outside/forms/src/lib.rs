@@ -1,8 +1,9 @@
 //! The codes that document 01 lists, in its order, as data to test with.
 //!
-//! Written from document 01 alone. The second interpreter's tests go through
-//! it and the comparison draws from it; the interpreter itself does not know
-//! it, so that the two stay apart.
+//! Written from document 01, and from those requests of document 02 that have
+//! landed, alone. The second interpreter's tests go through it and the
+//! comparison draws from it; the interpreter itself does not know it, so that
+//! the two stay apart.
 
 #![forbid(unsafe_code)]
 
@@ -14,7 +15,7 @@ const LISTED: &str = "
     NOP                 | 00
     INCF                | 0C
     DECF                | 0D
-    LDF n               | 17 00-03
+    LDF n               | 17 00-07
     RCF SCF CCF ZCF     | 10-13
     EX F,F'             | 16
     PUSH F              | 18

@@ -15,7 +15,7 @@ pub(crate) enum Instruction {
     Nothing,
     /// INCF, DECF: the bank moves by so much, modulo 4.
     MoveBank(u8),
-    /// LDF.
+    /// LDF: the number as it stands in the code, 0 to 7.
     SetBank(u8),
     /// RCF, SCF, CCF, ZCF.
     Carry(Carry),
@@ -189,7 +189,7 @@ fn first(code: &mut Code) -> Decoded {
         (0, 2, 3) => Instruction::Carry(Carry::NotZ),
         (0, 2, 6) => Instruction::ExchangeFlags,
         (0, 2, 7) => match code.byte()? {
-            bank @ 0..=3 => Instruction::SetBank(bank),
+            num @ 0..=7 => Instruction::SetBank(num),
             _ => return NOT_LISTED,
         },
         (0, 3, 0) => Instruction::PushFlags,

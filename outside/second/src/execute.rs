@@ -81,7 +81,8 @@ impl Work<'_> {
         match instruction {
             Instruction::Nothing => {}
             Instruction::MoveBank(by) => self.machine.bank = (self.machine.bank + by) % 4,
-            Instruction::SetBank(bank) => self.machine.bank = bank,
+            // RFP2 stays 0 whatever is tried, so the low two bits select.
+            Instruction::SetBank(num) => self.machine.bank = num % 4,
             Instruction::Carry(carry) => self.set_carry(carry),
             Instruction::ExchangeFlags => {
                 std::mem::swap(&mut self.machine.f, &mut self.machine.f_prime)

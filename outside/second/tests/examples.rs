@@ -39,7 +39,7 @@ fn the_cases_of_document_01() {
 
 #[test]
 fn our_own_examples() {
-    assert_eq!(hand().len(), 211);
+    assert_eq!(hand().len(), 215);
     hand().iter().for_each(check);
 }
 

@@ -3,7 +3,7 @@
 mod common;
 
 use common::{memory, step_once, XSP};
-use second::record::{register, BANK, COUNTER, F, LENGTH};
+use second::record::{register, BANK, COUNTER, F, F_PRIME, LENGTH};
 use second::{Machine, Width};
 
 /// The first code byte of the register forms, by width.
@@ -178,6 +178,28 @@ fn every_register_is_pushed_and_popped() {
                 wanted[part].copy_from_slice(&[0xA1, 0xA2, 0xA3, 0xA4][..size]);
                 assert_eq!(after(record, &ram, 0x20), (wanted, ram));
             }
+        }
+    }
+}
+
+/// LDF n leaves just what LDF of n modulo 4 leaves: that bank, the counter
+/// past the code, and all else as it was.
+#[test]
+fn every_bank_is_selected_by_two_numbers() {
+    for bank in 0..4 {
+        let mut record = telling_record(bank);
+        record[BANK] |= 0x50; // level 5
+        record[F] = 0xD7;
+        record[F_PRIME] = 0x42;
+        for num in 0..8u8 {
+            let mut wanted = record;
+            wanted[BANK] = 0xD8 + num % 4;
+            wanted[COUNTER] = 2;
+            let (got, ram) = after(record, &[0x17, num], 2);
+            let (small, _) = after(record, &[0x17, num % 4], 2);
+            assert_eq!(got, small, "LDF {num} in bank {bank}");
+            assert_eq!(got, wanted, "LDF {num} in bank {bank}");
+            assert_eq!(ram, [0x17, num]);
         }
     }
 }

@@ -17,12 +17,12 @@ returns-2 : tie.Need-returns-2
 unfolding bankNumberRows
 returns-2 c = run-unlisted _ _ _ _ (omega arith) (omega arith)
 
-cast-bank : tie.Need-cast-bank
-cast-bank c = search needs
+cast-number : tie.Need-cast-number
+cast-number c = search needs
 
 returns-3 : tie.Need-returns-3
 unfolding bankNumberRows judge
 returns-3 c = run-there _ _ (c .before .before .before .args .code .now) 1 (omega arith) _ (omega arith) refl
 
 pub bank-number-spec : {M : Type 1} → statement M
-bank-number-spec = tie.close (tie.spec returns shared-slice-read-n returns-2 cast-bank returns-3)
+bank-number-spec = tie.close (tie.spec returns shared-slice-read-n returns-2 cast-number returns-3)

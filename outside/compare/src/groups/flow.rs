@@ -48,8 +48,9 @@ pub fn conditions(bench: &mut Bench) {
     }
 }
 
-/// The codes that touch only the flags or the bank: every F, several F',
-/// every bank and level; and POP F of every byte.
+/// The codes that touch only the flags or the bank: every F, several F' and
+/// every bank; POP F of every byte; and LDF with every second byte, from every
+/// bank. The level is drawn, and for the last two F as well.
 pub fn flag_codes(bench: &mut Bench) {
     for f in all_flags() {
         for spare in [0, f ^ FLAGS, bench.chance.byte() & FLAGS] {
@@ -70,9 +71,12 @@ pub fn flag_codes(bench: &mut Bench) {
         aim::set_long(&mut case.record, XSP, 7);
         case.ram.put(7, &[byte]);
         bench.judge.hold(&case);
-        let mut case = near_the_top(bench, &[0x17, byte], 2);
-        case.record[BANK] = 0x88 | bench.chance.below(4) as u8;
-        bench.judge.hold(&case);
+        for bank in 0..4 {
+            // The record's level and F are chance already.
+            let mut case = near_the_top(bench, &[0x17, byte], 2);
+            case.record[BANK] = case.record[BANK] & 0xFC | bank;
+            bench.judge.hold(&case);
+        }
     }
 }
 

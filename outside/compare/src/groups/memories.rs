@@ -93,7 +93,8 @@ pub fn reset(bench: &mut Bench) {
     }
 }
 
-/// Show at every address near an end, near 2^24 and far above it.
+/// Show at every address near an end, near 2^24 and far above it; and LDF
+/// with every second byte, in RAM and in ROM.
 pub fn show(bench: &mut Bench) {
     for _ in 0..400 * bench.rounds {
         let layout = Layout::short(&mut bench.chance);
@@ -111,6 +112,15 @@ pub fn show(bench: &mut Bench) {
         }
         if bench.judge.weary() {
             return;
+        }
+    }
+    for byte in 0..=255 {
+        let mut case = over_noise(bench, 2, 2);
+        case.ram.put(0, &[0x17, byte]);
+        case.rom.put(0, &[0x17, byte]);
+        for at in [0, 0xFF_FFFE] {
+            case.call = Call::Show(at);
+            bench.judge.hold(&case);
         }
     }
 }
