@@ -365,7 +365,7 @@ static void registers(void) {
 static void changes(void) {
     static const uint8_t store[6] = {0xF1, 0x10, 0x00, 0x60}; /* LD (0010H),XWA, of bank 2 */
     static const uint8_t swap[6] = {0x16};                    /* EX F,F' */
-    uint8_t bank[6] = {0x17};                                 /* LDF */
+    uint8_t ldf[6] = {0x17};                                  /* LDF, with each number */
     lend_code(0, store, 6);
     keep();
     memcpy(kept(&ram) + 0x10, kept(&record) + 32, 4);
@@ -376,11 +376,11 @@ static void changes(void) {
     put(kept(&record) + 80, 4, 1);
     put(kept(&record) + 84, 4, 0x00D7DA91);
     held("step", step(), 0);
-    for (bank[1] = 0; bank[1] < 8; bank[1]++) {
-        lend_code(0, bank, 6);
+    for (ldf[1] = 0; ldf[1] < 8; ldf[1]++) {
+        lend_code(0, ldf, 6);
         keep();
         put(kept(&record) + 80, 4, 2);
-        kept(&record)[85] = (uint8_t)(0xD8 | bank[1] % 4);
+        kept(&record)[85] = (uint8_t)(0xD8 | ldf[1] % 4);
         held("step", step(), 0);
     }
 }
@@ -460,7 +460,7 @@ int main(void) {
     group("lengths of instructions, whole and cut off", lengths);
     group("refused instructions leave the record and RAM", refusals);
     group("constants loaded into every register of every bank", registers);
-    group("a store, F and F' exchanged, a bank chosen", changes);
+    group("a store, F and F' exchanged, LDF 0 to 7", changes);
     group("a run that stops, and the longest", stops);
     group("records with one bit turned over", record_bits);
     printf("%u passed, %u failed\n", passed, failed);

@@ -29,7 +29,7 @@ toRomStart = begin 0x00 (0x00 ∷ 0x00 ∷ 0x00 ∷ 0xC3 ∷ 0xC4 ∷ 0xC5 ∷ [
 abbrev pub toRomRom : List ℕ
 toRomRom = 0x83 ∷ 0x13 ∷ 0x00 ∷ 0x00 ∷ []
 
--- LDF n and LD A,2AH, from bank 3 on
+-- LDF n and then LD A,2AH, in bank 3
 abbrev pub ldfStart : ℕ → Machine
 ldfStart n = begin 0xD7 (0x17 ∷ n ∷ 0x21 ∷ 0x2A ∷ []) ▹ Bank 3
 
@@ -103,16 +103,16 @@ checks =
     ∷ row 0 (begin 0x20 []) [] 0 nothing (Refused Invalid)
     ∷ []
 
--- the mill's start-up, and each number from 4 on (request K2): the bank is its low two bits, and nothing else changes
+-- the mill's start-up, and each number 4 to 7 (request K2): the bank is its low two bits; LDF changes nothing else but the counter
 unfoldable pub startUp : List Case
 startUp =
     -- LDF 5: bank 1, and the A that is loaded next is that of bank 1
     does 1 (ldfStart 0x05) (Bank 1 & Counter 2)
     ∷ does 2 (ldfStart 0x05) (Bank 1 & A 0x2A & Counter 4)
-    -- LDF 4, 6 and 7: banks 0, 2 and 3
+    -- LDF 4, 6 and 7: banks 0, 2 and 3, the last from bank 0
     ∷ does 1 (ldfStart 0x04) (Bank 0 & Counter 2)
     ∷ does 1 (ldfStart 0x06) (Bank 2 & Counter 2)
-    ∷ does 1 (ldfStart 0x07) (Bank 3 & Counter 2)
+    ∷ does 1 (ldfStart 0x07 ▹ Bank 0) (Bank 3 & Counter 2)
     -- 08 is not listed
     ∷ row 1 (ldfStart 0x08) [] 0 nothing (Refused Unlisted)
     ∷ []

@@ -6,15 +6,12 @@ use native.Mathlib.Omega.{arith}
 use lib.ListN.{length}
 use borrow.Author.Tests.{lt-ltb}
 use Rattle.little.specs.declared.Size.the-variants.{Byte}
-use Rattle.memory.specs.Access.{codeAt}
 use Rattle.state.specs.State.{withBank, withCounter, banked}
-use Rattle.state.specs.declared.State.{State}
 use Rattle.code.specs.declared.Op.the-variants.{Controls}
 use Rattle.code.specs.declared.Control.the-variants.{Ldf}
 use Rattle.code.specs.declared.Operand.the-variants.{Constant}
 use Rattle.code.specs.declared.Instruction.{Instruction}
 use Rattle.code.specs.declared.Decoded.the-variants as decoded
-use Rattle.code.specs.Said.{judge}
 use Rattle.code.specs.Listed.{bankNumberRows, firstRows, decodeOf}
 use Rattle.code.specs.Written.{codeOf}
 use Rattle.code.proofs.Exact.{reads-back}
@@ -54,5 +51,7 @@ ldf-modulo-four s ram rom rest ram′ rom′ rest′ n h p p′ e e′ =
 
 pub ldf-shown : LdfShown
 unfolding showAnswerOf shownOf
-ldf-shown ram rom rest at n w l h e =
-    rw (not-long (length ram) (length rom) (w .0) (w .1), lt-ltb at (2 ^ 24) l, e, is-ldf n rest h) (refl, refl)
+ldf-shown ram rom rest at n w l e =
+    let short = not-long (length ram) (length rom) (w .0) (w .1) in
+    let there = lt-ltb at (2 ^ 24) l in
+    (λ h. rw (short, there, e, is-ldf n rest h) (refl, refl), λ h. rw (short, there, e, no-ldf n rest h) refl)

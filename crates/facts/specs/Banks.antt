@@ -16,15 +16,16 @@ LdfSelects =
     (n < 8 → stepOf s ram rom ≡ after Done (banked (pastOf 2 s) (s .registers) (record { 0 = n % 4 })) ram)
     × (8 ≤ n → stepOf s ram rom ≡ after (Refused Unlisted) s ram)
 
--- LDF n leaves the state that LDF of n modulo 4 leaves, also in other memories, and each leaves its RAM as it was
+-- with n 00 to 07 LDF n leaves the state that LDF of n modulo 4 leaves, each in memories of its own, and RAM stays as it was
 abbrev pub LdfModuloFour : Type 0
 LdfModuloFour =
     (s : State) (ram rom rest ram′ rom′ rest′ : List ℕ) (n : ℕ) → n < 8 → Passed s ram rom → Passed s ram′ rom′ →
     codeAt ram rom (s .counter) ≡ 0x17 ∷ n ∷ rest → codeAt ram′ rom′ (s .counter) ≡ 0x17 ∷ n % 4 ∷ rest′ →
     (t : State) × (stepOf s ram rom ≡ after Done t ram) × (stepOf s ram′ rom′ ≡ after Done t ram′)
 
--- its two bytes are shown
+-- with n 00 to 07 its two bytes are shown; with 08 and above that is refused with 4
 abbrev pub LdfShown : Type 0
 LdfShown =
-    (ram rom rest : List ℕ) (at n : ℕ) → Within ram rom → at < 2 ^ 24 → n < 8 → codeAt ram rom at ≡ 0x17 ∷ n ∷ rest →
-    (showAnswerOf ram rom at ≡ Done) × (shownOf ram rom at ≡ 0x17 ∷ n ∷ [])
+    (ram rom rest : List ℕ) (at n : ℕ) → Within ram rom → at < 2 ^ 24 → codeAt ram rom at ≡ 0x17 ∷ n ∷ rest →
+    (n < 8 → (showAnswerOf ram rom at ≡ Done) × (shownOf ram rom at ≡ 0x17 ∷ n ∷ []))
+    × (8 ≤ n → showAnswerOf ram rom at ≡ Refused Unlisted)

@@ -1,4 +1,4 @@
-//! The codes that document 01 lists, in its order, as data to test with.
+//! The listed codes, in document 01's order, as data to test with.
 //!
 //! Written from document 01, and from those requests of document 02 that have
 //! landed, alone. The second interpreter's tests go through it and the

@@ -1,7 +1,8 @@
 //! Worked examples as data: the books' execution examples ([`book`]), the
 //! cases P1 to P12 of document 01 ([`cases`]), and more of our own, worked by
-//! hand from document 01 for the codes that those leave out ([`hand`]). They
-//! stand in three tables of plain text, to be held beside the books.
+//! hand from document 01 and the requests that have landed, for the codes that
+//! those leave out ([`hand`]). They stand in three tables of plain text, to be
+//! held beside the books.
 //!
 //! They are public so that any implementation that speaks in records and
 //! memories can be run over them: [`Example::start`] gives what to begin

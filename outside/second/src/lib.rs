@@ -1,4 +1,4 @@
-//! A second interpreter of the TLCS-900/H codes that document 01 lists.
+//! A second interpreter of the listed TLCS-900/H codes.
 //!
 //! **This crate is unproved and is run only as a test.** It was written from
 //! document 01, those requests of document 02 that have landed, and Toshiba's

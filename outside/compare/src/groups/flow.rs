@@ -50,7 +50,7 @@ pub fn conditions(bench: &mut Bench) {
 
 /// The codes that touch only the flags or the bank: every F, several F' and
 /// every bank; POP F of every byte; and LDF with every second byte, from every
-/// bank. The level is drawn, and for the last two F as well.
+/// bank. The level is drawn; for POP F and LDF so are F and F'.
 pub fn flag_codes(bench: &mut Bench) {
     for f in all_flags() {
         for spare in [0, f ^ FLAGS, bench.chance.byte() & FLAGS] {
@@ -72,7 +72,6 @@ pub fn flag_codes(bench: &mut Bench) {
         case.ram.put(7, &[byte]);
         bench.judge.hold(&case);
         for bank in 0..4 {
-            // The record's level and F are chance already.
             let mut case = near_the_top(bench, &[0x17, byte], 2);
             case.record[BANK] = case.record[BANK] & 0xFC | bank;
             bench.judge.hold(&case);
