@@ -2,9 +2,10 @@
 //!
 //! **This crate is unproved and is run only as a test.** It was written from
 //! document 01, those requests of document 02 that have landed, and Toshiba's
-//! books alone, without sight of the verified library, so that the two can be
-//! compared as independent witnesses. Where they differ, at least one of them
-//! is wrong; where they agree, nothing is proved by it.
+//! books alone, without sight of the verified library (who asked for a request
+//! knew it: docs/landings), so that the two can be compared as independent
+//! witnesses. Where they differ, at least one of them is wrong; where they
+//! agree, nothing is proved by it.
 //!
 //! On purpose its parts are cut differently from the obvious ones:
 //!
