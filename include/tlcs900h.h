@@ -29,12 +29,24 @@
  *
  * The caller's part
  *   Every pointer is the caller's memory, lent for the length of the call. Each must be good for the length that follows
- *   it, and for writing where it is not const. A null pointer with length 0 is an empty memory. `done` and `length` are
- *   never null. The parts of one call must not overlap, and nothing else may write them while it runs.
+ *   it, and for writing where it is not const. A null pointer with length 0 is an empty memory. `done`, `at` and `length`
+ *   are never null. The parts of one call must not overlap, `done` and `at` are two variables, and nothing else may write
+ *   them while it runs.
  *
  * The answer of each call is a number, 0 to 7, and depends on nothing but what the call is given. A step or run that was
- * refused with 1 to 6, asked again for a step or more, is refused with the same number (and *done is then 0) until the
- * caller changes what it hands over.
+ * refused with 1 to 6, asked again for a step or more, is refused with the same number and address (and *done is then 0)
+ * until the caller changes what it hands over.
+ *
+ * Which address: a step and a run write *at every time. With 5 and 6 it is an address below 2^24, and it may be 0; with any
+ * other number, 0 too, it is 0. So look at the number, and not at *at, for what happened; the counter in the record is then
+ * that of the refused instruction. An operand is what an instruction reads or stores in memory: the bytes at an address that
+ * it names, what it pushes or pops, a return address, an element of a copy or compare. Its first byte is the one with the
+ * address that is named, modulo 2^24 (for a push: XSP less the operand's size); the byte after FFFFFFH is 000000H.
+ *   With 5 *at is the address of the operand's first byte, if that lies in neither memory; otherwise that of the first of its
+ *   bytes that is not in the same memory as its first byte. So four bytes from ram_len - 2 on give ram_len, and four bytes
+ *   from FFFFFEH on, with ROM there, give 000000H.
+ *   With 6 *at is the address of the first byte that would have been stored.
+ * A copy looks for its source first: where that is missing, *at tells of it, whatever the target is.
  */
 #ifndef TLCS900H_INCLUDED
 #define TLCS900H_INCLUDED
@@ -51,9 +63,11 @@ extern "C" {
  * has to be changed; the second where something was added.
  *   1.0  the first
  *   1.1  LDF with 04 to 07 is done, where it was refused with 4: it selects the bank of the number's low two bits, 0 to 3
+ *   2.0  tlcs900h_step and tlcs900h_run have one more parameter, `at`: the address that goes with 5 and 6. Compile again all
+ *        that calls them: the linker does not notice an old call
  */
-#define TLCS900H_VERSION_MAJOR 1
-#define TLCS900H_VERSION_MINOR 1
+#define TLCS900H_VERSION_MAJOR 2
+#define TLCS900H_VERSION_MINOR 0
 
 #define TLCS900H_RECORD 88          /* the bytes of a record */
 #define TLCS900H_MEMORY 65536       /* the most bytes of RAM, and of ROM */
@@ -97,8 +111,8 @@ enum {
     TLCS900H_INVALID = 2,  /* the record is not TLCS900H_RECORD bytes long or is no state's record; an address to show is 2^24 or more */
     TLCS900H_NO_CODE = 3,  /* no memory at the counter, or the instruction goes on where its memory ends */
     TLCS900H_UNLISTED = 4, /* the bytes at the counter begin no listed instruction */
-    TLCS900H_MISSING = 5,  /* an operand lies in neither memory, or only partly in one; at reset: ROM has fewer than 256 bytes */
-    TLCS900H_TO_ROM = 6,   /* a store would go to ROM */
+    TLCS900H_MISSING = 5,  /* an operand lies in neither memory, or only partly in one, see *at; at reset: ROM has fewer than 256 bytes */
+    TLCS900H_TO_ROM = 6,   /* a store would go to ROM, see *at */
     TLCS900H_TOO_MANY = 7  /* a run is asked for more than 1,000,000 steps */
 };
 
@@ -127,23 +141,24 @@ uint8_t tlcs900h_reset(uint8_t *record, size_t record_len, const uint8_t *ram, s
 
 /*
  * Does the one instruction at the counter: the record and RAM are then those after it.
- * Looks for 1, then 2, then 3 or 4, then 5, then 6. A refusal leaves the record and RAM as they were.
+ * Looks for 1, then 2, then 3 or 4, then 5, then 6. A refusal leaves the record and RAM as they were; with 5
+ * and 6 *at says which address it was.
  * A repeating copy or compare does one round a step and stays at its address until it ends.
  */
-uint8_t tlcs900h_step(uint8_t *record, size_t record_len, uint8_t *ram, size_t ram_len, const uint8_t *rom, size_t rom_len);
+uint8_t tlcs900h_step(uint8_t *record, size_t record_len, uint8_t *ram, size_t ram_len, const uint8_t *rom, size_t rom_len, uint32_t *at);
 
 /*
  * Does `steps` steps, or those before the first one refused, and answers with that step's number.
- * *done is the count of steps done, and the record and RAM are those after them.
+ * *done is the count of steps done, and the record and RAM are those after them; *at is that step's, 0 where all were done.
  * Looks for 7, then 1, then 2, even for 0 steps; after one of these *done is 0 and the record and RAM are as they were.
  */
-uint8_t tlcs900h_run(uint8_t *record, size_t record_len, uint8_t *ram, size_t ram_len, const uint8_t *rom, size_t rom_len, uint32_t steps, uint32_t *done);
+uint8_t tlcs900h_run(uint8_t *record, size_t record_len, uint8_t *ram, size_t ram_len, const uint8_t *rom, size_t rom_len, uint32_t steps, uint32_t *done, uint32_t *at);
 
 /*
- * Sets *length to the number of bytes (1 to 6) of the instruction at the address `at`; the caller finds them there.
+ * Sets *length to the number of bytes (1 to 6) of the instruction at an address; the caller finds them there.
  * Looks for 1, then 2 (an address of 2^24 or more), then 3 or 4. After a refusal *length is 0.
  */
-uint8_t tlcs900h_show(const uint8_t *ram, size_t ram_len, const uint8_t *rom, size_t rom_len, uint32_t at, uint32_t *length);
+uint8_t tlcs900h_show(const uint8_t *ram, size_t ram_len, const uint8_t *rom, size_t rom_len, uint32_t address, uint32_t *length);
 
 #ifdef __cplusplus
 }

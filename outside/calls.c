@@ -28,8 +28,9 @@ static const struct size memory_sizes[] = {{0, 1}, {0, 0}, {255, 0}, {256, 0}, {
 static const struct size whole = {88, 0}, small = {256, 0};
 
 static struct lent record, ram, rom;
-static uint32_t word[3], kept_word; /* `done` or `length`, between two others */
-static uint8_t noise;               /* 00H, then FFH: a byte written by mistake differs from what stood there in one of them */
+static uint32_t word[3], kept_word;   /* `done` or `length`, between two others */
+static uint32_t place[3], kept_place; /* `at`, between two others */
+static uint8_t noise;                 /* 00H, then FFH: a byte written by mistake differs from what stood there in one of them */
 static unsigned long tried, wrong;
 static unsigned passed, failed;
 
@@ -63,6 +64,7 @@ static void keep(void) {
     memcpy(ram.kept, ram.bytes, SPACE);
     memcpy(rom.kept, rom.bytes, SPACE);
     word[0] = word[1] = word[2] = kept_word = 0xDEADBEEF ^ noise;
+    place[0] = place[1] = place[2] = kept_place = 0xDEADBEEF ^ noise;
 }
 
 static int same(const struct lent *l) { return memcmp(l->bytes, l->kept, SPACE) == 0; }
@@ -71,26 +73,36 @@ static int same(const struct lent *l) { return memcmp(l->bytes, l->kept, SPACE) 
 static void held(const char *call, uint8_t number, uint8_t expected) {
     uint32_t beside = 0xDEADBEEF ^ noise;
     int words = word[0] == beside && word[1] == kept_word && word[2] == beside;
+    int places = place[0] == beside && place[1] == kept_place && place[2] == beside;
     tried++;
-    if (number == expected && same(&record) && same(&ram) && same(&rom) && words) return;
+    if (number == expected && same(&record) && same(&ram) && same(&rom) && words && places) return;
     if (wrong++ >= 5) return;
-    printf("%s: record %lu, RAM %lu, ROM %lu bytes: number %u, to be %u; count %lu, to be %lu; record %s, RAM %s, ROM %s\n", call,
-           (unsigned long)record.length, (unsigned long)ram.length, (unsigned long)rom.length, number, expected,
-           (unsigned long)word[1], (unsigned long)kept_word, same(&record) ? "right" : "wrong", same(&ram) ? "right" : "wrong",
-           same(&rom) ? "right" : "wrong");
+    printf("%s: record %lu, RAM %lu, ROM %lu bytes: number %u, to be %u; count %lu, to be %lu; ", call, (unsigned long)record.length,
+           (unsigned long)ram.length, (unsigned long)rom.length, number, expected, (unsigned long)word[1], (unsigned long)kept_word);
+    printf("at %lX, to be %lX; record %s, RAM %s, ROM %s\n", (unsigned long)place[1], (unsigned long)kept_place,
+           same(&record) ? "right" : "wrong", same(&ram) ? "right" : "wrong", same(&rom) ? "right" : "wrong");
 }
 
 static uint8_t reset(void) {
     return tlcs900h_reset(at(&record), record.length, at(&ram), ram.length, at(&rom), rom.length);
 }
 
-static uint8_t step(void) {
-    return tlcs900h_step(at(&record), record.length, at(&ram), ram.length, at(&rom), rom.length);
+/* A step and a run write `at`: this address, which does not stand there before; 0 where none is named. */
+static uint8_t step_to(uint32_t address) {
+    kept_place = address;
+    place[1] = ~address;
+    return tlcs900h_step(at(&record), record.length, at(&ram), ram.length, at(&rom), rom.length, &place[1]);
 }
 
-static uint8_t run(uint32_t steps) {
-    return tlcs900h_run(at(&record), record.length, at(&ram), ram.length, at(&rom), rom.length, steps, &word[1]);
+static uint8_t step(void) { return step_to(0); }
+
+static uint8_t run_to(uint32_t steps, uint32_t address) {
+    kept_place = address;
+    place[1] = ~address;
+    return tlcs900h_run(at(&record), record.length, at(&ram), ram.length, at(&rom), rom.length, steps, &word[1], &place[1]);
 }
+
+static uint8_t run(uint32_t steps) { return run_to(steps, 0); }
 
 static uint8_t show(uint32_t address) {
     return tlcs900h_show(at(&ram), ram.length, at(&rom), rom.length, address, &word[1]);
@@ -119,8 +131,8 @@ static void same_number(unsigned long is, unsigned long expected) {
 }
 
 static void constants(void) {
-    same_number(TLCS900H_VERSION_MAJOR, 1);
-    same_number(TLCS900H_VERSION_MINOR, 1);
+    same_number(TLCS900H_VERSION_MAJOR, 2);
+    same_number(TLCS900H_VERSION_MINOR, 0);
     same_number(TLCS900H_RECORD, 88);
     same_number(TLCS900H_MEMORY, 65536);
     same_number(TLCS900H_LEAST_ROM, 256);
@@ -307,13 +319,13 @@ static void lend_code(uint32_t counter, const uint8_t *bytes, size_t length) {
     memcpy(ram.bytes + GUARD, bytes, length);
 }
 
-static void refused(uint32_t counter, const uint8_t *bytes, uint8_t number) {
+static void refused(uint32_t counter, const uint8_t *bytes, uint8_t number, uint32_t address) {
     lend_code(counter, bytes, 6);
     keep();
-    held("step", step(), number);
+    held("step", step_to(address), number);
     kept_word = 0;
-    held("run", run(1000), number);
-    held("run", run(1000), number); /* the same again, while nothing has changed */
+    held("run", run_to(1000, address), number);
+    held("run", run_to(1000, address), number); /* the same again, while nothing has changed */
 }
 
 static void refusals(void) {
@@ -324,14 +336,43 @@ static void refusals(void) {
     static const uint8_t store_half[6] = {0xF1, 0xFF, 0x00, 0x50};    /* LD (00FFH),WA, half of it in RAM */
     static const uint8_t store_rom[6] = {0xF2, 0x80, 0xFF, 0xFF, 0x41}; /* LD (FFFF80H),A */
     static const uint8_t add_rom[6] = {0xC2, 0x80, 0xFF, 0xFF, 0x89};   /* ADD (FFFF80H),A */
-    refused(0x8000, unlisted, 3);
-    refused(0, unlisted, 4);
-    refused(0, load, 5);
-    refused(0, load_half, 5);
-    refused(0, store, 5);
-    refused(0, store_half, 5);
-    refused(0, store_rom, 6);
-    refused(0, add_rom, 6);
+    static const uint8_t load_two[6] = {0xE1, 0xFE, 0x00, 0x20};         /* LD XWA,(00FEH), half of it in RAM */
+    static const uint8_t load_top[6] = {0xE2, 0xFE, 0xFF, 0xFF, 0x20};  /* LD XWA,(FFFFFEH): two bytes of ROM, then 000000H */
+    static const uint8_t load_below[6] = {0xD2, 0xFF, 0xFE, 0xFF, 0x20}; /* LD WA,(FFFEFFH), half of it in ROM */
+    refused(0x8000, unlisted, 3, 0);
+    refused(0, unlisted, 4, 0);
+    refused(0, load, 5, 0x8000);
+    refused(0, load_half, 5, 0x100);
+    refused(0, load_two, 5, 0x100);
+    refused(0, load_top, 5, 0);
+    refused(0, load_below, 5, 0xFFFEFF);
+    refused(0, store, 5, 0x100);
+    refused(0, store_half, 5, 0x100);
+    refused(0, store_rom, 6, 0xFFFF80);
+    refused(0, add_rom, 6, 0xFFFF80);
+}
+
+/* ---- a copy looks for its source first, and then for its target */
+static void copy_refused(uint32_t source, uint32_t target, uint8_t number, uint32_t address) {
+    static const uint8_t copy[6] = {0x93, 0x10}; /* LDIW (XDE+),(XHL+) */
+    lend_code(0, copy, 6);
+    put(record.bytes + GUARD + TLCS900H_BANK_SIZE * 2 + TLCS900H_XHL, 4, source);
+    put(record.bytes + GUARD + TLCS900H_BANK_SIZE * 2 + TLCS900H_XDE, 4, target);
+    keep();
+    held("step", step_to(address), number);
+    kept_word = 0;
+    held("run", run_to(1000, address), number);
+}
+
+static void copies(void) {
+    copy_refused(0x12345678, 0x80, 5, 0x345678);
+    copy_refused(0x80, 0x12345678, 5, 0x345678);
+    copy_refused(0x8000, 0x9000, 5, 0x8000);
+    copy_refused(0x8000, 0xFFFF80, 5, 0x8000);
+    copy_refused(0xFF, 0xFFFF80, 5, 0x100);
+    copy_refused(0x80, 0xFF, 5, 0x100);
+    copy_refused(0x80, 0xFFFF80, 6, 0xFFFF80);
+    copy_refused(0xFFFFFF, 0x80, 5, 0);
 }
 
 /* ---- a done step changes what it names and the counter, and no more */
@@ -387,8 +428,9 @@ static void changes(void) {
 
 /* ---- a run that stops, and is asked again; and the longest run */
 static void stops(void) {
-    static const uint8_t sum[6] = {0x21, 0x05, 0xC9, 0xC8, 0x03, 0x01}; /* LD A,5; ADD A,3; then a code that is not listed */
-    static const uint8_t round[6] = {0x68, 0xFE};                       /* JR to itself */
+    static const uint8_t sum[6] = {0x21, 0x05, 0xC9, 0xC8, 0x03, 0x01};  /* LD A,5; ADD A,3; then a code that is not listed */
+    static const uint8_t lost[6] = {0x21, 0x05, 0xF1, 0x00, 0x01, 0x41}; /* LD A,5; LD (0100H),A, behind RAM */
+    static const uint8_t round[6] = {0x68, 0xFE};                        /* JR to itself */
     lend_code(0, sum, 6);
     keep();
     kept(&record)[TLCS900H_BANK_SIZE * (kept(&record)[TLCS900H_BANK] & 3) + TLCS900H_A] = 8; /* as the header says */
@@ -399,6 +441,16 @@ static void stops(void) {
     kept_word = 0;
     held("run", run(1000), 4);
     held("step", step(), 4);
+    held("run", run(0), 0);
+    lend_code(0, lost, 6);
+    keep();
+    kept(&record)[TLCS900H_BANK_SIZE * (kept(&record)[TLCS900H_BANK] & 3) + TLCS900H_A] = 5;
+    put(kept(&record) + 80, 4, 2);
+    kept_word = 1;
+    held("run", run_to(1000, 0x100), 5);
+    kept_word = 0;
+    held("run", run_to(1000, 0x100), 5);
+    held("step", step_to(0x100), 5);
     held("run", run(0), 0);
     lend_code(0, round, 6);
     keep();
@@ -428,8 +480,8 @@ static void record_bits(void) {
             keep();
             kept_word = 0;
             held("run", run(0), number);
-            word[1] = 1;
-            held("run", tlcs900h_run(at(&record), 88, NULL, 0, NULL, 0, 0, &word[1]), number);
+            word[1] = place[1] = 1;
+            held("run", tlcs900h_run(at(&record), 88, NULL, 0, NULL, 0, 0, &word[1], &place[1]), number);
             if (number == 0) continue;
             held("run", run(1), number);
             held("step", step(), number);
@@ -458,7 +510,8 @@ int main(void) {
     group("run at every length", runs);
     group("show at every length", shows);
     group("lengths of instructions, whole and cut off", lengths);
-    group("refused instructions leave the record and RAM", refusals);
+    group("refused instructions leave the record and RAM, and tell the address", refusals);
+    group("a copy without its source or its target", copies);
     group("constants loaded into every register of every bank", registers);
     group("a store, F and F' exchanged, LDF 0 to 7", changes);
     group("a run that stops, and the longest", stops);

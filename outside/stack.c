@@ -15,7 +15,7 @@ enum { CASES = 256, MEMORY = 256, SPACE = 65536 };
 
 static uint8_t records[CASES][TLCS900H_RECORD], rams[CASES][MEMORY], roms[CASES][MEMORY];
 static uint8_t space[SPACE], *top; /* the painted stack; where it stood just before a call */
-static uint32_t counter, count;
+static uint32_t counter, count, place;
 static unsigned long answers[8];
 static ucontext_t here, there;
 
@@ -29,13 +29,13 @@ static void resets(void) {
 
 static void steps(void) {
     MARK();
-    for (int i = 0; i < CASES; i++) answers[tlcs900h_step(records[i], TLCS900H_RECORD, rams[i], MEMORY, roms[i], MEMORY)]++;
+    for (int i = 0; i < CASES; i++) answers[tlcs900h_step(records[i], TLCS900H_RECORD, rams[i], MEMORY, roms[i], MEMORY, &place)]++;
 }
 
 static void runs(void) {
     MARK();
     for (int i = 0; i < CASES; i++)
-        answers[tlcs900h_run(records[i], TLCS900H_RECORD, rams[i], MEMORY, roms[i], MEMORY, 20, &count)]++;
+        answers[tlcs900h_run(records[i], TLCS900H_RECORD, rams[i], MEMORY, roms[i], MEMORY, 20, &count, &place)]++;
 }
 
 static void shows(void) {

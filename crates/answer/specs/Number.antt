@@ -1,24 +1,34 @@
--- The numbers of refusal, in order of check; 0 is done.
+-- What a caller is told: the numbers of refusal, in order of check, and the address that goes with 5 and 6.
 use Prim.Native.Nat.{ℕ}
 use Rattle.answer.specs.declared.Why.{Why}
 use Rattle.answer.specs.declared.Why.the-variants.{TooMany, TooLong, Invalid, NoCode, Unlisted, Missing, ToRom}
 use Rattle.answer.specs.declared.Answer.{Answer}
 use Rattle.answer.specs.declared.Answer.the-variants.{Done, Refused}
 
--- the number of a reason
-abbrev pub whyNumber : Why → ℕ
-whyNumber TooMany = 7
-whyNumber TooLong = 1
-whyNumber Invalid = 2
-whyNumber NoCode = 3
-whyNumber Unlisted = 4
-whyNumber Missing = 5
-whyNumber ToRom = 6
+-- the number of a reason, and its address; 0 where a reason has none
+abbrev pub whyTold : Why → ℕ × ℕ
+whyTold TooMany = (7, 0)
+whyTold TooLong = (1, 0)
+whyTold Invalid = (2, 0)
+whyTold NoCode = (3, 0)
+whyTold Unlisted = (4, 0)
+whyTold (Missing a) = (5, a)
+whyTold (ToRom a) = (6, a)
 
--- the number of an answer
+-- the number of an answer, and its address; both are 0 where it is done
+abbrev pub toldOf : Answer → ℕ × ℕ
+toldOf Done = (0, 0)
+toldOf (Refused w) = whyTold w
+
+-- the number of a reason; of an answer its number, and its address
+abbrev pub whyNumber : Why → ℕ
+whyNumber w = whyTold w .0
+
 abbrev pub numberOf : Answer → ℕ
-numberOf Done = 0
-numberOf (Refused w) = whyNumber w
+numberOf a = toldOf a .0
+
+abbrev pub atOf : Answer → ℕ
+atOf a = toldOf a .1
 
 -- the first refusal of two answers; done where neither is one
 abbrev pub firstRefusal : Answer → Answer → Answer

@@ -1,6 +1,6 @@
-// Why a call is refused, and the number that stands for it.
+// Why a call is refused, the number that stands for it, and the address that goes with it.
 ghost use mathlib.Core.Path.{_≡_};
-ghost use Rattle.answer.specs.Number.{whyNumber, numberOf};
+ghost use Rattle.answer.specs.Number.{whyTold, whyNumber, numberOf, atOf};
 
 // The reasons, in the order in which they are looked for.
 pub enum Why {
@@ -14,10 +14,10 @@ pub enum Why {
     NoCode,
     // The bytes begin no listed instruction.
     Unlisted,
-    // An operand is in neither memory.
-    Missing,
-    // A store would go to ROM.
-    ToRom,
+    // An operand is not whole in one memory: the address of its missing byte.
+    Missing(u32),
+    // A store would go to ROM: the address of its first byte.
+    ToRom(u32),
 }
 
 pub enum Answer {
@@ -35,8 +35,8 @@ pub fn why_number(w: Why) -> u8
         Why::Invalid => 2,
         Why::NoCode => 3,
         Why::Unlisted => 4,
-        Why::Missing => 5,
-        Why::ToRom => 6,
+        Why::Missing(_) => 5,
+        Why::ToRom(_) => 6,
     }
 }
 
@@ -47,5 +47,30 @@ pub fn number(a: Answer) -> u8
     match a {
         Answer::Done => 0,
         Answer::Refused(w) => why_number(w),
+    }
+}
+
+// The address that goes with a reason: 0 where there is none.
+fn why_at(w: Why) -> u32
+    ensures { λ r. ⌜ r ≡ whyTold w .1 ⌝ }
+{
+    match w {
+        Why::TooMany => 0,
+        Why::TooLong => 0,
+        Why::Invalid => 0,
+        Why::NoCode => 0,
+        Why::Unlisted => 0,
+        Why::Missing(a) => a,
+        Why::ToRom(a) => a,
+    }
+}
+
+// The address that goes with an answer: 0 where there is none.
+pub fn at(a: Answer) -> u32
+    ensures { λ r. ⌜ r ≡ atOf a ⌝ }
+{
+    match a {
+        Answer::Done => 0,
+        Answer::Refused(w) => why_at(w),
     }
 }

@@ -3,11 +3,11 @@ use Prim.Native.Nat.{ℕ}
 use mathlib.Core.Path.{_≡_, refl, sym, ap, _∙_}
 use mathlib.Core.List.{List}
 use mathlib.Core.Bool.{Bool, true, false, cond, not, _&&_}
-use Rattle.answer.specs.declared.Why.{Why}
 use Rattle.code.specs.declared.Form.{Form}
 use Rattle.memory.specs.Access.{loadOf}
+use Rattle.answer.specs.declared.Why.the-variants as why
 use Rattle.memory.specs.declared.Loaded.{Loaded}
-use Rattle.memory.specs.declared.Loaded.the-variants.{Value, Refused}
+use Rattle.memory.specs.declared.Loaded.the-variants.{Value, Missing}
 use Rattle.state.specs.declared.State.{State}
 use Rattle.operand.specs.Try.{Try, did, no, withLoaded}
 use Rattle.operand.specs.Operand.{pointerOf, storing}
@@ -31,9 +31,9 @@ module _ (f : Form) (s : State) (ram rom : List ℕ) where
   unfolding roundOf
   round-compares v e c = ap (λ (l : Loaded). withLoaded l withValue) e ∙ ap (λ (b : Bool). cond b (storesWith v) (did (compared f v s) ram)) c
 
-  pub round-refused : (w : Why) → element ≡ Refused w → roundOf f s ram rom ≡ no w
+  pub round-missing : (x : ℕ) → element ≡ Missing x → roundOf f s ram rom ≡ no (why.Missing x)
   unfolding roundOf
-  round-refused w e = ap (λ (l : Loaded). withLoaded l withValue) e
+  round-missing x e = ap (λ (l : Loaded). withLoaded l withValue) e
 
 -- ---- the tests of goesOn and againOf, one after the other
 module _ (m z : Bool) where

@@ -15,6 +15,7 @@ ghost use Rattle.memory.specs.Place.{placeOf};
 ghost use Rattle.block.specs.inner.Again.{inRom, againOf};
 ghost use Rattle.block.specs.Block.{counted, steppedOf, moved, copied, accumulatorIn, compared, roundOf, goesOn, endsAt};
 use answer::Answer;
+use answer::Why;
 use code::Form;
 use flags::Computed;
 use little::ADDRESSES;
@@ -116,13 +117,12 @@ fn copy(
         a (bankedWith s (now (regs .exit)) bank (now (flags .exit))) (now (ram .exit))) ⌝ }
 {
     let size = f.size;
-    match memory::store(ram, rom, pointer(bank, &*regs, f.to), size, v) {
-        Answer::Done => {
-            copied(f, bank, flags, regs);
-            Answer::Done
-        }
-        Answer::Refused(w) => Answer::Refused(w),
+    let a = memory::store(ram, rom, pointer(bank, &*regs, f.to), size, v);
+    if let Answer::Refused(_) = a {
+        return a;
     }
+    copied(f, bank, flags, regs);
+    Answer::Done
 }
 
 // One round: what LDI, LDD, CPI and CPD do, but for the counter.
@@ -147,7 +147,7 @@ fn one_round(
             compared(f, v, bank, flags, regs);
             Answer::Done
         }
-        Loaded::Refused(w) => Answer::Refused(w),
+        Loaded::Missing(a) => Answer::Refused(Why::Missing(a)),
     }
 }
 
@@ -198,7 +198,7 @@ pub fn in_rom(ram_len: usize, rom_len: usize, at: u32) -> bool
     match memory::find(ram_len, rom_len, at, 1) {
         Place::Ram(_) => false,
         Place::Rom(_) => true,
-        Place::Missing => false,
+        Place::Missing(_) => false,
     }
 }
 

@@ -5,26 +5,13 @@ use mathlib.Core.List.{List, [], _∷_}
 use mathlib.Core.Bool.{true, false}
 use native.Mathlib.Omega.{arith}
 use Rattle.little.specs.declared.Size.the-variants.{Byte}
-use Rattle.flags.specs.Flag.{byteOf, flagsOf}
-use Rattle.flags.specs.Sums.{computedOf, differenceOf}
-use Rattle.little.specs.Bytes.{valueOf, bytesFrom, replaced}
-use Rattle.memory.specs.Place.{placeOf}
-use Rattle.memory.specs.Access.{loadOf, storeOf, ramAfter, codeAt}
-use Rattle.state.specs.State.{resetState, validOf, longOf, withLong, withCounter, withBothFlags, withBank, withFlags}
-use Rattle.state.specs.Register.{getBits, setBits, slotIn, setSlot, slotOf, registerAt, setRegister}
 use Rattle.state.proofs.Sound.{fits}
-use Rattle.code.specs.Said.{numberAt, judge}
-use Rattle.code.specs.Rows.{lookup}
-use Rattle.code.specs.Memory.{memoryRows, copies, compares, blocks, indirectRows}
-use Rattle.code.specs.Listed.{bankRows, flagRows, constantRows, stackRows, jumpRows, relativeRows, registerFormRows, absoluteRows, memoryFormRows, memoryAtRows, storeFormRows, aloneRows, memoryFirstRows, firstRows, decodeOf}
-use Rattle.operand.specs.Operand.{storing}
-use Rattle.operand.specs.Flag.{flagged}
-use Rattle.block.specs.Block.{counted, moved, copied, compared, roundOf}
 use Rattle.run.specs.Demand.{Spares, noElement, noTarget, romTarget, countOf, passed, roundsOf}
 use Rattle.cases.specs.Table.{OfEach, begin, _▹_, _&_, A, WA, BC, XDE, XHL, XIX, Bank}
 use Rattle.cases.specs.Runs.{ldirStart, lddrStart, cpirStart, cpdrStart, toRomStart, toRomRom}
 use Rattle.cases.specs.Evidence.{Start, StartMet, StartSays, ldir, lddr, cpir, cpdr, copying, comparing, evidence, EvidenceMet, EvidenceSays}
 use Rattle.run.proofs.Endings.{ends-as-told}
+use Rattle.cases.proofs.Computed.{left}
 use Rattle.cases.proofs.Tests.{below, only, present, differs, count-met, equal-met, refusal-met}
 use Rattle.cases.proofs.Full as full
 
@@ -34,7 +21,7 @@ abbrev _and_ : {A B : Type 0} → A → B → A × B
 a and b = (a, b)
 
 pub evidence-met : EvidenceMet
-unfolding evidence only below fits present differs countOf passed roundsOf begin byteOf flagsOf computedOf differenceOf valueOf bytesFrom replaced placeOf loadOf storeOf ramAfter codeAt resetState validOf longOf withLong withCounter withBothFlags withBank withFlags getBits setBits slotIn setSlot slotOf registerAt setRegister numberAt judge lookup memoryRows copies compares blocks indirectRows bankRows flagRows constantRows stackRows jumpRows relativeRows registerFormRows absoluteRows memoryFormRows memoryAtRows storeFormRows aloneRows memoryFirstRows firstRows decodeOf storing flagged counted moved copied compared roundOf
+unfolding evidence only below fits present differs countOf passed roundsOf left
 evidence-met =
     count-met ldir ldirStart [] tt refl refl refl 3 refl tt tt
     and count-met lddr lddrStart [] tt refl refl refl 2 refl tt tt
@@ -45,13 +32,13 @@ evidence-met =
     and equal-met cpdr (cpdrStart ▹ WA 0x5678) [] tt refl refl refl 0 tt tt (refl, refl)
     and equal-met cpdr (cpdrStart ▹ WA 0x1234) [] tt refl refl refl 1 tt tt (refl, refl)
     and count-met cpdr (cpdrStart ▹ WA 0xFFFF) [] tt refl refl refl 2 refl tt tt
-    and refusal-met cpir (cpirStart ▹ A 0x44 & XIX 5 & BC 9) [] tt refl refl refl 2 tt tt (noElement refl) tt
-    and refusal-met ldir (ldirStart ▹ XHL 8 & XDE 2 & BC 5) [] tt refl refl refl 2 tt tt (noElement refl) tt
-    and refusal-met ldir (ldirStart ▹ XDE 9) [] tt refl refl refl 1 tt tt (noTarget refl (λ h. let z : _≡_ {A = ℕ} 0 1 = cc in omega arith) refl) tt
-    and refusal-met (copying Byte false 2 3) toRomStart toRomRom tt refl refl refl 2 tt tt (romTarget refl (λ h. let z : _≡_ {A = ℕ} 0 1 = cc in omega arith) _ refl) tt
+    and refusal-met cpir (cpirStart ▹ A 0x44 & XIX 5 & BC 9) [] tt refl refl refl 2 tt tt (noElement _ refl) tt
+    and refusal-met ldir (ldirStart ▹ XHL 8 & XDE 2 & BC 5) [] tt refl refl refl 2 tt tt (noElement _ refl) tt
+    and refusal-met ldir (ldirStart ▹ XDE 9) [] tt refl refl refl 1 tt tt (noTarget refl (λ x h. let z : _≡_ {A = ℕ} 0 1 = cc in omega arith) _ refl) tt
+    and refusal-met (copying Byte false 2 3) toRomStart toRomRom tt refl refl refl 2 tt tt (romTarget refl (λ x h. let z : _≡_ {A = ℕ} 0 1 = cc in omega arith) _ refl) tt
     and count-met ldir (begin 0x00 (ldirStart .ram) ▹ Bank 2 & XHL 4 & XDE 7 & BC 3) [] tt refl refl refl 3 refl tt tt
     and equal-met (comparing Byte true 3) (begin 0x00 (0x83 ∷ 0x15 ∷ 0x00 ∷ 0x00 ∷ 0x11 ∷ 0x22 ∷ 0x33 ∷ []) ▹ Bank 3 & A 0x33 & XHL 4 & BC 3) [] tt refl refl refl 2 tt tt (refl, refl)
-    and refusal-met ldir (begin 0x00 (ldirStart .ram) ▹ Bank 1 & XHL 8 & XDE 2 & BC 5) [] tt refl refl refl 2 tt tt (noElement refl) tt
+    and refusal-met ldir (begin 0x00 (ldirStart .ram) ▹ Bank 1 & XHL 8 & XDE 2 & BC 5) [] tt refl refl refl 2 tt tt (noElement _ refl) tt
     and full.copy-met
     and full.seek-met
     and tt

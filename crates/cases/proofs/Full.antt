@@ -1,17 +1,17 @@
 -- BC 0 with memories of 65,536 bytes: the starts meet what demand 3 supposes. The tests would be too long to compute, so laws do it.
 use Prim.Native.Nat.{ℕ, zero, suc, _+_, _-_, _*_, _%_, _^_, _<_, _≤_}
 use mathlib.Core.Path.{_≡_, refl, ap, sym, _∙_}
-use mathlib.Core.Logic.{inl, _≢_}
+use mathlib.Core.Logic.{inl}
 use mathlib.Core.List.{List, [], _∷_}
 use native.Mathlib.Omega.{arith}
 use native.Mathlib.Nat.{mod-eq-of-lt, mul-one, zero-add}
 use lib.ListN.{length, getD, take, drop, getD-replicate}
 use Rattle.little.specs.declared.Size.the-variants.{Byte}
 use Rattle.little.specs.Bytes.{valueOf}
-use Rattle.memory.specs.Place.{placeOf}
+use Rattle.memory.specs.Place.{placeOf, Present}
 use Rattle.memory.specs.Access.{loadOf, loadFrom, codeAt}
 use Rattle.memory.specs.declared.Place.{Place}
-use Rattle.memory.specs.declared.Place.the-variants.{Ram, Rom, Missing}
+use Rattle.memory.specs.declared.Place.the-variants.{Ram, Rom}
 use Rattle.memory.specs.declared.Loaded.the-variants.{Value}
 use Rattle.memory.proofs.Laws.{place-ram, place-rom}
 use Rattle.state.specs.State.{resetState, validOf, longOf, withLong, withCounter, withBothFlags, withFlags}
@@ -75,8 +75,8 @@ seek-element : (i : ℕ) → i < 65536 → elementOf cpir fullSeek i ≡ i
 unfolding passed fullSeek begin resetState longOf withLong withCounter withBothFlags withFlags getBits setBits slotIn setSlot slotOf registerAt setRegister
 seek-element i h = near 0 i (omega arith) ∙ zero-add i
 
-copy-there : (i : ℕ) → i < 65536 → elementPlace ldir fullCopy fullRam fullRom i ≢ Missing
-copy-there i h e =
+copy-there : (i : ℕ) → i < 65536 → Present (elementPlace ldir fullCopy fullRam fullRom i)
+copy-there i h x e =
     let p : placeOf (length fullRam) (length fullRom) (elementOf ldir fullCopy i) 1 ≡ Rom (0xFF0000 + i + 65536 - 2 ^ 24) =
     rw (full-ram, full-rom, copy-element i h) (place-rom 65536 65536 (0xFF0000 + i) 1 (omega arith) (omega arith) (omega arith)) in
     let z : _≡_ {A = ℕ} 0 1 = cc in
@@ -95,8 +95,8 @@ copy-spares c i h = inl (rw (copy-target i h, copy-counter) (omega arith))
 seek-place : (i : ℕ) → i < 65536 → placeOf (length fullRam) (length seekRom) (elementOf cpir fullSeek i) 1 ≡ Ram i
 seek-place i h = rw (full-ram, seek-element i h) (place-ram 65536 (length seekRom) i 1 (omega arith))
 
-seek-there : (i : ℕ) → i < 65536 → elementPlace cpir fullSeek fullRam seekRom i ≢ Missing
-seek-there i h e =
+seek-there : (i : ℕ) → i < 65536 → Present (elementPlace cpir fullSeek fullRam seekRom i)
+seek-there i h x e =
     let p = seek-place i h in
     let z : _≡_ {A = ℕ} 0 1 = cc in
     omega arith

@@ -13,7 +13,8 @@ use Rattle.memory.specs.Access.{loadOf, codeAt}
 use Rattle.memory.specs.declared.Place.{Place}
 use Rattle.memory.specs.declared.Place.the-variants.{Ram, Rom, Missing}
 use Rattle.memory.specs.declared.Loaded.{Loaded}
-use Rattle.memory.specs.declared.Loaded.the-variants.{Value, Refused}
+use Rattle.memory.specs.declared.Loaded.the-variants.{Value}
+use Rattle.memory.specs.declared.Loaded.the-variants as loaded
 use Rattle.state.specs.State.{validOf}
 use Rattle.state.specs.declared.State.{State}
 use Rattle.state.proofs.Sound.{and-left, and-right, fits, fits-says, soundTest, sound-by}
@@ -52,15 +53,15 @@ below-says (suc n) p t (suc i) h = below-says n (λ j. p (suc j)) (and-right (p 
 unfoldable pub present : Place → Bool
 present (Ram o) = true
 present (Rom o) = true
-present Missing = false
+present (Missing x) = false
 
 unfoldable pub differs : Loaded → ℕ → Bool
 differs (Value v) a = not (eqb v a)
-differs (Refused w) a = true
+differs (loaded.Missing x) a = true
 
-missing-not : T (present Missing) → ⊥
+missing-not : (x : ℕ) → T (present (Missing x)) → ⊥
 unfolding present
-missing-not t = t
+missing-not x t = t
 
 value-not : (a : ℕ) → T (differs (Value a) a) → ⊥
 unfolding differs
@@ -103,7 +104,7 @@ module _ (f : Form) (s : State) (ram rom : List ℕ) where
   passes n t i h =
       let each = below-says n passTest t i h in
       let both = and-right (thereTest i) _ each in (
-        (λ e. missing-not (subst (λ (p : Place). T (present p)) e (and-left (thereTest i) _ each))),
+        (λ x e. missing-not x (subst (λ (p : Place). T (present p)) e (and-left (thereTest i) _ each))),
         (λ c. leb→le _ _ (only-says (f .copies) _ (and-left (writableTest i) (noneTest i) both) c)),
         λ q.
             value-not (accumulator s (f .size))

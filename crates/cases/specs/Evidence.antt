@@ -89,15 +89,15 @@ evidence =
     ∷ tells cpdr (cpdrStart ▹ WA 0x1234) [] (atEqual 1) 2
     ∷ tells cpdr (cpdrStart ▹ WA 0xFFFF) [] atCount 2
     -- refused: a compare's element is missing; a copy's element is; its target is missing; its target is ROM
-    ∷ tells cpir (cpirStart ▹ A 0x44 & XIX 5 & BC 9) [] (atRefusal 2 Missing) 2
-    ∷ tells ldir (ldirStart ▹ XHL 8 & XDE 2 & BC 5) [] (atRefusal 2 Missing) 2
-    ∷ tells ldir (ldirStart ▹ XDE 9) [] (atRefusal 1 Missing) 1
-    ∷ tells (copying Byte false 2 3) toRomStart toRomRom (atRefusal 2 ToRom) 2
+    ∷ tells cpir (cpirStart ▹ A 0x44 & XIX 5 & BC 9) [] (atRefusal 2 (Missing 7)) 2
+    ∷ tells ldir (ldirStart ▹ XHL 8 & XDE 2 & BC 5) [] (atRefusal 2 (Missing 0xA)) 2
+    ∷ tells ldir (ldirStart ▹ XDE 9) [] (atRefusal 1 (Missing 0xA)) 1
+    ∷ tells (copying Byte false 2 3) toRomStart toRomRom (atRefusal 2 (ToRom 0xFFFFFF)) 2
     -- each ending in another bank; the compare at (XHL), a pointer that each bank has for itself
     ∷ tells ldir (begin 0x00 (ldirStart .ram) ▹ Bank 2 & XHL 4 & XDE 7 & BC 3) [] atCount 3
     ∷ tells (comparing Byte true 3) (begin 0x00 (0x83 ∷ 0x15 ∷ 0x00 ∷ 0x00 ∷ 0x11 ∷ 0x22 ∷ 0x33 ∷ []) ▹ Bank 3 & A 0x33 & XHL 4 & BC 3) []
     (atEqual 2) 3
-    ∷ tells ldir (begin 0x00 (ldirStart .ram) ▹ Bank 1 & XHL 8 & XDE 2 & BC 5) [] (atRefusal 2 Missing) 2
+    ∷ tells ldir (begin 0x00 (ldirStart .ram) ▹ Bank 1 & XHL 8 & XDE 2 & BC 5) [] (atRefusal 2 (Missing 0xA)) 2
     -- BC 0 is 65,536 rounds
     ∷ tells ldir (machine fullCopy fullRam) fullRom atCount 65536
     ∷ tells cpir (machine fullSeek fullRam) seekRom atCount 65536

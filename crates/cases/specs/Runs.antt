@@ -1,9 +1,10 @@
 -- Runs of repeating copies and compares, to the end and not so far, refused in the middle, and onto their own code; the checks of a run;
--- and the mill's start-up.
+-- the mill's start-up; and the addresses that go with 5 and 6.
 use Rattle.little.specs.Words.{ℕ, List, [], _∷_, replicate}
 use Rattle.answer.specs.declared.Answer.the-variants.{Done, Refused}
+use Rattle.answer.specs.declared.Why.{Why}
 use Rattle.answer.specs.declared.Why.the-variants.{TooMany, TooLong, Invalid, NoCode, Unlisted, Missing, ToRom}
-use Rattle.cases.specs.Table.{Machine, Case, ComesOut, OfEach, begin, _▹_, _&_, nothing, A, WA, BC, XDE, XHL, XIX, XIY, F, Bank, Counter, Ram, row, does}
+use Rattle.cases.specs.Table.{Machine, Case, ComesOut, OfEach, begin, _▹_, _&_, nothing, A, WA, BC, XDE, XHL, XIX, XIY, XSP, F, Bank, Counter, Ram, row, does}
 
 -- ---- the starts
 -- LDIR of three bytes at 4 to 7
@@ -32,6 +33,25 @@ toRomRom = 0x83 ∷ 0x13 ∷ 0x00 ∷ 0x00 ∷ []
 -- LDF n and then LD A,2AH, in bank 3
 abbrev pub ldfStart : ℕ → Machine
 ldfStart n = begin 0xD7 (0x17 ∷ n ∷ 0x21 ∷ 0x2A ∷ []) ▹ Bank 3
+
+-- RAM of eight bytes that begins with this code
+abbrev pub eight : List ℕ → Machine
+eight code = begin 0xD7 (replicate 8 0x00) ▹ Ram 0 code
+
+-- ROM of four bytes: FFFFFCH to FFFFFFH
+abbrev pub fourRom : List ℕ
+fourRom = replicate 4 0x00
+
+-- RAM of 65,536 bytes, and LD XWA,(FFFDH) at FFFFFCH
+abbrev pub wholeRam : Machine
+wholeRam = begin 0xD7 (replicate 65536 0x00) ▹ Counter 0xFFFFFC
+
+abbrev pub wholeRom : List ℕ
+wholeRom = 0xE1 ∷ 0xFD ∷ 0xFF ∷ 0x20 ∷ []
+
+-- one step that is refused and changes nothing
+abbrev pub stops : Machine → List ℕ → Why → Case
+stops m rom w = row 1 m rom 0 nothing (Refused w)
 
 -- ---- the tables
 unfoldable pub copyRuns : List Case
@@ -68,14 +88,14 @@ compareRuns =
 -- refused in the middle: what the earlier rounds did stays, and nothing of the refused one
 unfoldable pub refused : List Case
 refused =
-    -- the third element is past the end of RAM
+    -- the third element is past the end of RAM: its address is told
     row 5 (ldirStart ▹ XHL 8 & XDE 2 & BC 5 & Ram 8 (0xC1 ∷ 0xC2 ∷ [])) [] 2
-    (XHL 0xA & XDE 4 & BC 3 & F 0xC5 & Ram 2 (0xC1 ∷ 0xC2 ∷ [])) (Refused Missing)
-    ∷ row 9 (cpirStart ▹ A 0x44 & XIX 5 & BC 9) [] 2 (XIX 7 & BC 7 & F 0x06) (Refused Missing)
+    (XHL 0xA & XDE 4 & BC 3 & F 0xC5 & Ram 2 (0xC1 ∷ 0xC2 ∷ [])) (Refused (Missing 0xA))
+    ∷ row 9 (cpirStart ▹ A 0x44 & XIX 5 & BC 9) [] 2 (XIX 7 & BC 7 & F 0x06) (Refused (Missing 7))
     -- the third target is below 0, which is the end of ROM
-    ∷ row 4 toRomStart toRomRom 2 (XHL 3 & XDE 0xFFFFFFFF & BC 2 & F 0x04 & Ram 0 (0xC4 ∷ 0xC5 ∷ [])) (Refused ToRom)
+    ∷ row 4 toRomStart toRomRom 2 (XHL 3 & XDE 0xFFFFFFFF & BC 2 & F 0x04 & Ram 0 (0xC4 ∷ 0xC5 ∷ [])) (Refused (ToRom 0xFFFFFF))
     -- the first target is nowhere
-    ∷ row 3 (ldirStart ▹ XDE 0x1000) [] 0 nothing (Refused Missing)
+    ∷ row 3 (ldirStart ▹ XDE 0x1000) [] 0 nothing (Refused (Missing 0x1000))
     ∷ []
 
 -- onto its own code, which demand 3 leaves out: each step fetches afresh what the round before wrote
@@ -117,8 +137,43 @@ startUp =
     ∷ row 1 (ldfStart 0x08) [] 0 nothing (Refused Unlisted)
     ∷ []
 
+-- the address that goes with 5 and 6 (request K3), with RAM 0 to 7, and ROM FFFFFCH to FFFFFFH where there is one
+unfoldable pub addresses : List Case
+addresses =
+    -- LD XWA,(6): the first two bytes are RAM, and the third is told; (7): the second; (40H): nothing is there
+    stops (eight (0xE0 ∷ 0x06 ∷ 0x20 ∷ [])) [] (Missing 8)
+    ∷ stops (eight (0xE0 ∷ 0x07 ∷ 0x20 ∷ [])) [] (Missing 8)
+    ∷ stops (eight (0xE0 ∷ 0x40 ∷ 0x20 ∷ [])) [] (Missing 0x40)
+    -- LD WA,(FFFFFBH): the first byte is below ROM
+    ∷ stops (eight (0xD2 ∷ 0xFB ∷ 0xFF ∷ 0xFF ∷ 0x20 ∷ [])) fourRom (Missing 0xFFFFFB)
+    -- LD XWA,(FFFFFEH): the first byte is ROM, and the third is 000000H, which RAM holds; without ROM it is the first.
+    -- The same by POP XWA at FFFFFCH, with no RAM: 000000H is in no memory
+    ∷ stops (eight (0xE2 ∷ 0xFE ∷ 0xFF ∷ 0xFF ∷ 0x20 ∷ [])) fourRom (Missing 0)
+    ∷ stops (eight (0xE2 ∷ 0xFE ∷ 0xFF ∷ 0xFF ∷ 0x20 ∷ [])) [] (Missing 0xFFFFFE)
+    ∷ stops (begin 0xD7 [] ▹ XSP 0xFFFFFE & Counter 0xFFFFFC) (0x58 ∷ 0x00 ∷ 0x00 ∷ 0x00 ∷ []) (Missing 0)
+    -- LD XWA,(FFFDH) with all the RAM there may be
+    ∷ stops wholeRam wholeRom (Missing 0x10000)
+    -- PUSH XWA below 0: in ROM; over the top; and without ROM
+    ∷ stops (eight (0x38 ∷ []) ▹ XSP 0) fourRom (ToRom 0xFFFFFC)
+    ∷ stops (eight (0x38 ∷ []) ▹ XSP 2) fourRom (Missing 0)
+    ∷ stops (eight (0x38 ∷ []) ▹ XSP 2) [] (Missing 0xFFFFFE)
+    -- CALL 1234H and RET over RAM's end; where nothing is, the address is told without the bits of XSP above it
+    ∷ stops (eight (0x1C ∷ 0x34 ∷ 0x12 ∷ []) ▹ XSP 0xA) [] (Missing 8)
+    ∷ stops (eight (0x0E ∷ []) ▹ XSP 0x01000005) [] (Missing 8)
+    ∷ stops (eight (0x0E ∷ []) ▹ XSP 0x12000050) [] (Missing 0x50)
+    -- LDIW: the source is missing; then the target; then both, and the source is told; the target is ROM
+    ∷ stops (eight (0x93 ∷ 0x10 ∷ []) ▹ XHL 7 & XDE 4) [] (Missing 8)
+    ∷ stops (eight (0x93 ∷ 0x10 ∷ []) ▹ XHL 4 & XDE 0x50) [] (Missing 0x50)
+    ∷ stops (eight (0x93 ∷ 0x10 ∷ []) ▹ XHL 0x60 & XDE 0x50) [] (Missing 0x60)
+    ∷ stops (eight (0x93 ∷ 0x10 ∷ []) ▹ XHL 4 & XDE 0xFFFFFE) fourRom (ToRom 0xFFFFFE)
+    -- CPIW over the top
+    ∷ stops (eight (0x94 ∷ 0x14 ∷ []) ▹ XIX 0xFFFFFF) fourRom (Missing 0)
+    -- ADD (FFFFFCH),A reads ROM and would store there
+    ∷ stops (eight (0xC2 ∷ 0xFC ∷ 0xFF ∷ 0xFF ∷ 0x89 ∷ [])) fourRom (ToRom 0xFFFFFC)
+    ∷ []
+
 -- all these tables hold
 abbrev pub RunsHold : Type 0
 RunsHold =
     OfEach ComesOut copyRuns × OfEach ComesOut compareRuns × OfEach ComesOut refused × OfEach ComesOut onto × OfEach ComesOut checks
-    × OfEach ComesOut startUp
+    × OfEach ComesOut startUp × OfEach ComesOut addresses

@@ -9,6 +9,7 @@ use crate::operated;
 use crate::stores;
 use alu::Arith;
 use answer::Answer;
+use answer::Why;
 use little::Size;
 use memory::Loaded;
 use state::Bank;
@@ -32,7 +33,7 @@ pub fn load(
             state::write(regs, bank, size, r, v);
             Answer::Done
         }
-        Loaded::Refused(w) => Answer::Refused(w),
+        Loaded::Missing(a) => Answer::Refused(Why::Missing(a)),
     }
 }
 
@@ -79,7 +80,7 @@ pub fn first(
             }
             Answer::Done
         }
-        Loaded::Refused(w) => Answer::Refused(w),
+        Loaded::Missing(a) => Answer::Refused(Why::Missing(a)),
     }
 }
 
@@ -87,9 +88,9 @@ pub fn first(
 fn stored(a: Answer, before: u8, flags: &mut u8) -> Answer
     ensures { λ r. ⌜ (r ≡ a) × (now (flags .exit) ≡ keptOr a before (now (flags .entry))) ⌝ }
 {
-    if let Answer::Refused(w) = a {
+    if let Answer::Refused(_) = a {
         *flags = before;
-        return Answer::Refused(w);
+        return a;
     }
     a
 }
@@ -120,6 +121,6 @@ pub fn second(
             }
             Answer::Done
         }
-        Loaded::Refused(w) => Answer::Refused(w),
+        Loaded::Missing(a) => Answer::Refused(Why::Missing(a)),
     }
 }

@@ -35,9 +35,9 @@ pub fn current(bank: &u8) -> Bank
 pub fn back(a: Answer, here: u32, counter: &mut u32) -> Answer
     ensures { λ r. ⌜ (r ≡ a) × (now (counter .exit) ≡ backOf a here (now (counter .entry))) ⌝ }
 {
-    if let Answer::Refused(w) = a {
+    if let Answer::Refused(_) = a {
         *counter = here;
-        return Answer::Refused(w);
+        return a;
     }
     a
 }
@@ -46,8 +46,8 @@ pub fn back(a: Answer, here: u32, counter: &mut u32) -> Answer
 pub fn on(a: Answer, counter: &mut u32, n: usize) -> Answer
     ensures { λ r. ⌜ (r ≡ a) × (now (counter .exit) ≡ onOf a n (now (counter .entry))) ⌝ }
 {
-    if let Answer::Refused(w) = a {
-        return Answer::Refused(w);
+    if let Answer::Refused(_) = a {
+        return a;
     }
     past(counter, n);
     a

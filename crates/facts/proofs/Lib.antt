@@ -3,3 +3,4 @@ pub mod Kept
 pub mod Statements
 pub mod Shown
 pub mod Banks
+pub mod Where

@@ -3,7 +3,7 @@ use Prim.Native.Nat.{ℕ, _-_, _<_, _≤_, _^_}
 use mathlib.Core.Path.{_≡_, refl, ap, sym, _∙_, subst}
 use mathlib.Core.List.{List}
 use mathlib.Core.Bool.{Bool, true, false, cond, _||_}
-use mathlib.Core.Logic.{_⊎_, inl, inr}
+use mathlib.Core.Logic.{_⊎_, inl, inr, ⊎-elim}
 use native.Mathlib.Omega.{arith}
 use lib.ListN.{length}
 use lib.Dec.{ltb}
@@ -61,14 +61,14 @@ not-long a b p q = rw (le-ltb (2 ^ 16) a p, le-ltb (2 ^ 16) b q) refl
 
 -- ---- what a fair try leaves
 -- a refusal has a number
-some : (w : Why) → 1 ≤ whyNumber w
+pub some : (w : Why) → 1 ≤ whyNumber w
 some TooMany = omega arith
 some TooLong = omega arith
 some Invalid = omega arith
 some NoCode = omega arith
 some Unlisted = omega arith
-some Missing = omega arith
-some ToRom = omega arith
+some (Missing x) = omega arith
+some (ToRom x) = omega arith
 
 module _ (P : State → Type 0) (s : State) (ram rom : List ℕ) (r g : Span) where
   fair-answer : (t : Try) → Fair P ram rom r g t → leaves s ram t .answer ≡ answerBy ram rom r g
@@ -88,12 +88,12 @@ ByOperands a = (numberOf a ≡ 0) ⊎ ((5 ≤ numberOf a) × (numberOf a ≤ 6))
 by-load : (p : Place) → ByOperands (loadTo p)
 by-load (place.Ram o) = inl refl
 by-load (place.Rom o) = inl refl
-by-load place.Missing = inr (omega arith, omega arith)
+by-load (place.Missing x) = inr (omega arith, omega arith)
 
-by-store : (p : Place) → ByOperands (storeTo p)
-by-store (place.Ram o) = inl refl
-by-store (place.Rom o) = inr (omega arith, omega arith)
-by-store place.Missing = inr (omega arith, omega arith)
+by-store : (p : Place) (a : ℕ) → ByOperands (storeTo p a)
+by-store (place.Ram o) a = inl refl
+by-store (place.Rom o) a = inr (omega arith, omega arith)
+by-store (place.Missing x) a = inr (omega arith, omega arith)
 
 by-operands : (ram rom : List ℕ) (r g : Span) → ByOperands (answerBy ram rom r g)
 unfolding answerBy
@@ -105,7 +105,7 @@ by-operands ram rom r g = go (readAnswer ram rom r) (reading r) (storeAnswer ram
 
     storing : (x : Span) → ByOperands (storeAnswer ram rom x)
     storing none = inl refl
-    storing (bytes a n) = by-store (placeOf (length ram) (length rom) a n)
+    storing (bytes a n) = by-store (placeOf (length ram) (length rom) a n) a
 
     go : (a : Answer) → ByOperands a → (b : Answer) → ByOperands b → ByOperands (firstRefusal a b)
     go Done p b q = q
@@ -278,13 +278,19 @@ module _ (s : State) (ram rom : List ℕ) where
       go (inl z) n = omega arith
       go (inr z) n = omega (arith, z .1)
 
-  -- an accepted step has a whole instruction at its counter
-  accepted : Course → answer ≡ Done → (i : Instruction) × (Passed s ram rom × (judged ≡ decoded.Whole i))
-  accepted (long l a) e = absurd (omega (arith, ap numberOf (sym a ∙ e)))
-  accepted (invalid w v a) e = absurd (omega (arith, ap numberOf (sym a ∙ e)))
-  accepted (short p d a) e = absurd (omega (arith, ap numberOf (sym a ∙ e)))
-  accepted (unlisted p d a) e = absurd (omega (arith, ap numberOf (sym a ∙ e)))
-  accepted (whole i p d a) e = (i, (p, d))
+  -- an accepted step, and one refused with 5 or 6, has a whole instruction at its counter
+  pub operated : (b : Answer) → (numberOf b ≡ 0) ⊎ (5 ≤ numberOf b) → answer ≡ b → (i : Instruction) × (Passed s ram rom × (judged ≡ decoded.Whole i))
+  operated b n e = go course
+    where
+      judged-so : (c : Answer) → answer ≡ c → 1 ≤ numberOf c → numberOf c ≤ 4 → ⊥
+      judged-so c a l m = ⊎-elim (λ z. omega (arith, ap numberOf (sym a ∙ e))) (λ z. omega (arith, ap numberOf (sym a ∙ e))) n
+
+      go : Course → (i : Instruction) × (Passed s ram rom × (judged ≡ decoded.Whole i))
+      go (long l a) = absurd (judged-so _ a (omega arith) (omega arith))
+      go (invalid w v a) = absurd (judged-so _ a (omega arith) (omega arith))
+      go (short p d a) = absurd (judged-so _ a (omega arith) (omega arith))
+      go (unlisted p d a) = absurd (judged-so _ a (omega arith) (omega arith))
+      go (whole i p d a) = (i, (p, d))
 
 -- ---- the statements
 unchanged : (s : State) (ram : List ℕ) (t : Try) (w : Why) → leaves s ram t .answer ≡ Refused w → (leaves s ram t .state ≡ s) × (leaves s ram t .ram ≡ ram)
@@ -301,7 +307,7 @@ refused-changes-nothing s ram rom w e =
     (same .0, same .1, some w, number-most s ram rom w (course s ram rom) e)
 
 pub keeps-valid : KeepsValid
-keeps-valid s ram rom e = go (accepted s ram rom (course s ram rom) e)
+keeps-valid s ram rom e = go (operated s ram rom Done (inl refl) e)
   where
     go :
         (i : Instruction) × (Passed s ram rom × (decodeOf (codeAt ram rom (s .counter)) ≡ decoded.Whole i))
@@ -311,7 +317,7 @@ keeps-valid s ram rom e = go (accepted s ram rom (course s ram rom) e)
         (valid-from (stepOf s ram rom .state) (v .0), spares-length (storedOf (i .op) (i .size) (i .operand) (pastOf (i .length) s)) ram (stepOf s ram rom .ram) (v .1), λ ok. left s ram rom Sound sound-kept ok i p d e .0)
 
 pub stores-only-there : StoresOnlyThere
-stores-only-there s ram rom i e d = go (accepted s ram rom (course s ram rom) e)
+stores-only-there s ram rom i e d = go (operated s ram rom Done (inl refl) e)
   where
     go :
         (j : Instruction) × (Passed s ram rom × (decodeOf (codeAt ram rom (s .counter)) ≡ decoded.Whole j))
@@ -338,7 +344,7 @@ reset-at ram rom {p} w e = rw (not-long (length ram) (length rom) (w .0) (w .1))
 
 pub reset-missing : ResetMissing
 reset-missing ram rom w = (
-  λ h. reset-at ram rom w (place-low (length ram) (length rom) 0xFFFF00 4 (omega (arith, w .0)) (omega arith)),
+  λ h. reset-at ram rom w (place-low (length ram) (length rom) 0xFFFF00 4 (omega arith) (omega (arith, w .0)) (omega arith)),
   λ h. ap (λ (r : Stepped). r .answer) (reset-at ram rom w (place-rom (length ram) (length rom) 0xFFFF00 4 (omega (arith, w .0)) (omega arith) (omega arith))),
 )
 

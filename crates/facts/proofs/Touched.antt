@@ -137,7 +137,7 @@ module _ (P : State → Type 0) (ram rom : List ℕ) where
       go : (p : Place) → operandAt ram rom a z ≡ p → Fair (bytes a (bytesOf z)) g (withLoaded (loadFrom p ram rom (bytesOf z)) f)
       go (Ram o) e = there (valueOf (take (bytesOf z) (drop o ram))) (ap loadTo e)
       go (Rom o) e = there (valueOf (take (bytesOf z) (drop o rom))) (ap loadTo e)
-      go Missing e = ap (λ (p : Place). firstRefusal (loadTo p) (storeAnswer ram rom g)) e
+      go (Missing x) e = ap (λ (p : Place). firstRefusal (loadTo p) (storeAnswer ram rom g)) e
 
   fair-value : (s : State) (z : Size) (o : Operand) (g : Span) (f : ℕ → Try) → ((v : ℕ) → Fair none g (f v)) → Fair (operandSpan s z o) g (withLoaded (valueAt s ram rom z o) f)
   unfolding valueIn

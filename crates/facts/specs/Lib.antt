@@ -1,3 +1,4 @@
 pub mod Touched
 pub mod Statements
 pub mod Banks
+pub mod Where

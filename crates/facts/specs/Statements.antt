@@ -35,7 +35,7 @@ Within ram rom = (length ram ≤ 2 ^ 16) × (length rom ≤ 2 ^ 16)
 abbrev pub Passed : State → List ℕ → List ℕ → Type 0
 Passed s ram rom = Within ram rom × (validOf s ≡ true)
 
--- each number is given in its stated case and in no other; 5 and 6 by where the operands of a whole instruction lie
+-- each number is given in its stated case and in no other; 5 and 6, and their addresses, by where the operands of a whole instruction lie
 pub record RefusedWhen (s : State) (ram rom : List ℕ) : Type 0 where
   pub one : (stepOf s ram rom .answer ≡ Refused TooLong) ⇔ ((2 ^ 16 < length ram) ⊎ (2 ^ 16 < length rom))
   pub two : (stepOf s ram rom .answer ≡ Refused Invalid) ⇔ (Within ram rom × (validOf s ≡ false))
@@ -80,11 +80,11 @@ RefusedShowsNone =
     (ram rom : List ℕ) (at : ℕ) (p q : ℕ × ℕ) (w : Why) → showAnswerOf ram rom at ≡ Refused w →
     (shownOf ram rom at ≡ []) × (shownFrom ram rom at p q ≡ q)
 
--- within the limits, reset is refused with 5 and the all-zero state exactly where ROM is shorter than 256 bytes; else it is done
+-- within the limits, reset is refused with 5, the vector's address and the all-zero state where ROM is shorter than 256 bytes; else it is done
 abbrev pub ResetMissing : Type 0
 ResetMissing =
     (ram rom : List ℕ) → Within ram rom →
-    (length rom < 256 → resetOf ram rom ≡ refusedWith zeroState Missing) × (256 ≤ length rom → resetOf ram rom .answer ≡ Done)
+    (length rom < 256 → resetOf ram rom ≡ refusedWith zeroState (Missing 0xFFFF00)) × (256 ≤ length rom → resetOf ram rom .answer ≡ Done)
 
 -- the single form of a repeating one: LDI of LDIR, LDD of LDDR, CPI of CPIR, CPD of CPDR
 unfoldable pub single : Form → Form

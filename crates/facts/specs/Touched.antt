@@ -91,9 +91,9 @@ storedOf (Blocks f) z o s = cond (f .copies) (bytes (pointerOf s (f .to)) (bytes
 abbrev pub loadTo : Place → Answer
 loadTo (Ram o) = Done
 loadTo (Rom o) = Done
-loadTo Missing = Refused why.Missing
+loadTo (Missing x) = Refused (why.Missing x)
 
--- 5 where the bytes to be read are not all there
+-- 5, and the missing byte's address, where the bytes to be read are not whole in one memory
 abbrev pub readAnswer : List ℕ → List ℕ → Span → Answer
 readAnswer ram rom none = Done
 readAnswer ram rom (bytes a n) = loadTo (placeOf (length ram) (length rom) a n)
@@ -101,7 +101,7 @@ readAnswer ram rom (bytes a n) = loadTo (placeOf (length ram) (length rom) a n)
 -- what is stored has to be there, and in RAM
 abbrev pub storeAnswer : List ℕ → List ℕ → Span → Answer
 storeAnswer ram rom none = Done
-storeAnswer ram rom (bytes a n) = storeTo (placeOf (length ram) (length rom) a n)
+storeAnswer ram rom (bytes a n) = storeTo (placeOf (length ram) (length rom) a n) a
 
 -- 5 for the read comes first, then 5 for the store, then 6
 unfoldable pub answerBy : List ℕ → List ℕ → Span → Span → Answer

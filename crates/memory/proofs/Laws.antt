@@ -1,5 +1,5 @@
 -- Laws of the place of an operand, and of loads, stores and fetches at a known place.
-use Prim.Native.Nat.{ℕ, _+_, _-_, _≤_, _<_, _^_}
+use Prim.Native.Nat.{ℕ, _+_, _-_, _≤_, _<_, _^_, _%_}
 use mathlib.Core.Path.{_≡_, refl, ap, sym, _∙_}
 use mathlib.Core.Bool.{Bool, true, false, cond, _&&_}
 use mathlib.Core.List.{List, [], _∷_, _++_}
@@ -15,10 +15,12 @@ use Rattle.little.specs.declared.Size.the-variants.{Byte, Word, Long}
 use Rattle.little.specs.Width.{bytesOf}
 use Rattle.little.specs.Bytes.{bytesFrom, replaced}
 use Rattle.little.proofs.Laws.{length-bytes, replaced-length, replaced-below, replaced-above}
-use Rattle.memory.specs.Place.{placeOf}
+use Rattle.memory.specs.Place.{missingOf, placeOf}
+use Rattle.memory.specs.inner.Ends.{pastEnd}
 use Rattle.memory.specs.Access.{loadOf, loadFrom, storeOf, storeTo, ramAfter, ramWith, codeAt, codeFrom, operandAt}
 use Rattle.memory.specs.declared.Place.{Place}
 use Rattle.memory.specs.declared.Place.the-variants.{Ram, Rom, Missing}
+use Rattle.memory.proofs.Ends.{rom-below, end-none, missing-past}
 
 -- ---- the place, from the tests
 module _ (rl ml a n : ℕ) where
@@ -30,23 +32,24 @@ module _ (rl ml a n : ℕ) where
   unfolding placeOf
   place-rom h i j = simp (lt-leb (a + n) rl h, le-leb (2 ^ 24) (a + ml) i, le-leb (a + n) (2 ^ 24) j)
 
-  pub place-low : rl < a + n → a + ml < 2 ^ 24 → placeOf rl ml a n ≡ Missing
+  pub place-none : rl < a + n → (2 ^ 24 ≤ a + ml → 2 ^ 24 < a + n) → placeOf rl ml a n ≡ Missing (missingOf rl ml a n)
   unfolding placeOf
-  place-low h i = simp (lt-leb (a + n) rl h, lt-leb (2 ^ 24) (a + ml) i)
-
-  pub place-high : rl < a + n → 2 ^ 24 < a + n → placeOf rl ml a n ≡ Missing
-  unfolding placeOf
-  place-high h j = go (leb (2 ^ 24) (a + ml)) refl
+  place-none h i = go (leb (2 ^ 24) (a + ml)) refl
     where
-      go : (b : Bool) → leb (2 ^ 24) (a + ml) ≡ b → placeOf rl ml a n ≡ Missing
-      go true e = simp (lt-leb (a + n) rl h, e, lt-leb (a + n) (2 ^ 24) j)
+      go : (b : Bool) → leb (2 ^ 24) (a + ml) ≡ b → placeOf rl ml a n ≡ Missing (missingOf rl ml a n)
+      go true e = simp (lt-leb (a + n) rl h, e, lt-leb (a + n) (2 ^ 24) (i (leb-true _ _ e)))
       go false e = simp (lt-leb (a + n) rl h, e)
+
+  pub place-low : 0 < n → rl ≤ a → a + ml < 2 ^ 24 → placeOf rl ml a n ≡ Missing (a % 2 ^ 24)
+  place-low p h i =
+      let high : 2 ^ 24 ≤ a + ml → 2 ^ 24 < a + n = λ j. absurd (omega arith) in
+      place-none (omega arith) high ∙ ap Missing (missing-past rl ml a n (omega arith) high ∙ end-none rl ml a h (rom-below ml a i))
 
 -- ---- what a place says of the tests
 pub data At (rl ml a n : ℕ) : Place → Type 0 where
   in-ram : a + n ≤ rl → At rl ml a n (Ram a)
   in-rom : rl < a + n → 2 ^ 24 ≤ a + ml → a + n ≤ 2 ^ 24 → At rl ml a n (Rom (a + ml - 2 ^ 24))
-  nowhere : At rl ml a n Missing
+  nowhere : rl < a + n → (2 ^ 24 ≤ a + ml → 2 ^ 24 < a + n) → At rl ml a n (Missing (missingOf rl ml a n))
 
 pub at : (rl ml a n : ℕ) → At rl ml a n (placeOf rl ml a n)
 unfolding placeOf
@@ -54,11 +57,11 @@ at rl ml a n = go (leb (a + n) rl) (leb (2 ^ 24) (a + ml)) (leb (a + n) (2 ^ 24)
   where
     go :
         (x y z : Bool) → leb (a + n) rl ≡ x → leb (2 ^ 24) (a + ml) ≡ y → leb (a + n) (2 ^ 24) ≡ z
-        → At rl ml a n (cond x (Ram a) (cond (y && z) (Rom (a + ml - 2 ^ 24)) Missing))
+        → At rl ml a n (cond x (Ram a) (cond (y && z) (Rom (a + ml - 2 ^ 24)) (Missing (missingOf rl ml a n))))
     go true y z e f g = in-ram (leb-true (a + n) rl e)
     go false true true e f g = in-rom (leb-false (a + n) rl e) (leb-true _ _ f) (leb-true _ _ g)
-    go false true false e f g = nowhere
-    go false false z e f g = nowhere
+    go false true false e f g = nowhere (leb-false (a + n) rl e) (λ h. leb-false (a + n) (2 ^ 24) g)
+    go false false z e f g = nowhere (leb-false (a + n) rl e) (λ h. absurd (omega (arith, leb-false (2 ^ 24) (a + ml) f)))
 
 pub ram-fits : (rl ml a n o : ℕ) → placeOf rl ml a n ≡ Ram o → (o ≡ a) × (o + n ≤ rl)
 ram-fits rl ml a n o e = go (at rl ml a n) e
@@ -66,7 +69,7 @@ ram-fits rl ml a n o e = go (at rl ml a n) e
     go : {p : Place} → At rl ml a n p → p ≡ Ram o → (o ≡ a) × (o + n ≤ rl)
     go (in-ram h) f = let g : a ≡ o = cc in (sym g, omega arith)
     go (in-rom h i j) f = let z : _≡_ {A = ℕ} 0 1 = cc in absurd (omega arith)
-    go nowhere f = let z : _≡_ {A = ℕ} 0 1 = cc in absurd (omega arith)
+    go (nowhere h i) f = let z : _≡_ {A = ℕ} 0 1 = cc in absurd (omega arith)
 
 pub rom-fits : (rl ml a n o : ℕ) → placeOf rl ml a n ≡ Rom o → (o + 2 ^ 24 ≡ a + ml) × (o + n ≤ ml)
 rom-fits rl ml a n o e = go (at rl ml a n) e
@@ -74,7 +77,16 @@ rom-fits rl ml a n o e = go (at rl ml a n) e
     go : {p : Place} → At rl ml a n p → p ≡ Rom o → (o + 2 ^ 24 ≡ a + ml) × (o + n ≤ ml)
     go (in-ram h) f = let z : _≡_ {A = ℕ} 0 1 = cc in absurd (omega arith)
     go (in-rom h i j) f = let g : a + ml - 2 ^ 24 ≡ o = cc in (omega arith, omega arith)
-    go nowhere f = let z : _≡_ {A = ℕ} 0 1 = cc in absurd (omega arith)
+    go (nowhere h i) f = let z : _≡_ {A = ℕ} 0 1 = cc in absurd (omega arith)
+
+pub missing-says :
+    (rl ml a n x : ℕ) → placeOf rl ml a n ≡ Missing x → (rl < a + n) × (2 ^ 24 ≤ a + ml → 2 ^ 24 < a + n) × (x ≡ pastEnd rl ml a)
+missing-says rl ml a n x e = go (at rl ml a n) e
+  where
+    go : {p : Place} → At rl ml a n p → p ≡ Missing x → (rl < a + n) × (2 ^ 24 ≤ a + ml → 2 ^ 24 < a + n) × (x ≡ pastEnd rl ml a)
+    go (in-ram h) f = let z : _≡_ {A = ℕ} 0 1 = cc in absurd (omega arith)
+    go (in-rom h i j) f = let z : _≡_ {A = ℕ} 0 1 = cc in absurd (omega arith)
+    go (nowhere h i) f = let g : missingOf rl ml a n ≡ x = cc in (h, i, sym g ∙ missing-past rl ml a n h i)
 
 -- ---- parts
 -- a part to the end is what is left after dropping
@@ -115,7 +127,7 @@ module _ (ram rom : List ℕ) (a : ℕ) (z : Size) (v : ℕ) where
       go : {p : Place} → At (length ram) (length rom) a (bytesOf z) p → length (ramWith p ram (bytesOf z) v) ≡ length ram
       go (in-ram h) = replaced-length a (bytesFrom (bytesOf z) v) ram (replaces (bytesOf z) h)
       go (in-rom h i j) = refl
-      go nowhere = refl
+      go (nowhere x y) = refl
 
   -- every byte below the address, and from the end of the operand on
   pub after-below : (i : ℕ) → i < a → getD (ramAfter ram rom a z v) i 0 ≡ getD ram i 0
@@ -125,7 +137,7 @@ module _ (ram rom : List ℕ) (a : ℕ) (z : Size) (v : ℕ) where
       go : {p : Place} → At (length ram) (length rom) a (bytesOf z) p → getD (ramWith p ram (bytesOf z) v) i 0 ≡ getD ram i 0
       go (in-ram h) = replaced-below a (bytesFrom (bytesOf z) v) ram (replaces (bytesOf z) h) i k
       go (in-rom h x y) = refl
-      go nowhere = refl
+      go (nowhere x y) = refl
 
   pub after-above : (i : ℕ) → a + bytesOf z ≤ i → getD (ramAfter ram rom a z v) i 0 ≡ getD ram i 0
   unfolding ramAfter
@@ -134,7 +146,7 @@ module _ (ram rom : List ℕ) (a : ℕ) (z : Size) (v : ℕ) where
       go : {p : Place} → At (length ram) (length rom) a (bytesOf z) p → getD (ramWith p ram (bytesOf z) v) i 0 ≡ getD ram i 0
       go (in-ram h) = replaced-above a (bytesFrom (bytesOf z) v) ram (replaces (bytesOf z) h) i (rw length-bytes k)
       go (in-rom h x y) = refl
-      go nowhere = refl
+      go (nowhere x y) = refl
 
 -- a refused store leaves RAM as it was
 pub refused-keeps :
@@ -142,7 +154,7 @@ pub refused-keeps :
 unfolding ramAfter storeOf
 refused-keeps ram rom a z v w e = go (operandAt ram rom a z) e
   where
-    go : (p : Place) → storeTo p ≡ answer.Refused w → ramWith p ram (bytesOf z) v ≡ ram
+    go : (p : Place) → storeTo p a ≡ answer.Refused w → ramWith p ram (bytesOf z) v ≡ ram
     go (Ram o) f = let k : _≡_ {A = ℕ} 0 1 = cc in absurd (omega arith)
     go (Rom o) f = refl
-    go Missing f = refl
+    go (Missing x) f = refl

@@ -16,27 +16,27 @@ operandAt ram rom a size = placeOf (length ram) (length rom) a (bytesOf size)
 abbrev pub loadFrom : Place → List ℕ → List ℕ → ℕ → Loaded
 loadFrom (Ram o) ram rom n = loaded.Value (valueOf (take n (drop o ram)))
 loadFrom (Rom o) ram rom n = loaded.Value (valueOf (take n (drop o rom)))
-loadFrom Missing ram rom n = loaded.Refused why.Missing
+loadFrom (Missing x) ram rom n = loaded.Missing x
 
--- a load from two memories: an operand of a size at address a, or 5 where it is missing
+-- a load from two memories: an operand of a size at address a, or the address of its missing byte
 unfoldable pub loadOf : List ℕ → List ℕ → ℕ → Size → Loaded
 loadOf ram rom a size = loadFrom (operandAt ram rom a size) ram rom (bytesOf size)
 
--- whether a store at a place is done
-abbrev pub storeTo : Place → Answer
-storeTo (Ram o) = answer.Done
-storeTo (Rom o) = answer.Refused why.ToRom
-storeTo Missing = answer.Refused why.Missing
+-- whether a store at a place is done; a is the address of its first byte
+abbrev pub storeTo : Place → ℕ → Answer
+storeTo (Ram o) a = answer.Done
+storeTo (Rom o) a = answer.Refused (why.ToRom a)
+storeTo (Missing x) a = answer.Refused (why.Missing x)
 
--- a store to two memories: done in RAM, 6 in ROM, 5 where it is missing
+-- a store to two memories: done in RAM, 6 and the first byte's address in ROM, 5 and the missing byte's elsewhere
 unfoldable pub storeOf : List ℕ → List ℕ → ℕ → Size → Answer
-storeOf ram rom a size = storeTo (operandAt ram rom a size)
+storeOf ram rom a size = storeTo (operandAt ram rom a size) a
 
 -- RAM after a store of n bytes of v at a place: those bytes are v's, low byte first, and nothing else changes
 abbrev pub ramWith : Place → List ℕ → ℕ → ℕ → List ℕ
 ramWith (Ram o) ram n v = replaced o (bytesFrom n v) ram
 ramWith (Rom o) ram n v = ram
-ramWith Missing ram n v = ram
+ramWith (Missing x) ram n v = ram
 
 -- the same by address and size
 unfoldable pub ramAfter : List ℕ → List ℕ → ℕ → Size → ℕ → List ℕ
@@ -46,7 +46,7 @@ ramAfter ram rom a size v = ramWith (operandAt ram rom a size) ram (bytesOf size
 abbrev pub codeFrom : Place → List ℕ → List ℕ → List ℕ
 codeFrom (Ram o) ram rom = drop o ram
 codeFrom (Rom o) ram rom = drop o rom
-codeFrom Missing ram rom = []
+codeFrom (Missing x) ram rom = []
 
 -- the same by address; empty where there is no memory
 unfoldable pub codeAt : List ℕ → List ℕ → ℕ → List ℕ
@@ -56,4 +56,4 @@ codeAt ram rom a = codeFrom (placeOf (length ram) (length rom) a 1) ram rom
 abbrev pub standsAt : Place → ℕ × ℕ → ℕ × ℕ → ℕ × ℕ
 standsAt (Ram o) ram rom = (ram .0, o + ram .1)
 standsAt (Rom o) ram rom = (rom .0, o + rom .1)
-standsAt Missing ram rom = rom
+standsAt (Missing x) ram rom = rom

@@ -3,18 +3,37 @@ ghost use mathlib.Core.Path.{_≡_};
 ghost use lib.ListN.{length};
 ghost use denote.Ref.{ptr};
 ghost use Rattle.memory.specs.Place.{placeOf};
+ghost use Rattle.memory.specs.inner.Ends.{pastEnd};
 ghost use Prim.Native.Nat.{_≤_};
 ghost use Rattle.memory.specs.Access.{loadFrom, loadOf, storeTo, storeOf, ramWith, ramAfter, codeAt, standsAt};
 use answer::Answer;
 use answer::Why;
+use little::ADDRESSES;
 use little::SPACE;
 use little::Size;
 
-// Where an operand lies, as an offset into its memory.
+// Where an operand lies, as an offset into its memory; or the address of the byte that is missing.
 pub enum Place {
     Ram(usize),
     Rom(usize),
-    Missing,
+    Missing(u32),
+}
+
+// The address past the end of the memory that holds an address; where none does, that address. ROM ends where addresses begin again.
+// Both remainders change nothing for what a step lets through: they keep the promise for every length and number.
+fn past_end(ram_len: usize, rom_len: usize, address: u32) -> u32
+    ensures { λ r. ⌜ r ≡ pastEnd «ram_len» «rom_len» address ⌝ }
+{
+    let at = address as usize;
+    if at < ram_len {
+        return (ram_len % SPACE) as u32;
+    }
+    if at < SPACE {
+        if SPACE - at <= rom_len {
+            return 0;
+        }
+    }
+    address % ADDRESSES
 }
 
 // The place of n bytes at an address, from the lengths of the two memories. No sum is made that could wrap.
@@ -35,12 +54,13 @@ pub fn find(ram_len: usize, rom_len: usize, address: u32, n: usize) -> Place
             }
         }
     }
-    Place::Missing
+    Place::Missing(past_end(ram_len, rom_len, address))
 }
 
+// The value of an operand, or the address of its missing byte: a load is refused with 5 or not at all.
 pub enum Loaded {
     Value(u32),
-    Refused(Why),
+    Missing(u32),
 }
 
 // The value of n bytes at an address.
@@ -57,7 +77,7 @@ fn load_bytes(ram: &[u8], rom: &[u8], address: u32, n: usize) -> Loaded
             let e = o + n;
             Loaded::Value(little::read(&rom[o..e]))
         }
-        Place::Missing => Loaded::Refused(Why::Missing),
+        Place::Missing(a) => Loaded::Missing(a),
     }
 }
 
@@ -74,7 +94,7 @@ pub fn load(ram: &[u8], rom: &[u8], address: u32, size: Size) -> Loaded
 
 // Stores the n low bytes of a value at an address: the part of RAM that they go to is lent to the writer.
 fn store_bytes(ram: &mut [u8], rom: &[u8], address: u32, n: usize, v: u32) -> Answer
-    ensures { λ r. ⌜ r ≡ storeTo (placeOf (length (now (ram .entry))) (length (now (rom .entry))) address n) ⌝ }
+    ensures { λ r. ⌜ r ≡ storeTo (placeOf (length (now (ram .entry))) (length (now (rom .entry))) address n) address ⌝ }
     ensures { λ _. ⌜ now (ram .exit) ≡ ramWith (placeOf (length (now (ram .entry))) (length (now (rom .entry))) address n) (now (ram .entry)) n v ⌝ }
 {
     match find(ram.len(), rom.len(), address, n) {
@@ -83,8 +103,8 @@ fn store_bytes(ram: &mut [u8], rom: &[u8], address: u32, n: usize, v: u32) -> An
             little::write(&mut ram[o..e], v);
             Answer::Done
         }
-        Place::Rom(_) => Answer::Refused(Why::ToRom),
-        Place::Missing => Answer::Refused(Why::Missing),
+        Place::Rom(_) => Answer::Refused(Why::ToRom(address)),
+        Place::Missing(a) => Answer::Refused(Why::Missing(a)),
     }
 }
 
@@ -108,6 +128,6 @@ pub fn fetch<'a>(ram: &'a [u8], rom: &'a [u8], address: u32) -> &'a [u8]
     match find(ram.len(), rom.len(), address, 1) {
         Place::Ram(o) => &ram[o..],
         Place::Rom(o) => &rom[o..],
-        Place::Missing => &rom[..0],
+        Place::Missing(_) => &rom[..0],
     }
 }

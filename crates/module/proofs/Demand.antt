@@ -8,7 +8,7 @@ use lib.Dec.{T}
 use Rattle.answer.specs.declared.Answer.{Answer}
 use Rattle.answer.specs.declared.Answer.the-variants.{Done, Refused}
 use Rattle.answer.specs.declared.Why.the-variants.{Missing}
-use Rattle.answer.specs.Number.{numberOf}
+use Rattle.answer.specs.Number.{numberOf, atOf}
 use Rattle.little.specs.Bytes.{bytesFrom}
 use Rattle.state.specs.State.{resetState, validOf, longOf, withLong, withCounter, withBothFlags, withFlags}
 use Rattle.state.specs.Register.{getBits, setBits, slotIn, setSlot, slotOf, registerAt, setRegister}
@@ -77,9 +77,9 @@ met-called x b is t m = (
 met-left :
     (x : Start) (b : List ℕ) → recordOf (x .state) ≡ b → T (fits (2 ^ 8) b) → StartMet x →
     (steps d : ℕ) (u : State) (l b' : List ℕ) (a : Answer) → runOf steps (x .state) (x .ram) (x .rom) ≡ ends d u l a → recordOf u ≡ b' →
-    CRunMeets steps b (x .ram) (x .rom) (numberOf a) b' l d
+    CRunMeets steps b (x .ram) (x .rom) (numberOf a) (atOf a) b' l d
 met-left x b is t m steps d u l b' a e f =
-    subst (λ (r : List ℕ). CRunMeets steps b (x .ram) (x .rom) (numberOf a) r l d) f
+    subst (λ (r : List ℕ). CRunMeets steps b (x .ram) (x .rom) (numberOf a) (atOf a) r l d) f
     (called (x .form) b (x .state) (x .ram) (x .rom) (held b (x .state) (holds (x .state) b is t (m .0 .sound) (m .0 .valid))) steps e)
 
 -- the searches for 33 and for 44, and the one that is refused
@@ -90,7 +90,7 @@ abbrev none-found : Start
 none-found = tells cpir (cpirStart ▹ A 0x44) [] atCount 3
 
 abbrev refused-one : Start
-refused-one = tells cpir (cpirStart ▹ A 0x44 & XIX 5 & BC 9) [] (atRefusal 2 Missing) 2
+refused-one = tells cpir (cpirStart ▹ A 0x44 & XIX 5 & BC 9) [] (atRefusal 2 (Missing 7)) 2
 
 searches : StartMet found × StartMet none-found × StartMet refused-one
 unfolding evidence
@@ -106,7 +106,7 @@ seek-called = (
   met-called none-found (seekRecord 0x44 3 4 0 0x00) refl tt (searches .1),
   met-left none-found (seekRecord 0x44 3 4 0 0x00) refl tt (searches .1) 3 3 _ _ _ Done (runs-hold .1 .1 .1 .1 .0) refl,
   met-called refused-one (seekRecord 0x44 9 5 0 0x00) refl tt (searches .2),
-  met-left refused-one (seekRecord 0x44 9 5 0 0x00) refl tt (searches .2) 9 2 _ _ _ (Refused Missing) (runs-hold .2 .1 .0) refl,
+  met-left refused-one (seekRecord 0x44 9 5 0 0x00) refl tt (searches .2) 9 2 _ _ _ (Refused (Missing 7)) (runs-hold .2 .1 .0) refl,
 )
 
 full-bytes : T (fits (2 ^ 8) (recordOf fullCopy))

@@ -11,7 +11,7 @@ use Rattle.answer.specs.declared.Answer.{Answer}
 use Rattle.answer.specs.declared.Answer.the-variants.{Done, Refused}
 use Rattle.answer.specs.declared.Why.{Why}
 use Rattle.answer.specs.declared.Why.the-variants.{TooMany, TooLong, Invalid}
-use Rattle.answer.specs.Number.{whyNumber, numberOf}
+use Rattle.answer.specs.Number.{whyNumber, numberOf, atOf}
 use Rattle.little.specs.declared.Size.the-variants.{Long}
 use Rattle.memory.specs.Access as access
 use Rattle.memory.specs.declared.Loaded.{Loaded}
@@ -42,7 +42,7 @@ reset-valid ram rom = go (tooLong (length ram) (length rom)) (access.loadOf ram 
     go : (b : Bool) (l : Loaded) → Valid (cond b (refusedWith zeroState TooLong) (resetFrom l) .state)
     go true l = valid-zero
     go false (loaded.Value v) = valid-reset v
-    go false (loaded.Refused w) = valid-zero
+    go false (loaded.Missing x) = valid-zero
 
 -- what every accepted step keeps, every step and every run keep
 module _ (P : State → Type 0) (kept : (s : State) (ram rom : List ℕ) (t : State) (m : List ℕ) → tryOf s ram rom ≡ did t m → P s → P t) where
@@ -149,47 +149,47 @@ module _ (b ram rom : List ℕ) (o : Restored) (is : o ≡ openedOf b (length ra
   opened-answer : {a : Answer} → o .answer ≡ a → openedOf b (length ram) (length rom) .answer ≡ a
   opened-answer e = ap (λ (x : Restored). x .answer) (sym is) ∙ e
 
-  pub step-stops : {n : ℕ} (w : Why) → o .answer ≡ Refused w → n ≡ whyNumber w → CStepMeets b ram rom n b ram
+  pub step-stops : {n x : ℕ} (w : Why) → o .answer ≡ Refused w → n ≡ numberOf (o .answer) → x ≡ atOf (o .answer) → CStepMeets b ram rom n x b ram
   unfolding stepLeft
-  step-stops w a e = rw (opened-answer a, e) refl
+  step-stops {n} {x} w a e f = subst (λ (y : ℕ). CStepMeets b ram rom n y b ram) (sym f) (rw (opened-answer a, e, a) refl)
 
   module _ (r : Ran) (m : List ℕ) (good : o .answer ≡ Done) (e : result r m ≡ runOf 1 (o .state) ram rom) where
     here : uncounted (result r m) ≡ stepOf (openedOf b (length ram) (length rom) .state) ram rom
     here = ap uncounted e ∙ one-step-run (o .state) ram rom ∙ ap (λ (x : Restored). stepOf (x .state) ram rom) is
 
-    pub step-no : {n : ℕ} (w : Why) → r .answer ≡ Refused w → n ≡ whyNumber w → CStepMeets b ram rom n b m
+    pub step-no : {n x : ℕ} (w : Why) → r .answer ≡ Refused w → n ≡ numberOf (r .answer) → x ≡ atOf (r .answer) → CStepMeets b ram rom n x b m
     unfolding stepLeft
-    step-no w a f = rw (opened-answer good, sym here, a, f) refl
+    step-no {n} {x} w a f g = subst (λ (y : ℕ). CStepMeets b ram rom n y b m) (sym g) (rw (opened-answer good, sym here, f, a) refl)
 
-    pub step-did : {n : ℕ} {x : Answer} {b' : List ℕ} → r .answer ≡ Done → x ≡ saveAnswer (r .state) (length b) → b' ≡ saveBytes (r .state) b →
-        n ≡ numberOf x → CStepMeets b ram rom n b' m
+    pub step-did : {n x : ℕ} {y : Answer} {b' : List ℕ} → r .answer ≡ Done → y ≡ saveAnswer (r .state) (length b) → b' ≡ saveBytes (r .state) b →
+        n ≡ numberOf y → x ≡ atOf y → CStepMeets b ram rom n x b' m
     unfolding stepLeft
-    step-did a f g h =
+    step-did {n} {x} {y} {b'} a f g h i =
         let v = opened-done b (length ram) (length rom) (opened-answer good) in
         let w : Valid (r .state) = subst (λ (x : Outcome). Valid (x .state)) (sym here) (step-valid _ ram rom (v .0)) in
         let k = saved-whole (r .state) b w (v .1) in
-        rw (opened-answer good, sym here, a, h, f, g, k .0, k .1) refl
+        subst (λ (z : ℕ). CStepMeets b ram rom n z b' m) (sym i) (rw (opened-answer good, sym here, a, h, f, g, k .0, k .1) refl)
 
 -- ---- many steps
 module _ (n : ℕ) (b ram rom : List ℕ) where
-  pub run-many : {k : ℕ} → 1000000 < n → k ≡ whyNumber TooMany → CRunMeets n b ram rom k b ram 0
+  pub run-many : {k x : ℕ} → 1000000 < n → k ≡ numberOf (Refused TooMany) → x ≡ atOf (Refused TooMany) → CRunMeets n b ram rom k x b ram 0
   unfolding runLeft runDone
-  run-many h e = (rw (lt-ltb 1000000 n h, e) refl, rw (lt-ltb 1000000 n h) refl)
+  run-many h e f = (rw (lt-ltb 1000000 n h, e, f) refl, rw (lt-ltb 1000000 n h) refl)
 
   module _ (few : n ≤ 1000000) (o : Restored) (is : o ≡ openedOf b (length ram) (length rom)) where
-    pub run-stops : {k : ℕ} (w : Why) → o .answer ≡ Refused w → k ≡ whyNumber w → CRunMeets n b ram rom k b ram 0
+    pub run-stops : {k x : ℕ} (w : Why) → o .answer ≡ Refused w → k ≡ numberOf (o .answer) → x ≡ atOf (o .answer) → CRunMeets n b ram rom k x b ram 0
     unfolding runLeft runDone
-    run-stops w a e =
+    run-stops w a e g =
         let f = opened-answer b ram rom o is a in
-        (rw (le-ltb 1000000 n few, f, e) refl, rw (le-ltb 1000000 n few, f) refl)
+        (rw (le-ltb 1000000 n few, f, e, g, a) refl, rw (le-ltb 1000000 n few, f) refl)
 
-    pub run-ran : {k : ℕ} {b' : List ℕ} (r : Ran) (m : List ℕ) → o .answer ≡ Done → result r m ≡ runOf n (o .state) ram rom → b' ≡ saveBytes (r .state) b →
-        k ≡ numberOf (r .answer) → CRunMeets n b ram rom k b' m (r .done)
+    pub run-ran : {k x : ℕ} {b' : List ℕ} (r : Ran) (m : List ℕ) → o .answer ≡ Done → result r m ≡ runOf n (o .state) ram rom → b' ≡ saveBytes (r .state) b →
+        k ≡ numberOf (r .answer) → x ≡ atOf (r .answer) → CRunMeets n b ram rom k x b' m (r .done)
     unfolding runLeft runDone
-    run-ran r m a e g h =
+    run-ran r m a e g h i =
         let f = opened-answer b ram rom o is a in
         let here : result r m ≡ runOf n (openedOf b (length ram) (length rom) .state) ram rom = e ∙ ap (λ (x : Restored). runOf n (x .state) ram rom) is in
         let v = opened-done b (length ram) (length rom) f in
         let w : Valid (r .state) = subst (λ (x : Result). Valid (x .state)) (sym here) (run-valid n _ ram rom (v .0)) in
         let s = saved-whole (r .state) b w (v .1) in
-        (rw (le-ltb 1000000 n few, f, sym here, h, g, s .1) refl, rw (le-ltb 1000000 n few, f, sym here) refl)
+        (rw (le-ltb 1000000 n few, f, sym here, h, i, g, s .1) refl, rw (le-ltb 1000000 n few, f, sym here) refl)

@@ -11,8 +11,8 @@ use borrow.Author.Tests.{le-ltb, ltb-true, ltb-false}
 use Rattle.answer.specs.declared.Answer.{Answer}
 use Rattle.answer.specs.declared.Answer.the-variants.{Done, Refused}
 use Rattle.answer.specs.declared.Why.{Why}
-use Rattle.answer.specs.declared.Why.the-variants.{TooMany, TooLong, Invalid, NoCode, Unlisted, Missing, ToRom}
-use Rattle.answer.specs.Number.{whyNumber, numberOf}
+use Rattle.answer.specs.declared.Why.the-variants.{TooMany, TooLong, Invalid}
+use Rattle.answer.specs.Number.{whyNumber, numberOf, atOf}
 use Rattle.little.specs.Bytes.{Bytes}
 use Rattle.state.specs.State.{validOf}
 use Rattle.state.specs.Sound.{Sound}
@@ -26,10 +26,11 @@ use Rattle.step.specs.Step.{tooLong, tryOf, stepOf}
 use Rattle.turn.specs.Many.{Result, ends}
 use Rattle.run.specs.Run.{runOf}
 use Rattle.run.proofs.Laws.{run-long, run-goes}
+use Rattle.facts.proofs.Statements.{some}
 use Rattle.turn.proofs.ManySteps.{many-none}
 use Rattle.run.proofs.Laws as run
 use Rattle.run.proofs.Joins.{Checks, pass, fail, checks, one-step-run, run-is-steps, runs-join, run-stops, count-is-true}
-use Rattle.module.specs.Calls.{Left, left, openedOf, unless, stepped, stepLeft, runOpened, ranLeft, whereDone, runLeft, runDone, CRunMeets}
+use Rattle.module.specs.Calls.{Left, leftBy, openedOf, unless, stepped, stepLeft, runOpened, ranLeft, whereDone, runLeft, runDone, CRunMeets}
 use Rattle.module.specs.Statements.{HasState, RunOnRecord, StepIsRun, RunCounts, JoinedRuns, RefusedAgain}
 use Rattle.module.specs.Demand.{CallLeaves}
 use Rattle.module.proofs.Laws.{run-sound, run-valid, run-many, opened-long, opened-loads}
@@ -78,14 +79,14 @@ run-here n b ram rom s few h = (rw (le-ltb 1000000 n few, h) refl, rw (le-ltb 10
 pub meets : (n : ℕ) (b ram rom : List ℕ) (s : State) → Opens b s → CallLeaves b ram rom n (runOf n s ram rom)
 meets n b ram rom s o = go (ltb 1000000 n) (tooLong (length ram) (length rom)) refl refl
   where
-    none : (w : Why) → CRunMeets n b ram rom (whyNumber w) b ram 0 → runOf n s ram rom ≡ ends 0 s ram (Refused w) → CallLeaves b ram rom n (runOf n s ram rom)
-    none w h e = subst (CallLeaves b ram rom n) (sym e) (subst (λ (x : List ℕ). CRunMeets n b ram rom (whyNumber w) x ram 0) (sym (o .back)) h)
+    none : (w : Why) → CRunMeets n b ram rom (numberOf (Refused w)) (atOf (Refused w)) b ram 0 → runOf n s ram rom ≡ ends 0 s ram (Refused w) → CallLeaves b ram rom n (runOf n s ram rom)
+    none w h e = subst (CallLeaves b ram rom n) (sym e) (subst (λ (x : List ℕ). CRunMeets n b ram rom (numberOf (Refused w)) (atOf (Refused w)) x ram 0) (sym (o .back)) h)
 
     go : (x y : Bool) → ltb 1000000 n ≡ x → tooLong (length ram) (length rom) ≡ y → CallLeaves b ram rom n (runOf n s ram rom)
-    go true y e f = let many = ltb-true 1000000 n e in none TooMany (run-many n b ram rom many refl) (run.run-many s ram rom n many)
+    go true y e f = let many = ltb-true 1000000 n e in none TooMany (run-many n b ram rom many refl refl) (run.run-many s ram rom n many)
     go false true e f =
         let few = ltb-false 1000000 n e in
-        none TooLong (call.run-stops n b ram rom few (refusedRecord TooLong) (sym (opened-long b _ _ f)) TooLong refl refl) (run-long s ram rom n few f)
+        none TooLong (call.run-stops n b ram rom few (refusedRecord TooLong) (sym (opened-long b _ _ f)) TooLong refl refl refl) (run-long s ram rom n few f)
     go false false e f = run-here n b ram rom s (ltb-false 1000000 n e) (opened-loads b _ _ f ∙ o .load)
 
 pub run-on-record : (b ram rom : List ℕ) → RunOnRecord b ram rom
@@ -94,7 +95,7 @@ run-on-record b ram rom n s h = let m = meets n b ram rom s (held b s h) in (sym
 -- ---- a step is a run of one
 -- a refused step leaves the record, and a refused run writes it again as itself
 abbrev outcomeLeft : Outcome → Left
-outcomeLeft o = left (numberOf (o .answer)) (recordOf (o .state)) (o .ram)
+outcomeLeft o = leftBy (o .answer) (recordOf (o .state)) (o .ram)
 
 stepped-run : (b ram rom : List ℕ) (s : State) → recordOf s ≡ b → stepped (stepOf s ram rom) b ≡ outcomeLeft (stepOf s ram rom)
 unfolding stepOf
@@ -102,7 +103,7 @@ stepped-run b ram rom s back = go (tryOf s ram rom)
   where
     go : (t : Try) → stepped (leaves s ram t) b ≡ outcomeLeft (leaves s ram t)
     go (did u m) = refl
-    go (no w) = ap (λ (l : List ℕ). left (whyNumber w) l ram) (sym back)
+    go (no w) = ap (λ (l : List ℕ). leftBy (Refused w) l ram) (sym back)
 
 step-here :
     (b ram rom : List ℕ) (s : State) → openedOf b (length ram) (length rom) ≡ record { answer = Done; state = s } →
@@ -115,8 +116,8 @@ step-is-run b ram rom h = go (tooLong (length ram) (length rom)) refl (opens b h
   where
     closed : (w : Why) → openedOf b (length ram) (length rom) ≡ refusedRecord w → stepLeft b ram rom ≡ runLeft 1 b ram rom
     closed w e =
-        sym (call.step-stops b ram rom (refusedRecord w) (sym e) w refl refl)
-        ∙ call.run-stops 1 b ram rom (omega arith) (refusedRecord w) (sym e) w refl refl .0
+        sym (call.step-stops b ram rom (refusedRecord w) (sym e) w refl refl refl)
+        ∙ call.run-stops 1 b ram rom (omega arith) (refusedRecord w) (sym e) w refl refl refl .0
 
     go : (x : Bool) → tooLong (length ram) (length rom) ≡ x → Opens b (stateAt b) ⊎ (restoredOf b ≡ refusedRecord Invalid) →
         stepLeft b ram rom ≡ runLeft 1 b ram rom
@@ -171,27 +172,21 @@ stays m s ram rom w pos few e =
 
 -- ---- a call on any record: refused at the start however many steps it is asked for, or a run from the state in it
 pub data Start (b ram rom : List ℕ) : Type 0 where
-  shut : (w : Why) → ((n : ℕ) → n ≤ 1000000 → CRunMeets n b ram rom (whyNumber w) b ram 0) → Start b ram rom
+  shut : (w : Why) → ((n : ℕ) → n ≤ 1000000 → CRunMeets n b ram rom (numberOf (Refused w)) (atOf (Refused w)) b ram 0) → Start b ram rom
   starts : (s : State) → Opens b s → Start b ram rom
 
 pub start : (b ram rom : List ℕ) → Bytes b → Start b ram rom
 start b ram rom h = ⊎-elim (λ (o : Opens b (stateAt b)). starts (stateAt b) o) (λ f. go (tooLong (length ram) (length rom)) refl f) (opens b h)
   where
     closed : (w : Why) → openedOf b (length ram) (length rom) ≡ refusedRecord w → Start b ram rom
-    closed w e = shut w (λ n few. call.run-stops n b ram rom few (refusedRecord w) (sym e) w refl refl)
+    closed w e = shut w (λ n few. call.run-stops n b ram rom few (refusedRecord w) (sym e) w refl refl refl)
 
     go : (x : Bool) → tooLong (length ram) (length rom) ≡ x → restoredOf b ≡ refusedRecord Invalid → Start b ram rom
     go true e f = closed TooLong (opened-long b _ _ e)
     go false e f = closed Invalid (opened-loads b _ _ e ∙ f)
 
 not-zero : {A : Type 0} (w : Why) → whyNumber w ≡ 0 → A
-not-zero TooMany h = absurd (omega arith)
-not-zero TooLong h = absurd (omega arith)
-not-zero Invalid h = absurd (omega arith)
-not-zero NoCode h = absurd (omega arith)
-not-zero Unlisted h = absurd (omega arith)
-not-zero Missing h = absurd (omega arith)
-not-zero ToRom h = absurd (omega arith)
+not-zero w h = absurd (omega (arith, some w))
 
 done-by : (a : Answer) → numberOf a ≡ 0 → a ≡ Done
 done-by Done h = refl
@@ -217,7 +212,7 @@ nextDone m l rom = runDone m (l .bytes) (l .ram) rom
 module _ (n m : ℕ) (b ram rom : List ℕ) (few : n ≤ 1000000) where
   -- where the first did not start, the second does not
   second-shut :
-      (w : Why) → ((k : ℕ) → k ≤ 1000000 → CRunMeets k b ram rom (whyNumber w) b ram 0) → m ≤ 1000000 →
+      (w : Why) → ((k : ℕ) → k ≤ 1000000 → CRunMeets k b ram rom (numberOf (Refused w)) (atOf (Refused w)) b ram 0) → m ≤ 1000000 →
       (nextLeft m (runLeft n b ram rom) rom ≡ runLeft n b ram rom) × (nextDone m (runLeft n b ram rom) rom ≡ 0) × (runDone n b ram rom ≡ 0)
   second-shut w f less =
       let p = f n few in

@@ -9,28 +9,55 @@ use lib.Dec.{ltb}
 use borrow.Author.Tests.{ltb-true, ltb-false}
 use Rattle.answer.specs.declared.Answer.{Answer}
 use Rattle.answer.specs.declared.Answer.the-variants.{Done, Refused}
+use Rattle.answer.specs.declared.Why.the-variants.{TooMany, TooLong, Invalid, NoCode, Unlisted, Missing, ToRom}
+use Rattle.answer.specs.Number.{numberOf, atOf}
 use Rattle.state.specs.declared.State.{State}
 use Rattle.saved.specs.Record.{recordOf}
-use Rattle.operand.specs.Try.{Try, did, no, leaves}
+use Rattle.operand.specs.Try.{Try, did, no, Outcome, leaves}
 use Rattle.step.specs.Step.{tryOf, stepOf}
 use Rattle.turn.specs.Many.{Result}
 use Rattle.run.specs.Run.{runOf}
 use Rattle.run.proofs.Joins.{Began, none, first, began, run-zero}
-use Rattle.module.specs.Calls.{Left, openedOf, unless, stepped, stepLeft, runLeft, CRunMeets}
-use Rattle.module.specs.Statements.{Settled, StepRefusedKeeps, RunNothingKeeps}
+use Rattle.module.specs.Calls.{Left, openedOf, unless, stepped, stepLeft, runOpened, runLeft, CRunMeets}
+use Rattle.module.specs.Statements.{Settled, AtZero, ElseZero, StepRefusedKeeps, RunNothingKeeps}
 use Rattle.module.proofs.Laws.{run-many}
 use Rattle.module.proofs.Records.{Start, shut, starts, start, meets}
 
 pub settled : (b ram rom : List ℕ) → Settled b ram rom
 settled bytes ram rom = (
   λ n n' b b' e f. (e .0 ∙ sym (f .0), e .1 ∙ sym (f .1)),
-  λ n n' b b' m m' e f.
+  λ n n' a a' b b' m m' e f.
       let g = e ∙ sym f in
-      (ap (λ (l : Left). l .number) g, ap (λ (l : Left). l .bytes) g, ap (λ (l : Left). l .ram) g),
-  λ steps n n' b b' m m' d d' e f.
+      (ap (λ (l : Left). l .number) g, ap (λ (l : Left). l .at) g, ap (λ (l : Left). l .bytes) g, ap (λ (l : Left). l .ram) g),
+  λ steps n n' a a' b b' m m' d d' e f.
       let g = e .0 ∙ sym (f .0) in
-      (ap (λ (l : Left). l .number) g, ap (λ (l : Left). l .bytes) g, ap (λ (l : Left). l .ram) g, e .1 ∙ sym (f .1)),
+      (ap (λ (l : Left). l .number) g, ap (λ (l : Left). l .at) g, ap (λ (l : Left). l .bytes) g, ap (λ (l : Left). l .ram) g, e .1 ∙ sym (f .1)),
 )
+
+-- an answer that is neither 5 nor 6 has no address
+none-at : (a : Answer) → (numberOf a ≡ 5 → ⊥) → (numberOf a ≡ 6 → ⊥) → atOf a ≡ 0
+none-at Done f s = refl
+none-at (Refused TooMany) f s = refl
+none-at (Refused TooLong) f s = refl
+none-at (Refused Invalid) f s = refl
+none-at (Refused NoCode) f s = refl
+none-at (Refused Unlisted) f s = refl
+none-at (Refused (Missing x)) f s = absurd (f refl)
+none-at (Refused (ToRom x)) f s = absurd (s refl)
+
+pub else-zero : (b ram rom : List ℕ) → ElseZero b ram rom
+unfolding stepLeft runLeft
+else-zero bytes ram rom = (
+  (let o = openedOf bytes (length ram) (length rom) in unless-at (o .answer) ram _ (stepped-at (stepOf (o .state) ram rom))),
+  λ n. let o = runOpened n bytes ram rom in unless-at (o .answer) ram _ (none-at (runOf n (o .state) ram rom .answer)),
+)
+  where
+    unless-at : (a : Answer) (m : List ℕ) (l : Left) → AtZero l → AtZero (unless a bytes m l)
+    unless-at (Refused w) m l h = none-at (Refused w)
+    unless-at Done m l h = h
+
+    stepped-at : (o : Outcome) → AtZero (stepped o bytes)
+    stepped-at o = unless-at (o .answer) (o .ram) _ (none-at Done)
 
 pub step-refused-keeps : (b ram rom : List ℕ) → StepRefusedKeeps b ram rom
 unfolding stepLeft stepOf
@@ -62,12 +89,12 @@ run-nothing-keeps b ram rom n ok h = go (start b ram rom ok) (ltb 1000000 n) ref
     Kept : Type 0
     Kept = (runLeft n b ram rom .bytes ≡ b) × (runLeft n b ram rom .ram ≡ ram)
 
-    left-so : (k d : ℕ) → CRunMeets n b ram rom k b ram d → Kept
-    left-so k d m = (sym (ap (λ (l : Left). l .bytes) (m .0)), sym (ap (λ (l : Left). l .ram) (m .0)))
+    left-so : (k x d : ℕ) → CRunMeets n b ram rom k x b ram d → Kept
+    left-so k x d m = (sym (ap (λ (l : Left). l .bytes) (m .0)), sym (ap (λ (l : Left). l .ram) (m .0)))
 
     go : Start b ram rom → (x : Bool) → ltb 1000000 n ≡ x → Kept
-    go t true e = left-so _ _ (run-many n b ram rom (ltb-true 1000000 n e) refl)
-    go (shut w f) false e = left-so _ _ (f n (ltb-false 1000000 n e))
+    go t true e = left-so _ _ _ (run-many n b ram rom (ltb-true 1000000 n e) refl refl)
+    go (shut w f) false e = left-so _ _ _ (f n (ltb-false 1000000 n e))
     go (starts s o) false e =
         let m = meets n b ram rom s o in
         let same = run-nothing n s ram rom (m .1 ∙ h) in

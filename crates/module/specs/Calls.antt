@@ -1,7 +1,7 @@
 -- What each call answers and leaves, over the bytes of a saved record.
 use Rattle.little.specs.Words.{ℕ, _≡_, List, cond, length, ltb, eqb}
-use Rattle.answer.specs.{declared.Answer.Answer, declared.Answer.the-variants.Done, declared.Answer.the-variants.Refused, Number.whyNumber}
-use Rattle.answer.specs.{Number.numberOf, Number.firstRefusal}
+use Rattle.answer.specs.{declared.Answer.Answer, declared.Answer.the-variants.Done, declared.Answer.the-variants.Refused}
+use Rattle.answer.specs.Number.{numberOf, atOf, firstRefusal}
 use Rattle.answer.specs.declared.Why.the-variants.{TooMany, TooLong, Invalid}
 use Rattle.saved.specs.Record.{recordLength, recordOf, refusedRecord, restoredOf}
 use Rattle.operand.specs.Try.{Outcome}
@@ -10,19 +10,24 @@ use Rattle.step.specs.{Step.tooLong, Step.stepOf, Reset.resetOf}
 use Rattle.run.specs.Run.{mostSteps, runOf}
 use Rattle.saved.specs.declared.Restored.{Restored}
 
--- what a call leaves: its number, the bytes of the record, and those of RAM
+-- what a call leaves: its number, the address in `at`, the bytes of the record, and those of RAM
 pub record Left : Type 0 where
   pub number : ℕ
+  pub at : ℕ
   pub bytes : List ℕ
   pub ram : List ℕ
 
--- these three together
-abbrev pub left : ℕ → List ℕ → List ℕ → Left
-left number bytes ram = record { number = number; bytes = bytes; ram = ram }
+-- these four together
+abbrev pub left : ℕ → ℕ → List ℕ → List ℕ → Left
+left number at bytes ram = record { number = number; at = at; bytes = bytes; ram = ram }
+
+-- the first two by the answer
+abbrev pub leftBy : Answer → List ℕ → List ℕ → Left
+leftBy a bytes ram = left (numberOf a) (atOf a) bytes ram
 
 -- where a call goes on it leaves this; a refusal leaves the record and RAM as they were
 abbrev pub unless : Answer → List ℕ → List ℕ → Left → Left
-unless (Refused w) bytes ram l = left (whyNumber w) bytes ram
+unless (Refused w) bytes ram l = leftBy (Refused w) bytes ram
 unless Done bytes ram l = l
 
 -- this where it is done, else the other
@@ -46,7 +51,7 @@ openedOf bytes ramLength romLength = cond (tooLong ramLength romLength) (refused
 
 -- the record of the state after it
 abbrev pub stepped : Outcome → List ℕ → Left
-stepped o bytes = unless (o .answer) bytes (o .ram) (left 0 (recordOf (o .state)) (o .ram))
+stepped o bytes = unless (o .answer) bytes (o .ram) (leftBy Done (recordOf (o .state)) (o .ram))
 
 -- what one step leaves
 unfoldable pub stepLeft : List ℕ → List ℕ → List ℕ → Left
@@ -61,7 +66,7 @@ runOpened n bytes ram rom = cond (ltb mostSteps n) (refusedRecord TooMany) (open
 
 -- what a run leaves, with the record of the state so far, whether all steps were done or not
 abbrev pub ranLeft : Result → Left
-ranLeft r = left (numberOf (r .answer)) (recordOf (r .state)) (r .ram)
+ranLeft r = leftBy (r .answer) (recordOf (r .state)) (r .ram)
 
 -- what many steps leave
 unfoldable pub runLeft : ℕ → List ℕ → List ℕ → List ℕ → Left
@@ -77,11 +82,11 @@ abbrev pub CResetMeets : List ℕ → List ℕ → List ℕ → ℕ → List ℕ
 CResetMeets bytes ram rom number b =
     (number ≡ numberOf (resetAnswer (length bytes) ram rom)) × (b ≡ resetBytes bytes ram rom)
 
--- step: number, record b and RAM m afterwards
-abbrev pub CStepMeets : List ℕ → List ℕ → List ℕ → ℕ → List ℕ → List ℕ → Type 0
-CStepMeets bytes ram rom number b m = left number b m ≡ stepLeft bytes ram rom
+-- step: number, the address in `at`, record b and RAM m afterwards
+abbrev pub CStepMeets : List ℕ → List ℕ → List ℕ → ℕ → ℕ → List ℕ → List ℕ → Type 0
+CStepMeets bytes ram rom number at b m = left number at b m ≡ stepLeft bytes ram rom
 
 -- run: the same, and the count of steps done
-abbrev pub CRunMeets : ℕ → List ℕ → List ℕ → List ℕ → ℕ → List ℕ → List ℕ → ℕ → Type 0
-CRunMeets steps bytes ram rom number b m done =
-    (left number b m ≡ runLeft steps bytes ram rom) × (done ≡ runDone steps bytes ram rom)
+abbrev pub CRunMeets : ℕ → List ℕ → List ℕ → List ℕ → ℕ → ℕ → List ℕ → List ℕ → ℕ → Type 0
+CRunMeets steps bytes ram rom number at b m done =
+    (left number at b m ≡ runLeft steps bytes ram rom) × (done ≡ runDone steps bytes ram rom)

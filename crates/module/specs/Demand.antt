@@ -1,7 +1,7 @@
 -- Demand 3 as C sees it: tlcs900h_run, which promises CRunMeets, on a record whose state is at a repeating copy or compare.
 -- Proved in proofs/Demand.antt.
 use Rattle.little.specs.Words.{ℕ, _-_, List, [], _∷_, _++_, replicate}
-use Rattle.answer.specs.{declared.Why.the-variants.Missing, Number.numberOf}
+use Rattle.answer.specs.{declared.Why.the-variants.Missing, Number.numberOf, Number.atOf}
 use Rattle.state.specs.declared.State.{State}
 use Rattle.code.specs.declared.Form.{Form}
 use Rattle.saved.specs.Record.{recordLength, recordOf}
@@ -13,7 +13,7 @@ use Rattle.module.specs.{Calls.CRunMeets, Statements.HasState}
 
 -- a call of so many steps on a record leaves what this result leaves, with the record of its state
 abbrev pub CallLeaves : List ℕ → List ℕ → List ℕ → ℕ → Result → Type 0
-CallLeaves bytes ram rom steps r = CRunMeets steps bytes ram rom (numberOf (r .answer)) (recordOf (r .state)) (r .ram) (r .done)
+CallLeaves bytes ram rom steps r = CRunMeets steps bytes ram rom (numberOf (r .answer)) (atOf (r .answer)) (recordOf (r .state)) (r .ram) (r .done)
 
 module _ (f : Form) (bytes : List ℕ) (s : State) (ram rom : List ℕ) where
   -- all that is supposed: the record holds a state at such an instruction, the start tells this ending
@@ -38,13 +38,13 @@ SeekCalled =
     let ram = cpirStart .ram in
     -- 33 is the third element: after three steps XIX is past it
     CallMet cpir (seekRecord 0x33 3 4 0 0x00) ((cpirStart ▹ A 0x33) .state) ram [] (atEqual 2)
-    × CRunMeets 3 (seekRecord 0x33 3 4 0 0x00) ram [] 0 (seekRecord 0x33 0 7 2 0x42) ram 3
+    × CRunMeets 3 (seekRecord 0x33 3 4 0 0x00) ram [] 0 0 (seekRecord 0x33 0 7 2 0x42) ram 3
     -- 44 is none of the three
     × CallMet cpir (seekRecord 0x44 3 4 0 0x00) ((cpirStart ▹ A 0x44) .state) ram [] atCount
-    × CRunMeets 3 (seekRecord 0x44 3 4 0 0x00) ram [] 0 (seekRecord 0x44 0 7 2 0x02) ram 3
-    -- from 5 on the third element is missing: nine steps answer 5 after two
-    × CallMet cpir (seekRecord 0x44 9 5 0 0x00) ((cpirStart ▹ A 0x44 & XIX 5 & BC 9) .state) ram [] (atRefusal 2 Missing)
-    × CRunMeets 9 (seekRecord 0x44 9 5 0 0x00) ram [] 5 (seekRecord 0x44 7 7 0 0x06) ram 2
+    × CRunMeets 3 (seekRecord 0x44 3 4 0 0x00) ram [] 0 0 (seekRecord 0x44 0 7 2 0x02) ram 3
+    -- from 5 on the third element is missing, which is at 7: nine steps answer 5 and 7 after two
+    × CallMet cpir (seekRecord 0x44 9 5 0 0x00) ((cpirStart ▹ A 0x44 & XIX 5 & BC 9) .state) ram [] (atRefusal 2 (Missing 7))
+    × CRunMeets 9 (seekRecord 0x44 9 5 0 0x00) ram [] 5 7 (seekRecord 0x44 7 7 0 0x06) ram 2
 
 -- BC 0: one call does all 65,536 rounds, from the whole of ROM to the whole of RAM
 abbrev pub FullCalled : Type 0

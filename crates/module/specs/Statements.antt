@@ -5,11 +5,15 @@ use Rattle.little.specs.Bytes.{Bytes}
 use Rattle.state.specs.declared.State.{State}
 use Rattle.saved.specs.Record.{restoredOf}
 use Rattle.run.specs.Run.{mostSteps, runOf}
-use Rattle.module.specs.Calls.{stepLeft, ranLeft, runLeft, runDone, CResetMeets, CStepMeets, CRunMeets}
+use Rattle.module.specs.Calls.{Left, stepLeft, ranLeft, runLeft, runDone, CResetMeets, CStepMeets, CRunMeets}
 
 -- a record of bytes that is opened, and the state in it
 abbrev pub HasState : List ℕ → State → Type 0
 HasState bytes s = Bytes bytes × (restoredOf bytes ≡ record { answer = Done; state = s })
+
+-- `at` holds 0 where the number is neither 5 nor 6
+abbrev pub AtZero : Left → Type 0
+AtZero l = (l .number ≡ 5 → ⊥) → (l .number ≡ 6 → ⊥) → l .at ≡ 0
 
 -- all below is of any bytes in the place of a record, and of any RAM and ROM
 module _ (bytes ram rom : List ℕ) where
@@ -17,10 +21,15 @@ module _ (bytes ram rom : List ℕ) where
   abbrev pub Settled : Type 0
   Settled =
       ((n n' : ℕ) (b b' : List ℕ) → CResetMeets bytes ram rom n b → CResetMeets bytes ram rom n' b' → (n ≡ n') × (b ≡ b'))
-      × ((n n' : ℕ) (b b' m m' : List ℕ) →
-      CStepMeets bytes ram rom n b m → CStepMeets bytes ram rom n' b' m' → (n ≡ n') × (b ≡ b') × (m ≡ m'))
-      × ((steps n n' : ℕ) (b b' m m' : List ℕ) (d d' : ℕ) →
-      CRunMeets steps bytes ram rom n b m d → CRunMeets steps bytes ram rom n' b' m' d' → (n ≡ n') × (b ≡ b') × (m ≡ m') × (d ≡ d'))
+      × ((n n' a a' : ℕ) (b b' m m' : List ℕ) →
+      CStepMeets bytes ram rom n a b m → CStepMeets bytes ram rom n' a' b' m' → (n ≡ n') × (a ≡ a') × (b ≡ b') × (m ≡ m'))
+      × ((steps n n' a a' : ℕ) (b b' m m' : List ℕ) (d d' : ℕ) →
+      CRunMeets steps bytes ram rom n a b m d → CRunMeets steps bytes ram rom n' a' b' m' d' →
+      (n ≡ n') × (a ≡ a') × (b ≡ b') × (m ≡ m') × (d ≡ d'))
+
+  -- after every step and every run `at` holds 0 but with 5 and 6
+  abbrev pub ElseZero : Type 0
+  ElseZero = AtZero (stepLeft bytes ram rom) × ((n : ℕ) → AtZero (runLeft n bytes ram rom))
 
   -- a step that is not done leaves the record and RAM as they were
   abbrev pub StepRefusedKeeps : Type 0
@@ -45,7 +54,7 @@ module _ (bytes ram rom : List ℕ) where
   abbrev pub RunCounts : Type 0
   RunCounts = (n : ℕ) → runLeft n bytes ram rom .number ≡ 0 → runDone n bytes ram rom ≡ n
 
-  -- two runs in a row are one, which gives the number, record and RAM of the second, and the counts add.
+  -- two runs in a row are one, which gives the number, address, record and RAM of the second, and the counts add.
   -- A run of no step after a refused one is left out: it has no step to refuse
   abbrev pub JoinedRuns : Type 0
   JoinedRuns =
@@ -53,7 +62,7 @@ module _ (bytes ram rom : List ℕ) where
       (runLeft (n + m) bytes ram rom ≡ runLeft m (l .bytes) (l .ram) rom)
       × (runDone (n + m) bytes ram rom ≡ runDone n bytes ram rom + runDone m (l .bytes) (l .ram) rom)
 
-  -- a refused run is refused again: a run of a step or more from what it left gives the same number, does none and changes nothing
+  -- a refused run is refused again: a run of a step or more from what it left gives the same number and address, does none and changes nothing
   abbrev pub RefusedAgain : Type 0
   RefusedAgain =
       (n m : ℕ) → let l = runLeft n bytes ram rom in Bytes bytes → n ≤ mostSteps → (l .number ≡ 0 → ⊥) → 0 < m → m ≤ mostSteps →

@@ -1,5 +1,6 @@
-// What C and Rust call. A state crosses as its saved record, an answer as its number, and nothing is kept between calls.
+// What C and Rust call. A state crosses as its saved record, an answer as its number and address, and nothing is kept between calls.
 ghost use mathlib.Core.Path.{_≡_};
+ghost use Rattle.answer.specs.Number.{numberOf, atOf};
 ghost use Rattle.module.specs.Calls.{openedOf, CResetMeets, CStepMeets, CRunMeets};
 use answer::Answer;
 use answer::Why;
@@ -19,6 +20,15 @@ fn opened(bytes: &[u8], ram_len: usize, rom_len: usize) -> Restored
     saved::load(bytes)
 }
 
+// The number of an answer; `at` gets the address that goes with it, 0 where there is none.
+fn told(a: Answer, at: &mut u32) -> u8
+    ensures { λ r. ⌜ r ≡ numberOf a ⌝ }
+    ensures { λ _. ⌜ now (at .exit) ≡ atOf a ⌝ }
+{
+    *at = answer::at(a);
+    answer::number(a)
+}
+
 // Writes the record of the reset state.
 #[no_mangle]
 pub extern "C" fn tlcs900h_reset(bytes: &mut [u8], ram: &[u8], rom: &[u8]) -> u8
@@ -34,23 +44,24 @@ pub extern "C" fn tlcs900h_reset(bytes: &mut [u8], ram: &[u8], rom: &[u8]) -> u8
 
 // One step of the state that the record holds, by a run of one. A refusal leaves the record and RAM as they were.
 #[no_mangle]
-pub extern "C" fn tlcs900h_step(bytes: &mut [u8], ram: &mut [u8], rom: &[u8]) -> u8
-    ensures { λ r. ⌜ CStepMeets (now (bytes .entry)) (now (ram .entry)) (now (rom .entry)) r (now (bytes .exit)) (now (ram .exit)) ⌝ }
+pub extern "C" fn tlcs900h_step(bytes: &mut [u8], ram: &mut [u8], rom: &[u8], at: &mut u32) -> u8
+    ensures { λ r. ⌜ CStepMeets (now (bytes .entry)) (now (ram .entry)) (now (rom .entry))
+        r (now (at .exit)) (now (bytes .exit)) (now (ram .exit)) ⌝ }
 {
     let o = opened(&*bytes, ram.len(), rom.len());
     let a = o.answer;
-    if let Answer::Refused(w) = a {
-        return answer::why_number(w);
+    if let Answer::Refused(_) = a {
+        return told(a, at);
     }
     let r = run::run(o.state, ram, rom, 1);
     let b = r.answer;
-    if let Answer::Refused(w) = b {
-        return answer::why_number(w);
+    if let Answer::Refused(_) = b {
+        return told(b, at);
     }
-    answer::number(saved::save(r.state, bytes))
+    told(saved::save(r.state, bytes), at)
 }
 
-// Up to a million steps. Where a step is refused, the record, RAM and `done` say what was done before it.
+// Up to a million steps. Where a step is refused, the record, RAM and `done` say what was done before it, and `at` the byte that it lacked or could not store.
 #[no_mangle]
 pub extern "C" fn tlcs900h_run(
     bytes: &mut [u8],
@@ -58,21 +69,23 @@ pub extern "C" fn tlcs900h_run(
     rom: &[u8],
     steps: u32,
     done: &mut u32,
+    at: &mut u32,
 ) -> u8
-    ensures { λ r. ⌜ CRunMeets steps (now (bytes .entry)) (now (ram .entry)) (now (rom .entry)) r (now (bytes .exit)) (now (ram .exit)) (now (done .exit)) ⌝ }
+    ensures { λ r. ⌜ CRunMeets steps (now (bytes .entry)) (now (ram .entry)) (now (rom .entry))
+        r (now (at .exit)) (now (bytes .exit)) (now (ram .exit)) (now (done .exit)) ⌝ }
 {
     *done = 0;
     if run::MOST_STEPS < steps {
-        return answer::why_number(Why::TooMany);
+        return told(Answer::Refused(Why::TooMany), at);
     }
     let o = opened(&*bytes, ram.len(), rom.len());
     let a = o.answer;
-    if let Answer::Refused(w) = a {
-        return answer::why_number(w);
+    if let Answer::Refused(_) = a {
+        return told(a, at);
     }
     let r = run::run(o.state, ram, rom, steps);
     *done = r.done;
     let b = r.answer;
     saved::save(r.state, bytes);
-    answer::number(b)
+    told(b, at)
 }

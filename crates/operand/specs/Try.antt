@@ -1,6 +1,6 @@
 -- A step that is tried, and what a call leaves.
 use Rattle.little.specs.Words.{ℕ, List}
-use Rattle.answer.specs.declared.{Why.Why, Answer.Answer, Answer.the-variants.Done, Answer.the-variants.Refused}
+use Rattle.answer.specs.declared.{Why.Why, Why.the-variants.Missing, Answer.Answer, Answer.the-variants.Done, Answer.the-variants.Refused}
 use Rattle.memory.specs.declared.Loaded.{Loaded}
 use Rattle.state.specs.declared.State.{State}
 use Rattle.memory.specs.declared.Loaded.the-variants as loaded
@@ -30,7 +30,7 @@ abbrev pub andThen : Try → (State → State) → Try
 andThen (did s ram) f = did (f s) ram
 andThen (no w) f = no w
 
--- what is tried with a value that was loaded
+-- what is tried with a value that was loaded; 5 where it is missing
 abbrev pub withLoaded : Loaded → (ℕ → Try) → Try
 withLoaded (loaded.Value v) f = f v
-withLoaded (loaded.Refused w) f = no w
+withLoaded (loaded.Missing x) f = no (Missing x)

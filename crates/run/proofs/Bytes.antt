@@ -49,7 +49,7 @@ bytes-after ram rom a z v h = go (operandAt ram rom a z)
         bytes-append (take o ram) _ (bytes-take o ram h)
         (bytes-append (bytesFrom (bytesOf z) v) _ (bytes-from (bytesOf z) v) (bytes-drop (o + length (bytesFrom (bytesOf z) v)) ram h))
     go (Rom o) = h
-    go Missing = h
+    go (Missing x) = h
 
 pub bytes-code : (ram rom : List ℕ) (a : ℕ) → Bytes ram → Bytes rom → Bytes (codeAt ram rom a)
 unfolding codeAt
@@ -58,7 +58,7 @@ bytes-code ram rom a h k = go (placeOf (length ram) (length rom) a 1)
     go : (p : Place) → Bytes (codeFrom p ram rom)
     go (Ram o) = bytes-drop o ram h
     go (Rom o) = bytes-drop o rom k
-    go Missing = bytes-none
+    go (Missing x) = bytes-none
 
 -- a value that was loaded fits its size
 size-power : (z : Size) → 256 ^ bytesOf z ≡ 2 ^ bitsOf z
@@ -84,4 +84,4 @@ loaded-fits ram rom a z v h k e = go (operandAt ram rom a z) refl e
     go (Rom o) f g =
         let x : valueOf (take (bytesOf z) (drop o rom)) ≡ v = cc in
         rw (← x) (part-fits z o rom k (rom-fits (length ram) (length rom) a (bytesOf z) o f .1))
-    go Missing f g = let x : _≡_ {A = ℕ} 0 1 = cc in absurd (omega arith)
+    go (Missing y) f g = let x : _≡_ {A = ℕ} 0 1 = cc in absurd (omega arith)

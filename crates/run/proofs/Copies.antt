@@ -1,7 +1,7 @@
 -- What a copy upwards leaves in memory, as specs/Search.antt states it.
 use Prim.Native.Nat.{ℕ, zero, suc, _+_, _-_, _*_, _%_, _^_, _<_, _≤_}
 use mathlib.Core.Path.{_≡_, refl, ap, sym, _∙_, subst}
-use mathlib.Core.Logic.{_⊎_, inl, inr, ⊎-elim, _≢_}
+use mathlib.Core.Logic.{_⊎_, inl, inr, ⊎-elim}
 use mathlib.Core.List.{List, [], _∷_, _++_, append-assoc}
 use mathlib.Core.Bool.{Bool, true, cond}
 use native.Mathlib.Omega.{arith}
@@ -16,7 +16,8 @@ use Rattle.little.specs.Bytes.{Bytes, valueOf, bytesFrom, replaced}
 use Rattle.little.proofs.Laws.{bytes-value, replaced-length, replaced-take, replaced-drop, replaced-part}
 use Rattle.memory.specs.Access.{loadOf, storeOf, ramAfter}
 use Rattle.memory.specs.declared.Place.{Place}
-use Rattle.memory.specs.declared.Place.the-variants.{Ram, Missing}
+use Rattle.memory.specs.Place.{Present}
+use Rattle.memory.specs.declared.Place.the-variants.{Ram}
 use Rattle.memory.specs.declared.Loaded.the-variants.{Value}
 use Rattle.memory.proofs.Laws.{place-ram}
 use Rattle.state.specs.Register.{getRegister}
@@ -336,8 +337,8 @@ module _ (f : Form) (s : State) (ram rom : List ℕ) (a : At f s ram rom) (copie
       let t = to .inRam in
       up-at f (getRegister s Long (f .to)) i up (omega (arith, e, l, t))
 
-  not-missing : {p : Place} {o : ℕ} → p ≡ Ram o → p ≢ Missing
-  not-missing e h = let z : _≡_ {A = ℕ} 0 1 = cc in omega arith
+  not-missing : {p : Place} {o : ℕ} → p ≡ Ram o → Present p
+  not-missing e x h = let z : _≡_ {A = ℕ} 0 1 = cc in omega arith
 
   all-done : (t : State) × (m : List ℕ) × (roundsOf (countOf s) f s ram rom ≡ did t m) × (runOf (countOf s) s ram rom .ram ≡ m)
   all-done =

@@ -1,14 +1,14 @@
 -- The endings of a repeating copy or compare, from what is supposed of its rounds.
 use Prim.Native.Nat.{ℕ, suc, _+_, _-_, _<_, _≤_}
 use mathlib.Core.Path.{_≡_, ap, sym, _∙_, subst}
-use mathlib.Core.Logic.{_⊎_, inl, _≢_}
+use mathlib.Core.Logic.{_⊎_, inl}
 use mathlib.Core.List.{List}
 use mathlib.Core.Bool.{true, false}
 use native.Mathlib.Omega.{arith}
 use native.Mathlib.Nat.{zero-add, add-zero}
 use Rattle.answer.specs.declared.Answer.the-variants.{Done}
 use Rattle.answer.specs.declared.Why.{Why}
-use Rattle.memory.specs.declared.Place.the-variants.{Missing}
+use Rattle.memory.specs.Place.{Present}
 use Rattle.state.specs.declared.State.{State}
 use Rattle.code.specs.declared.Form.{Form}
 use Rattle.exec.specs.Exec.{pastOf}
@@ -20,7 +20,7 @@ use Rattle.run.proofs.Counts.{count-some}
 use Rattle.run.proofs.Repeats.{Clear, NoneEqual, repeat-on, repeat-ends, repeat-refused, refused-at, run-at}
 
 -- a compare writes nothing
-pub compare-clear : (n : ℕ) (f : Form) (s : State) (ram rom : List ℕ) → f .copies ≡ false → ((i : ℕ) → i < n → elementPlace f s ram rom i ≢ Missing) →
+pub compare-clear : (n : ℕ) (f : Form) (s : State) (ram rom : List ℕ) → f .copies ≡ false → ((i : ℕ) → i < n → Present (elementPlace f s ram rom i)) →
     Clear n f s ram rom
 compare-clear n f s ram rom c there =
     record {

@@ -14,6 +14,7 @@ use Rattle.answer.specs.declared.Why.the-variants as why
 use Rattle.little.specs.Width.{bytesOf}
 use Rattle.memory.specs.Access.{loadOf}
 use Rattle.memory.specs.declared.Place.{Place}
+use Rattle.memory.specs.Place.{Present}
 use Rattle.memory.specs.declared.Place.the-variants.{Ram, Rom, Missing}
 use Rattle.memory.specs.declared.Loaded.the-variants.{Value}
 use Rattle.memory.proofs.Laws.{place-ram, ram-fits}
@@ -38,7 +39,7 @@ module _ (f : Form) (s : State) (ram rom : List ℕ) where
   -- ---- the round of element i, by the start alone: nothing ends it there
   abbrev Fine : ℕ → Type 0
   Fine i =
-      (elementPlace f s ram rom i ≢ Missing)
+      Present (elementPlace f s ram rom i)
       × (f .copies ≡ true → targetOf f s i + bytesOf (f .size) ≤ length ram)
       × (EqualAt f s ram rom i → ⊥)
 
@@ -49,17 +50,17 @@ module _ (f : Form) (s : State) (ram rom : List ℕ) where
     refused : (w : Why) → RefusedAt f s ram rom i w → Met i
 
   -- a copy's, by its target
-  met-target : (i : ℕ) → f .copies ≡ true → elementPlace f s ram rom i ≢ Missing → (p : Place) → targetPlace f s ram rom i ≡ p → Met i
+  met-target : (i : ℕ) → f .copies ≡ true → Present (elementPlace f s ram rom i) → (p : Place) → targetPlace f s ram rom i ≡ p → Met i
   met-target i c h (Ram o) e =
       let x = ram-fits (length ram) (length rom) (targetOf f s i) (bytesOf (f .size)) o e in
       let y = x .0 in
       let z = x .1 in
       fine (h, (λ k. omega (arith, y, z)), λ q. let b = q .0 in let z : _≡_ {A = ℕ} 0 1 = cc in omega arith)
-  met-target i c h (Rom o) e = refused why.ToRom (romTarget c h o e)
-  met-target i c h Missing e = refused why.Missing (noTarget c h e)
+  met-target i c h (Rom o) e = refused _ (romTarget c h o e)
+  met-target i c h (Missing x) e = refused _ (noTarget c h x e)
 
   -- a compare's, by its element
-  met-value : (i v : ℕ) → f .copies ≡ false → elementPlace f s ram rom i ≢ Missing → loadOf ram rom (elementOf f s i) (f .size) ≡ Value v →
+  met-value : (i v : ℕ) → f .copies ≡ false → Present (elementPlace f s ram rom i) → loadOf ram rom (elementOf f s i) (f .size) ≡ Value v →
       (b : Bool) → eqb v (accumulator s (f .size)) ≡ b → Met i
   met-value i v c h l true e = equal (c, l ∙ ap Value (eqb-true v (accumulator s (f .size)) e))
   met-value i v c h l false e =
@@ -72,7 +73,7 @@ module _ (f : Form) (s : State) (ram rom : List ℕ) where
             eqb-false v (accumulator s (f .size)) e y,
       )
 
-  met-there : (i : ℕ) → elementPlace f s ram rom i ≢ Missing → (b : Bool) → f .copies ≡ b → Met i
+  met-there : (i : ℕ) → Present (elementPlace f s ram rom i) → (b : Bool) → f .copies ≡ b → Met i
   met-there i h true c = met-target i c h (targetPlace f s ram rom i) refl
   met-there i h false c =
       let x = loaded-there f s ram rom (elementOf f s i) (f .size) h in
@@ -82,9 +83,9 @@ module _ (f : Form) (s : State) (ram rom : List ℕ) where
   met i = go (elementPlace f s ram rom i) refl
     where
       go : (p : Place) → elementPlace f s ram rom i ≡ p → Met i
-      go (Ram o) e = met-there i (λ h. let z : _≡_ {A = ℕ} 0 1 = cc in omega arith) (f .copies) refl
-      go (Rom o) e = met-there i (λ h. let z : _≡_ {A = ℕ} 0 1 = cc in omega arith) (f .copies) refl
-      go Missing e = refused why.Missing (noElement e)
+      go (Ram o) e = met-there i (λ x h. let z : _≡_ {A = ℕ} 0 1 = cc in omega arith) (f .copies) refl
+      go (Rom o) e = met-there i (λ x h. let z : _≡_ {A = ℕ} 0 1 = cc in omega arith) (f .copies) refl
+      go (Missing x) e = refused _ (noElement x e)
 
   -- ---- the search for the first that ends it: k rounds are left, and nothing ends it in the first n
   passes-more : (n : ℕ) → Passes f s ram rom n → Fine n → Passes f s ram rom (suc n)
@@ -105,8 +106,8 @@ module _ (f : Form) (s : State) (ram rom : List ℕ) where
 
   -- ---- no other
   refused-not-fine : (i : ℕ) (w : Why) → RefusedAt f s ram rom i w → Fine i → ⊥
-  refused-not-fine i _ (noElement h) x = x .0 h
-  refused-not-fine i _ (noTarget c h k) x =
+  refused-not-fine i _ (noElement y h) x = x .0 y h
+  refused-not-fine i _ (noTarget c h v k) x =
       let y = place-ram (length ram) (length rom) (targetOf f s i) (bytesOf (f .size)) (x .1 c) in
       let z : _≡_ {A = ℕ} 0 1 = cc in omega arith
   refused-not-fine i _ (romTarget c h o k) x =
@@ -114,23 +115,27 @@ module _ (f : Form) (s : State) (ram rom : List ℕ) where
       let z : _≡_ {A = ℕ} 0 1 = cc in omega arith
 
   -- an equal element is there
-  equal-there : (i : ℕ) → EqualAt f s ram rom i → elementPlace f s ram rom i ≢ Missing
-  equal-there i q h = missing-load f s ram rom (elementOf f s i) (f .size) (accumulator s (f .size)) h (q .1)
+  equal-there : (i : ℕ) → EqualAt f s ram rom i → Present (elementPlace f s ram rom i)
+  equal-there i q x h = missing-load f s ram rom (elementOf f s i) (f .size) (accumulator s (f .size)) x h (q .1)
 
   equal-not-refused : (i : ℕ) (w : Why) → EqualAt f s ram rom i → RefusedAt f s ram rom i w → ⊥
-  equal-not-refused i _ q (noElement h) = equal-there i q h
-  equal-not-refused i _ q (noTarget c h k) = let b = q .0 in let z : _≡_ {A = ℕ} 0 1 = cc in omega arith
+  equal-not-refused i _ q (noElement x h) = equal-there i q x h
+  equal-not-refused i _ q (noTarget c h x k) = let b = q .0 in let z : _≡_ {A = ℕ} 0 1 = cc in omega arith
   equal-not-refused i _ q (romTarget c h o k) = let b = q .0 in let z : _≡_ {A = ℕ} 0 1 = cc in omega arith
 
+  -- an operand has one missing byte
+  one-byte : {p : Place} {x y : ℕ} → p ≡ Missing x → p ≡ Missing y → why.Missing x ≡ why.Missing y
+  one-byte {p} {x} {y} h g = let e : x ≡ y = cc in ap why.Missing e
+
   same-why : (i : ℕ) (w v : Why) → RefusedAt f s ram rom i w → RefusedAt f s ram rom i v → w ≡ v
-  same-why i _ _ (noElement h) (noElement g) = refl
-  same-why i _ _ (noElement h) (noTarget c g k) = refl
-  same-why i _ _ (noElement h) (romTarget c g o k) = absurd (g h)
-  same-why i _ _ (noTarget c h k) (noElement g) = refl
-  same-why i _ _ (noTarget c h k) (noTarget d g l) = refl
-  same-why i _ _ (noTarget c h k) (romTarget d g o l) = let z : _≡_ {A = ℕ} 0 1 = cc in absurd (omega arith)
-  same-why i _ _ (romTarget c h o k) (noElement g) = absurd (h g)
-  same-why i _ _ (romTarget c h o k) (noTarget d g l) = let z : _≡_ {A = ℕ} 0 1 = cc in absurd (omega arith)
+  same-why i _ _ (noElement x h) (noElement y g) = one-byte h g
+  same-why i _ _ (noElement x h) (noTarget c g y k) = absurd (g x h)
+  same-why i _ _ (noElement x h) (romTarget c g o k) = absurd (g x h)
+  same-why i _ _ (noTarget c h x k) (noElement y g) = absurd (h y g)
+  same-why i _ _ (noTarget c h x k) (noTarget d g y l) = one-byte k l
+  same-why i _ _ (noTarget c h x k) (romTarget d g o l) = let z : _≡_ {A = ℕ} 0 1 = cc in absurd (omega arith)
+  same-why i _ _ (romTarget c h o k) (noElement x g) = absurd (h x g)
+  same-why i _ _ (romTarget c h o k) (noTarget d g x l) = let z : _≡_ {A = ℕ} 0 1 = cc in absurd (omega arith)
   same-why i _ _ (romTarget c h o k) (romTarget d g p l) = refl
 
   -- the first round that does not go on
@@ -192,7 +197,7 @@ module _ (f : Form) (s : State) (ram rom : List ℕ) where
   pub equal-clear : (i : ℕ) → Told f s ram rom (atEqual i) → Clear (suc i) f s ram rom
   equal-clear i x =
       compare-clear (suc i) f s ram rom (x .2 .0)
-      (one-longer (λ j. elementPlace f s ram rom j ≢ Missing) i (λ j h. x .1 j h .0) (equal-there i (x .2)))
+      (one-longer (λ j. Present (elementPlace f s ram rom j)) i (λ j h. x .1 j h .0) (equal-there i (x .2)))
 
 -- ---- the run comes to what is told
 module _ (f : Form) (s : State) (ram rom : List ℕ) (a : At f s ram rom) where

@@ -1,7 +1,7 @@
 -- A repeating form runs as its rounds: one induction for all forms.
 use Prim.Native.Nat.{ℕ, zero, suc, _+_, _-_, _%_, _^_, _<_, _≤_}
 use mathlib.Core.Path.{_≡_, refl, ap, sym, _∙_, subst}
-use mathlib.Core.Logic.{_⊎_, inl, inr, ⊎-elim, _≢_}
+use mathlib.Core.Logic.{_⊎_, inl, inr, ⊎-elim}
 use mathlib.Core.List.{List}
 use mathlib.Core.Bool.{Bool, true, false, cond, not, _&&_}
 use native.Mathlib.Omega.{arith}
@@ -13,8 +13,8 @@ use Rattle.answer.specs.declared.Answer.the-variants as answer
 use Rattle.answer.specs.declared.Why.{Why}
 use Rattle.answer.specs.declared.Why.the-variants as why
 use Rattle.little.specs.{declared.Size.the-variants.Long, Width.bytesOf}
-use Rattle.memory.specs.{Place.placeOf, Access.loadOf, declared.Place.the-variants.Rom, declared.Place.the-variants.Missing}
-use Rattle.memory.specs.declared.Loaded.{Loaded, the-variants.Value, the-variants.Refused}
+use Rattle.memory.specs.{Place.placeOf, Place.Present, Access.loadOf, declared.Place.the-variants.Rom, declared.Place.the-variants.Missing}
+use Rattle.memory.specs.declared.Loaded.{Loaded, the-variants.Value, the-variants.Missing as Lacking}
 use Rattle.state.specs.{declared.State.State, Register.getRegister}
 use Rattle.state.proofs.Laws.{register-lt}
 use Rattle.code.specs.declared.Form.{Form}
@@ -23,7 +23,7 @@ use Rattle.block.specs.Block.{countIn, accumulator, roundOf, equalIn}
 use Rattle.exec.specs.Exec.{pastOf}
 use Rattle.turn.specs.{Once.onceOf, Many.ends, Many.manyOf}
 use Rattle.turn.proofs.ManySteps.{many-did, many-no}
-use Rattle.block.proofs.Rounds.{round-compares, round-refused}
+use Rattle.block.proofs.Rounds.{round-compares, round-missing}
 use Rattle.run.specs.Run.{runOf}
 use Rattle.run.specs.Demand.{At, Spares, EqualAt, RefusedAt, noElement, noTarget, romTarget, Passes, countOf, roundsOf, passed, elementOf, targetOf, elementPlace, targetPlace}
 use Rattle.run.proofs.Bytes.{loaded-fits}
@@ -35,7 +35,7 @@ use Rattle.run.proofs.Steps.{at-pointers, at-valid, within, step-did, s
 
 -- what is supposed of the first n rounds: every element is there, every byte that a copy writes is RAM and none of the instruction's own two
 pub record Clear (n : ℕ) (f : Form) (s : State) (ram rom : List ℕ) : Type 0 where
-  pub there : (i : ℕ) → i < n → elementPlace f s ram rom i ≢ Missing
+  pub there : (i : ℕ) → i < n → Present (elementPlace f s ram rom i)
   pub writable : f .copies ≡ true → (i : ℕ) → i < n → targetOf f s i + bytesOf (f .size) ≤ length ram
   pub spared : Spares f s n
 
@@ -66,7 +66,7 @@ module _ (f : Form) (s : State) (ram rom : List ℕ) (t : State) (m : List ℕ) 
   clear-next : (n : ℕ) → Clear (suc n) f s ram rom → Clear n f t m rom
   clear-next n c =
       record {
-        there = λ i h e. c .there (suc i) (omega arith)
+        there = λ i h y e. c .there (suc i) (omega arith) y
             (ap (λ (x : ℕ). placeOf (length ram) (length rom) x (bytesOf (f .size))) (sym (element-next f s t r i))
             ∙ ap (λ (x : ℕ). placeOf x (length rom) (elementOf f t i) (bytesOf (f .size))) (sym (left-length l)) ∙ e);
         writable = λ k i h.
@@ -104,7 +104,7 @@ module _ (f : Form) (s : State) (ram rom : List ℕ) (a : At f s ram rom) (t : S
     where
       go : (b : Bool) → f .copies ≡ b → (l : Loaded) → loadOf ram rom (pointerOf s (f .from)) (f .size) ≡ l → equalIn f t ≡ false
       go true c l h = copy-unequal f t c
-      go false c (Refused w) h = refused-not (sym (round-refused f s ram rom w h) ∙ e)
+      go false c (Lacking y) h = refused-not (sym (round-missing f s ram rom y h) ∙ e)
       go false c (Value x) h =
           equal-is x c h
           ∙ ne-eqb (accumulator s (f .size)) x
@@ -137,7 +137,7 @@ module _ (f : Form) (s : State) (ram rom : List ℕ) (a : At f s ram rom) where
   first-did : Clear 1 f s ram rom → (t : State) × (m : List ℕ) × (roundOf f s ram rom ≡ did t m)
   first-did c =
       ready-did f s ram rom
-      (λ e. c .there 0 (omega arith) (ap (λ (x : ℕ). placeOf (length ram) (length rom) x (bytesOf (f .size))) (element-first f s) ∙ e))
+      (λ y e. c .there 0 (omega arith) y (ap (λ (x : ℕ). placeOf (length ram) (length rom) x (bytesOf (f .size))) (element-first f s) ∙ e))
       (λ k. let w = c .writable k 0 (omega arith) in let e = target-first f s in omega (arith, w, e))
 
   first-leaves : (t : State) (m : List ℕ) → roundOf f s ram rom ≡ did t m → Rounded f s t × Left f s ram rom m
@@ -255,7 +255,7 @@ module _ (n k d : ℕ) (f : Form) (s : State) (ram rom : List ℕ) (t : State) (
   clear-at : Clear (suc n) f s ram rom → Clear 1 f t m rom
   clear-at c =
       record {
-        there = λ i h e. c .there n (omega arith)
+        there = λ i h y e. c .there n (omega arith) y
             (ap (λ (x : ℕ). placeOf (length ram) (length rom) x (bytesOf (f .size)))
             (sym element-at ∙ ap (λ (y : ℕ). elementOf f t y) (sym (zero-only h)))
             ∙ ap (λ (x : ℕ). placeOf x (length rom) (elementOf f t i) (bytesOf (f .size))) (sym (g .size)) ∙ e);
@@ -303,9 +303,9 @@ module _ (n k d : ℕ) (f : Form) (s : State) (ram rom : List ℕ) (t : State) (
       ∙ ap (λ (x : ℕ). placeOf (length ram) (length rom) x (bytesOf (f .size))) (sym (target-first f t) ∙ target-at c)
 
   pub refused-at : (w : Why) → RefusedAt f s ram rom n w → roundOf f t m rom ≡ no w
-  refused-at _ (noElement h) = round-no-element f t m rom (element-there ∙ h)
-  refused-at _ (noTarget c h k) = round-no-target f t m rom Missing why.Missing c (λ e. h (sym element-there ∙ e)) (target-there c ∙ k) refl
-  refused-at _ (romTarget c h o k) = round-no-target f t m rom (Rom o) why.ToRom c (λ e. h (sym element-there ∙ e)) (target-there c ∙ k) refl
+  refused-at _ (noElement x h) = round-no-element f t m rom x (element-there ∙ h)
+  refused-at _ (noTarget c h x k) = round-no-target f t m rom (Missing x) _ c (λ y e. h y (sym element-there ∙ e)) (target-there c ∙ k) refl
+  refused-at _ (romTarget c h o k) = round-no-target f t m rom (Rom o) _ c (λ y e. h y (sym element-there ∙ e)) (target-there c ∙ k) (ap (λ (x : ℕ). answer.Refused (why.ToRom x)) (sym (target-first f t) ∙ target-at c))
 
 -- a pointer that passed j elements and then one more
 once-passed : (f : Form) (j x : ℕ) → x < 2 ^ 32 → once f (passed f x j) ≡ passed f x (suc j)

@@ -21,12 +21,13 @@ use Rattle.alu.specs.Operation.{operated}
 use Rattle.flags.specs.declared.Flags.{Flags}
 use Rattle.flags.proofs.Packed.{unpacked}
 use Rattle.alu.proofs.Results.{compared-same}
-use Rattle.memory.specs.Place.{placeOf}
+use Rattle.memory.specs.Place.{placeOf, Present}
 use Rattle.memory.specs.Access.{loadOf, loadFrom, storeOf, storeTo, ramAfter, operandAt}
 use Rattle.memory.specs.declared.Place.{Place}
 use Rattle.memory.specs.declared.Place.the-variants.{Ram, Rom, Missing}
 use Rattle.memory.specs.declared.Loaded.{Loaded}
-use Rattle.memory.specs.declared.Loaded.the-variants.{Value, Refused}
+use Rattle.memory.specs.declared.Loaded.the-variants.{Value}
+use Rattle.memory.specs.declared.Loaded.the-variants as loaded
 use Rattle.memory.proofs.Laws.{place-ram, after-length}
 use Rattle.state.specs.State.{withLong, withFlags, withBothFlags}
 use Rattle.state.specs.Sound.{Sound}
@@ -41,7 +42,7 @@ use Rattle.operand.specs.Operand.{pointerOf, storing, storedBy}
 use Rattle.operand.specs.Round.{less}
 use Rattle.operand.specs.Flag.{flagsIn, flagged}
 use Rattle.block.specs.Block.{countIn, moreIn, counted, moved, copied, accumulator, compared, roundOf, equalIn}
-use Rattle.block.proofs.Rounds.{round-copies, round-compares, round-refused}
+use Rattle.block.proofs.Rounds.{round-copies, round-compares, round-missing}
 use Rattle.facts.proofs.Kept.{copied-valid, compared-valid}
 use Rattle.little.specs.Bytes.{Bytes}
 use Rattle.run.proofs.Bytes.{bytes-after}
@@ -203,7 +204,7 @@ module _ (f : Form) (p : Pointers f) (s : State) (ok : Sound s) (v : Valid s) (r
   round-leaves t m e = go element refl (f .copies) refl
     where
       go : (l : Loaded) → element ≡ l → (b : Bool) → f .copies ≡ b → Leaves t m
-      go (Refused w) h b c = refused-not (sym (round-refused f s ram rom w h) ∙ e)
+      go (loaded.Missing x) h b c = refused-not (sym (round-missing f s ram rom x h) ∙ e)
       go (Value x) h true c = stored-leaves x t m c (sym (round-copies f s ram rom x h c) ∙ e)
       go (Value x) h false c =
           let q = same-did (sym (round-compares f s ram rom x h c) ∙ e) in
@@ -226,19 +227,19 @@ left-compare e (wrote c v) = let z : _≡_ {A = ℕ} 0 1 = cc in absurd (omega a
 
 -- ---- a round that finds what it needs is done; one that does not is refused with 5 or 6
 module _ (f : Form) (s : State) (ram rom : List ℕ) where
-  pub loaded-there : (a : ℕ) (z : Size) → placeOf (length ram) (length rom) a (bytesOf z) ≢ Missing → (v : ℕ) × (loadOf ram rom a z ≡ Value v)
+  pub loaded-there : (a : ℕ) (z : Size) → Present (placeOf (length ram) (length rom) a (bytesOf z)) → (v : ℕ) × (loadOf ram rom a z ≡ Value v)
   unfolding loadOf
   loaded-there a z h = go (operandAt ram rom a z) refl
     where
       go : (q : Place) → operandAt ram rom a z ≡ q → (v : ℕ) × (loadFrom q ram rom (bytesOf z) ≡ Value v)
       go (Ram o) e = (_, refl)
       go (Rom o) e = (_, refl)
-      go Missing e = absurd (h e)
+      go (Missing x) e = absurd (h x e)
 
-  pub missing-load : (a : ℕ) (z : Size) (v : ℕ) → placeOf (length ram) (length rom) a (bytesOf z) ≡ Missing → loadOf ram rom a z ≡ Value v → ⊥
+  pub missing-load : (a : ℕ) (z : Size) (v x : ℕ) → placeOf (length ram) (length rom) a (bytesOf z) ≡ Missing x → loadOf ram rom a z ≡ Value v → ⊥
   unfolding loadOf
-  missing-load a z v h e =
-      let x : Refused why.Missing ≡ Value v = sym (ap (λ (q : Place). loadFrom q ram rom (bytesOf z)) h) ∙ e in
+  missing-load a z v x h e =
+      let f : loaded.Missing x ≡ Value v = sym (ap (λ (q : Place). loadFrom q ram rom (bytesOf z)) h) ∙ e in
       let y : _≡_ {A = ℕ} 0 1 = cc in
       omega arith
 
@@ -248,7 +249,7 @@ module _ (f : Form) (s : State) (ram rom : List ℕ) where
   stored-there t a z v h = rw (place-ram (length ram) (length rom) a (bytesOf z) h) refl
 
   pub ready-did :
-      placeOf (length ram) (length rom) (pointerOf s (f .from)) (bytesOf (f .size)) ≢ Missing
+      Present (placeOf (length ram) (length rom) (pointerOf s (f .from)) (bytesOf (f .size)))
       → (f .copies ≡ true → pointerOf s (f .to) + bytesOf (f .size) ≤ length ram)
       → (t : State) × (m : List ℕ) × (roundOf f s ram rom ≡ did t m)
   ready-did h k = go (loaded-there (pointerOf s (f .from)) (f .size) h) (f .copies) refl
@@ -264,21 +265,21 @@ module _ (f : Form) (s : State) (ram rom : List ℕ) where
 
   -- a round whose element is missing, and a copy's whose target is not RAM
   pub round-no-element :
-      placeOf (length ram) (length rom) (pointerOf s (f .from)) (bytesOf (f .size)) ≡ Missing → roundOf f s ram rom ≡ no why.Missing
+      (x : ℕ) → placeOf (length ram) (length rom) (pointerOf s (f .from)) (bytesOf (f .size)) ≡ Missing x → roundOf f s ram rom ≡ no (why.Missing x)
   unfolding loadOf
-  round-no-element h = round-refused f s ram rom why.Missing (ap (λ (q : Place). loadFrom q ram rom (bytesOf (f .size))) h)
+  round-no-element x h = round-missing f s ram rom x (ap (λ (q : Place). loadFrom q ram rom (bytesOf (f .size))) h)
 
   stored-no :
-      (t : State) (a : ℕ) (z : Size) (v : ℕ) (q : Place) (w : Why) → operandAt ram rom a z ≡ q → storeTo q ≡ answer.Refused w →
+      (t : State) (a : ℕ) (z : Size) (v : ℕ) (q : Place) (w : Why) → operandAt ram rom a z ≡ q → storeTo q a ≡ answer.Refused w →
       storing t ram rom a z v ≡ no w
   unfolding storing storeOf
   stored-no t a z v q w h e =
-      ap (λ (p : Place). storedBy (storeTo p) t (ramAfter ram rom a z v)) h ∙ ap (λ (r : Answer). storedBy r t (ramAfter ram rom a z v)) e
+      ap (λ (p : Place). storedBy (storeTo p a) t (ramAfter ram rom a z v)) h ∙ ap (λ (r : Answer). storedBy r t (ramAfter ram rom a z v)) e
 
   pub round-no-target :
       (q : Place) (w : Why) → f .copies ≡ true
-      → placeOf (length ram) (length rom) (pointerOf s (f .from)) (bytesOf (f .size)) ≢ Missing
-      → placeOf (length ram) (length rom) (pointerOf s (f .to)) (bytesOf (f .size)) ≡ q → storeTo q ≡ answer.Refused w
+      → Present (placeOf (length ram) (length rom) (pointerOf s (f .from)) (bytesOf (f .size)))
+      → placeOf (length ram) (length rom) (pointerOf s (f .to)) (bytesOf (f .size)) ≡ q → storeTo q (pointerOf s (f .to)) ≡ answer.Refused w
       → roundOf f s ram rom ≡ no w
   round-no-target q w c h k e =
       let x = loaded-there (pointerOf s (f .from)) (f .size) h in

@@ -23,7 +23,8 @@ use Rattle.memory.specs.Access.{loadOf, storeOf, ramAfter, codeAt}
 use Rattle.memory.specs.declared.Place.{Place}
 use Rattle.memory.specs.declared.Place.the-variants.{Ram, Rom, Missing}
 use Rattle.memory.specs.declared.Loaded.{Loaded}
-use Rattle.memory.specs.declared.Loaded.the-variants.{Value, Refused}
+use Rattle.memory.specs.declared.Loaded.the-variants.{Value}
+use Rattle.memory.specs.declared.Loaded.the-variants as loaded
 use Rattle.memory.proofs.Laws.{ram-fits, after-length, after-below, after-above, code-in}
 use Rattle.state.specs.State.{longOf, withLong, withCounter, withFlags, withBothFlags}
 use Rattle.state.specs.Register.{slotIn, setSlot, registerAt, setRegister}
@@ -50,7 +51,7 @@ use Rattle.turn.specs.Once.{onceOf}
 use Rattle.step.specs.Step.{tooLong}
 use Rattle.run.specs.Demand.{At}
 use Rattle.run.proofs.Bytes.{bytes-code}
-use Rattle.block.proofs.Rounds.{round-copies, round-compares, round-refused}
+use Rattle.block.proofs.Rounds.{round-copies, round-compares, round-missing}
 use Rattle.run.proofs.Rounds.{Pointers, pointers, Rounded, Left, unchanged, wrote, left-length, left-bytes}
 
 -- ---- the counter has no part in a round
@@ -108,9 +109,9 @@ round-free f s c ram rom = go (loadOf ram rom (pointerOf s (f .from)) (f .size))
 
     go : (l : Loaded) → loadOf ram rom (pointerOf s (f .from)) (f .size) ≡ l → (b : Bool) → f .copies ≡ b →
         roundOf f (withCounter s c) ram rom ≡ andThen (roundOf f s ram rom) (λ (t : State). withCounter t c)
-    go (Refused w) e b k =
-        round-refused f (withCounter s c) ram rom w (there e)
-        ∙ sym (ap (λ (t : Try). andThen t (λ (t : State). withCounter t c)) (round-refused f s ram rom w e))
+    go (loaded.Missing x) e b k =
+        round-missing f (withCounter s c) ram rom x (there e)
+        ∙ sym (ap (λ (t : Try). andThen t (λ (t : State). withCounter t c)) (round-missing f s ram rom x e))
     go (Value x) e true k =
         round-copies f (withCounter s c) ram rom x (there e) k
         ∙ ap (λ (a : ℕ). storing (copied f (withCounter s c)) ram rom a (f .size) x) (pointer-free s c (f .to))
@@ -161,7 +162,7 @@ code-kept ram rom a z v c i two far e = go (placeOf (length ram) (length rom) c 
         let same : take (i .length) (drop c ram) ≡ take (i .length) (drop c m) = rw two (two-kept ram rom a z v c room far) in
         ap decodeOf (code-in m rom c (place-m h) ∙ ap (λ (n : ℕ). drop n m) at) ∙ same-start (drop c ram) (drop c m) i d long same
     go (Rom o) h = ap decodeOf (code-in m rom c (place-m h) ∙ sym (code-in ram rom c h)) ∙ e
-    go Missing h = ap decodeOf (code-in m rom c (place-m h) ∙ sym (code-in ram rom c h)) ∙ e
+    go (Missing x) h = ap decodeOf (code-in m rom c (place-m h) ∙ sym (code-in ram rom c h)) ∙ e
 
 -- ---- the counter after a round on a state past the form
 past-is :

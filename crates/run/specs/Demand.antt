@@ -1,9 +1,9 @@
 -- Demand 3: how a repeating copy or compare ends, told by its start alone. Each statement is proved in proofs/Endings.antt.
-use Rattle.little.specs.Words.{ℕ, zero, suc, _+_, _-_, _*_, _%_, _^_, _<_, _≤_, _≡_, _⊎_, _≢_, List, true, false, cond, eqb, length}
+use Rattle.little.specs.Words.{ℕ, zero, suc, _+_, _-_, _*_, _%_, _^_, _<_, _≤_, _≡_, _⊎_, List, true, false, cond, eqb, length}
 use Rattle.answer.specs.declared.{Answer.the-variants.Done, Answer.the-variants.Refused, Why.Why}
 use Rattle.little.specs.{declared.Size.the-variants.Long, Width.bytesOf, Bytes.Bytes}
 use Rattle.memory.specs.{declared.Place.Place, declared.Place.the-variants.Rom, declared.Place.the-variants.Missing}
-use Rattle.memory.specs.{declared.Loaded.the-variants.Value, Place.placeOf, Access.loadOf, Access.codeAt}
+use Rattle.memory.specs.{declared.Loaded.the-variants.Value, Place.placeOf, Place.Present, Access.loadOf, Access.codeAt}
 use Rattle.state.specs.{declared.State.State, State.validOf, Sound.Sound, Register.getRegister}
 use Rattle.code.specs.{declared.Form.Form, declared.Instruction.Instruction, declared.Op.the-variants.Blocks, declared.Decoded.the-variants.Whole}
 use Rattle.code.specs.{Listed.decodeOf}
@@ -31,7 +31,7 @@ countOf s = cond (eqb (countIn s) 0) (2 ^ 16) (countIn s)
 unfoldable pub passed : Form → ℕ → ℕ → ℕ
 passed f x i = cond (f .up) ((x + i * bytesOf (f .size)) % 2 ^ 32) ((x + i * (2 ^ 32 - bytesOf (f .size))) % 2 ^ 32)
 
--- where it ends: at the count; a compare at the first equal element; or before the first refused round, with its number.
+-- where it ends: at the count; a compare at the first equal element; or before the first refused round, with its number and address.
 -- Elements and rounds are numbered from 0
 pub data Ending : Type 0 where
   atCount : Ending
@@ -83,18 +83,18 @@ module _ (f : Form) (s : State) where
     abbrev pub EqualAt : ℕ → Type 0
     EqualAt i = (f .copies ≡ false) × (loadOf ram rom (elementOf i) (f .size) ≡ Value (accumulator s (f .size)))
 
-    -- the round of element i is refused with this number, in the order of check: 5, the element is missing;
-    -- or a copy finds it, and 5, its target is missing, or 6, its target is ROM
+    -- the round of element i is refused with this number and address, in the order of check: 5, the element is missing, with its missing byte;
+    -- or a copy finds it, and 5, its target is missing, with its missing byte, or 6, its target is ROM, with its first byte
     pub data RefusedAt (i : ℕ) : Why → Type 0 where
-      noElement : elementPlace i ≡ Missing → RefusedAt i why.Missing
-      noTarget : f .copies ≡ true → elementPlace i ≢ Missing → targetPlace i ≡ Missing → RefusedAt i why.Missing
-      romTarget : f .copies ≡ true → elementPlace i ≢ Missing → (o : ℕ) → targetPlace i ≡ Rom o → RefusedAt i why.ToRom
+      noElement : (x : ℕ) → elementPlace i ≡ Missing x → RefusedAt i (why.Missing x)
+      noTarget : f .copies ≡ true → Present (elementPlace i) → (x : ℕ) → targetPlace i ≡ Missing x → RefusedAt i (why.Missing x)
+      romTarget : f .copies ≡ true → Present (elementPlace i) → (o : ℕ) → targetPlace i ≡ Rom o → RefusedAt i (why.ToRom (targetOf i))
 
     -- nothing ends it in the first n rounds: each element is there, every byte that a copy writes is RAM, and none is equal
     abbrev pub Passes : ℕ → Type 0
     Passes n =
         (i : ℕ) → i < n →
-        (elementPlace i ≢ Missing) × (f .copies ≡ true → targetOf i + bytesOf (f .size) ≤ length ram) × (EqualAt i → ⊥)
+        Present (elementPlace i) × (f .copies ≡ true → targetOf i + bytesOf (f .size) ≤ length ram) × (EqualAt i → ⊥)
 
     -- what the start holds for each ending
     abbrev pub Told : Ending → Type 0
@@ -113,7 +113,7 @@ module _ (f : Form) (s : State) where
       GoesOnAfter n =
           (t : State) × (m : List ℕ) × (roundsOf n f s ram rom ≡ did t m) × Leaves n (ends n t m Done) × (t .counter ≡ s .counter)
 
-      -- n rounds are done, and the next one stops every run of more steps with this number: nothing of that one is done
+      -- n rounds are done, and the next one stops every run of more steps with this number and address: nothing of that one is done
       abbrev pub StopsAfter : ℕ → Why → Type 0
       StopsAfter n w =
           (steps : ℕ) → n < steps → steps ≤ mostSteps →

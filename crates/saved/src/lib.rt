@@ -16,8 +16,8 @@ use state::status::sr;
 
 // A state that was read, or the all-zero state with the refusal.
 pub struct Restored {
-    pub answer: Answer,
     pub state: State,
+    pub answer: Answer,
 }
 
 // How many bytes a record has.

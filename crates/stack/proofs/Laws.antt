@@ -6,7 +6,7 @@ use native.Mathlib.Omega.{arith}
 use lib.Pow.{mod-mod-pow, field}
 use Rattle.answer.specs.declared.Answer.{Answer}
 use Rattle.answer.specs.declared.Answer.the-variants.{Done, Refused}
-use Rattle.answer.specs.declared.Why.{Why}
+use Rattle.answer.specs.declared.Why.the-variants as why
 use Rattle.little.specs.declared.Size.{Size}
 use Rattle.little.specs.declared.Size.the-variants.{Long}
 use Rattle.little.specs.Width.{bytesOf}
@@ -30,9 +30,9 @@ module _ (s : State) (ram rom : List ℕ) (z : Size) (rest : State → ℕ → S
   popped-by v e = rw e refl
 
   pub not-popped :
-      (w : Why) → loadOf ram rom (pointerOf s 7) z ≡ loaded.Refused w → leaves s ram (popOf s ram rom z rest) ≡ record { state = s; ram = ram; answer = Refused w }
+      (x : ℕ) → loadOf ram rom (pointerOf s 7) z ≡ loaded.Missing x → leaves s ram (popOf s ram rom z rest) ≡ record { state = s; ram = ram; answer = Refused (why.Missing x) }
   unfolding popOf
-  not-popped w e = rw e refl
+  not-popped x e = rw e refl
 
 -- the flags of a number are those of its low byte
 flag-low : (v p : ℕ) → p < 8 → v % 2 ^ 8 / 2 ^ p % 2 ≡ v / 2 ^ p % 2

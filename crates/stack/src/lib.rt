@@ -11,6 +11,7 @@ ghost use Rattle.operand.specs.inner.Does.{Does};
 ghost use Rattle.operand.specs.Round.{plus};
 ghost use Rattle.stack.specs.Stack.{withStack, pushOf, popOf, callOf, endAfter, stackOf};
 use answer::Answer;
+use answer::Why;
 use code::Operand;
 use code::Stack;
 use little::ADDRESSES;
@@ -69,7 +70,7 @@ fn pop(bank: Bank, regs: &mut [u32; 20], ram: &[u8], rom: &[u8], size: Size, cod
             state::write(regs, bank, size, code, v);
             Answer::Done
         }
-        Loaded::Refused(w) => Answer::Refused(w),
+        Loaded::Missing(a) => Answer::Refused(Why::Missing(a)),
     }
 }
 
@@ -85,13 +86,12 @@ fn call(
         (bankedAt s (now (regs .entry)) bank (now (counter .entry))) (now (ram .entry))
         a (bankedAt s (now (regs .exit)) bank (now (counter .exit))) (now (ram .exit))) ⌝ }
 {
-    match push(bank, regs, ram, rom, Size::Long, *counter) {
-        Answer::Done => {
-            *counter = to % ADDRESSES;
-            Answer::Done
-        }
-        Answer::Refused(w) => Answer::Refused(w),
+    let a = push(bank, regs, ram, rom, Size::Long, *counter);
+    if let Answer::Refused(_) = a {
+        return a;
     }
+    *counter = to % ADDRESSES;
+    Answer::Done
 }
 
 fn ret(bank: Bank, regs: &mut [u32; 20], counter: &mut u32, ram: &[u8], rom: &[u8]) -> Answer
@@ -105,7 +105,7 @@ fn ret(bank: Bank, regs: &mut [u32; 20], counter: &mut u32, ram: &[u8], rom: &[u
             *counter = v % ADDRESSES;
             Answer::Done
         }
-        Loaded::Refused(w) => Answer::Refused(w),
+        Loaded::Missing(a) => Answer::Refused(Why::Missing(a)),
     }
 }
 
@@ -121,7 +121,7 @@ fn pop_f(bank: Bank, regs: &mut [u32; 20], flags: &mut u8, ram: &[u8], rom: &[u8
             *flags = flags::pack(flags::unpack(f));
             Answer::Done
         }
-        Loaded::Refused(w) => Answer::Refused(w),
+        Loaded::Missing(a) => Answer::Refused(Why::Missing(a)),
     }
 }
 

@@ -138,6 +138,6 @@ pub fn reset(ram: &[u8], rom: &[u8]) -> Stepped
     }
     match memory::load(ram, rom, State::VECTOR, Size::Long) {
         Loaded::Value(v) => done(State::at_reset(v)),
-        Loaded::Refused(w) => refuse(State::zero(), w),
+        Loaded::Missing(a) => refuse(State::zero(), Why::Missing(a)),
     }
 }

@@ -103,7 +103,7 @@ module _ (ram rom : List ℕ) (a : ℕ) where
       go : (p : Place) → placeOf (length ram) (length rom) a 1 ≡ p → inRom p ≡ true → a < 2 ^ 24
       go (Ram o) e k = let z : _≡_ {A = ℕ} 0 1 = cc in absurd (omega arith)
       go (Rom o) e k = let f = rom-fits (length ram) (length rom) a 1 o e in omega (arith, f .0, f .1)
-      go Missing e k = let z : _≡_ {A = ℕ} 0 1 = cc in absurd (omega arith)
+      go (Missing x) e k = let z : _≡_ {A = ℕ} 0 1 = cc in absurd (omega arith)
 
   pub rom-same : (m : List ℕ) → inRom (placeOf (length ram) (length rom) a 1) ≡ true → length m ≡ length ram → codeAt m rom a ≡ codeAt ram rom a
   rom-same m h l = go (placeOf (length ram) (length rom) a 1) refl h
@@ -111,7 +111,7 @@ module _ (ram rom : List ℕ) (a : ℕ) where
       go : (p : Place) → placeOf (length ram) (length rom) a 1 ≡ p → inRom p ≡ true → codeAt m rom a ≡ codeAt ram rom a
       go (Ram o) e k = let z : _≡_ {A = ℕ} 0 1 = cc in absurd (omega arith)
       go (Rom o) e k = code-in m rom a (ap (λ (n : ℕ). placeOf n (length rom) a 1) l ∙ e) ∙ sym (code-in ram rom a e)
-      go Missing e k = let z : _≡_ {A = ℕ} 0 1 = cc in absurd (omega arith)
+      go (Missing x) e k = let z : _≡_ {A = ℕ} 0 1 = cc in absurd (omega arith)
 
 -- ---- one round more of a form that stands at an address, after k steps that were done
 module _

@@ -58,9 +58,9 @@ fn block(
     let mut left = *more;
     loop {
         let a = round(f, bank, &mut *flags, &mut *regs, &mut *ram, rom);
-        if let Answer::Refused(w) = a {
+        if let Answer::Refused(_) = a {
             if left == *more {
-                return Answer::Refused(w);
+                return a;
             }
             // The rounds before it are done; the refused one is for the next call.
             *more = left + 1;

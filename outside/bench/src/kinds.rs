@@ -126,7 +126,8 @@ impl Code {
         let mut scene = self.scene();
         (0..STEPS).all(|_| {
             let (shown, _) = second::show(&scene.ram, &scene.rom, scene.machine.counter);
-            shown == self.bytes && second::step(&mut scene.machine, &mut scene.ram, &scene.rom) == 0
+            shown == self.bytes
+                && second::step(&mut scene.machine, &mut scene.ram, &scene.rom) == (0, 0)
         })
     }
 }

@@ -85,13 +85,15 @@ impl Proved {
 
 impl Worker for Proved {
     fn run(&mut self, steps: u32) -> (u32, u8) {
-        LIBRARY.run(&mut self.record, &mut self.ram, &self.rom, steps)
+        let (done, number, _) = LIBRARY.run(&mut self.record, &mut self.ram, &self.rom, steps);
+        (done, number)
     }
 }
 
 impl Worker for Scene {
     fn run(&mut self, steps: u32) -> (u32, u8) {
-        second::run(&mut self.machine, &mut self.ram, &self.rom, steps)
+        let (done, number, _) = second::run(&mut self.machine, &mut self.ram, &self.rom, steps);
+        (done, number)
     }
 }
 

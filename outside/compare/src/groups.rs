@@ -10,6 +10,7 @@ mod memories;
 mod misuse;
 mod records;
 mod runs;
+mod straddles;
 
 use crate::chance::Chance;
 use crate::judge::Judge;
@@ -41,6 +42,13 @@ pub const GROUPS: &[Group] = &[
     Group("operands-at-the-ends", ends::operands),
     Group("stack-at-the-ends", ends::stack),
     Group("code-at-the-ends", ends::code),
+    Group("over-the-end-of-ram", straddles::end_of_ram),
+    Group("over-the-start-of-rom", straddles::start_of_rom),
+    Group("over-the-top", straddles::top),
+    Group("over-65536-bytes-of-ram", straddles::end_of_most_ram),
+    Group("without-ram", straddles::no_ram),
+    Group("without-rom", straddles::no_rom),
+    Group("without-any-memory", straddles::no_memory),
     Group("block-rounds", blocks::rounds),
     Group("overlapping-copies", blocks::overlapping_copies),
     Group("repeats-by-hand", blocks::repeats_by_hand),

@@ -45,11 +45,36 @@ impl Guarded {
     }
 }
 
-/// What a call answered.
+/// What a call answered. The count is the steps of a run and the length of
+/// what is shown; the address is a step's or a run's. A call that has no
+/// count, or no address, has 0 there.
 #[derive(Clone, Copy, Debug, PartialEq, Eq)]
 pub struct Answer {
     pub count: u32,
     pub number: u8,
+    pub at: u32,
+}
+
+impl Answer {
+    /// The answer that is a number alone, as that of a reset.
+    pub fn number(number: u8) -> Answer {
+        Answer::counted((0, number))
+    }
+
+    /// The answer of a step.
+    pub fn step((number, at): (u8, u32)) -> Answer {
+        Answer::run((0, number, at))
+    }
+
+    /// The answer of a run.
+    pub fn run((count, number, at): (u32, u8, u32)) -> Answer {
+        Answer { count, number, at }
+    }
+
+    /// The answer that has no address, as that of a show.
+    pub fn counted((count, number): (u32, u8)) -> Answer {
+        Answer::run((count, number, 0))
+    }
 }
 
 /// What has been compared.
@@ -187,23 +212,22 @@ impl Judge {
         self.ram.load(&case.ram.bytes);
         self.rom.load(&case.rom.bytes);
         let (record, ram, rom) = (self.record.lent(), self.ram.lent(), self.rom.bytes());
-        let (count, number) = match case.call {
-            Call::Reset => (0, self.library.reset(record, ram, rom)),
-            Call::Step => (0, self.library.step(record, ram, rom)),
-            Call::Run(steps) => self.library.run(record, ram, rom, steps),
-            Call::Show(at) => self.library.show(ram, rom, at),
+        let answer = match case.call {
+            Call::Reset => Answer::number(self.library.reset(record, ram, rom)),
+            Call::Step => Answer::step(self.library.step(record, ram, rom)),
+            Call::Run(steps) => Answer::run(self.library.run(record, ram, rom, steps)),
+            Call::Show(at) => Answer::counted(self.library.show(ram, rom, at)),
         };
-        let answer = Answer { count, number };
 
         self.other_record.clone_from(&case.record);
         self.other_ram.clone_from(&case.ram.bytes);
-        let (count, number) = reference::call(
+        let other = reference::call(
             case.call,
             &mut self.other_record,
             &mut self.other_ram,
             &case.rom.bytes,
         );
-        (answer, Answer { count, number })
+        (answer, other)
     }
 
     fn agree(&self, case: &Case, answer: Answer, other: Answer) -> bool {
@@ -326,8 +350,9 @@ fn register_at(place: usize) -> String {
 }
 
 fn told(answer: Answer, record: &[u8]) -> String {
-    let Answer { count, number } = answer;
-    format!("number {number}, count {count}, record {}", hex(record))
+    let Answer { count, number, at } = answer;
+    let record = hex(record);
+    format!("number {number}, address {at:06X}, count {count}, record {record}")
 }
 
 fn spaced(bytes: &[u8]) -> String {

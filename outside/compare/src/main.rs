@@ -1,8 +1,9 @@
 //! The proved library and the second interpreter, held against each other.
 //!
-//! Both are given the same record, memories and call; number, count, record
-//! and RAM must be the same afterwards. The second interpreter is unproved;
-//! that the two agree proves nothing, but where they differ one is wrong.
+//! Both are given the same record, memories and call; number, address, count,
+//! record and RAM must be the same afterwards. The second interpreter is
+//! unproved; that the two agree proves nothing, but where they differ one is
+//! wrong.
 //!
 //! ```text
 //! compare [--seed N] [--rounds N] [--group NAME] [--case 'TEXT']

@@ -4,24 +4,24 @@
 //! a record that is no state's; a refusal leaves the record and RAM alone.
 
 use crate::case::Call;
+use crate::judge::Answer;
 use second::record::LENGTH;
 use second::{number, Machine, MOST_BYTES, MOST_STEPS};
 
-/// Does a call on a record and memories: a count and the number. The count
-/// is the steps of a run, the length of what is shown, and 0 for the others.
-pub fn call(call: Call, record: &mut [u8], ram: &mut [u8], rom: &[u8]) -> (u32, u8) {
+/// Does a call on a record and memories, and gives its answer.
+pub fn call(call: Call, record: &mut [u8], ram: &mut [u8], rom: &[u8]) -> Answer {
     match call {
-        Call::Reset => (0, reset(record, ram, rom)),
+        Call::Reset => Answer::number(reset(record, ram, rom)),
         Call::Step => on_state(record, ram, rom, |machine, ram| {
-            (0, second::step(machine, ram, rom))
+            Answer::step(second::step(machine, ram, rom))
         }),
-        Call::Run(steps) if steps > MOST_STEPS => (0, number::TOO_MANY),
+        Call::Run(steps) if steps > MOST_STEPS => Answer::number(number::TOO_MANY),
         Call::Run(steps) => on_state(record, ram, rom, |machine, ram| {
-            second::run(machine, ram, rom, steps)
+            Answer::run(second::run(machine, ram, rom, steps))
         }),
         Call::Show(at) => {
             let (bytes, number) = second::show(ram, rom, at);
-            (bytes.len() as u32, number)
+            Answer::counted((bytes.len() as u32, number))
         }
     }
 }
@@ -30,10 +30,10 @@ fn on_state(
     record: &mut [u8],
     ram: &mut [u8],
     rom: &[u8],
-    work: impl FnOnce(&mut Machine, &mut [u8]) -> (u32, u8),
-) -> (u32, u8) {
+    work: impl FnOnce(&mut Machine, &mut [u8]) -> Answer,
+) -> Answer {
     if ram.len() > MOST_BYTES || rom.len() > MOST_BYTES {
-        return (0, number::TOO_LONG);
+        return Answer::number(number::TOO_LONG);
     }
     match Machine::from_record(record) {
         Ok(mut machine) => {
@@ -41,7 +41,7 @@ fn on_state(
             save(&machine, record);
             ended
         }
-        Err(number) => (0, number),
+        Err(number) => Answer::number(number),
     }
 }
 

@@ -4,7 +4,8 @@
 //! It says nothing about what a call does; it only hands slices over as C
 //! does, a pointer and then a length, and brings the answers back.
 
-/// What a count holds before a call that must write it: no call answers this.
+/// What a count or an address holds before a call that must write it: no call
+/// answers this.
 const UNWRITTEN: u32 = 0xDEAD_BEEF;
 
 mod surface {
@@ -26,6 +27,7 @@ mod surface {
             ram_length: usize,
             rom: *const u8,
             rom_length: usize,
+            at: *mut u32,
         ) -> u8;
 
         pub fn tlcs900h_run(
@@ -37,6 +39,7 @@ mod surface {
             rom_length: usize,
             steps: u32,
             done: *mut u32,
+            at: *mut u32,
         ) -> u8;
 
         pub fn tlcs900h_show(
@@ -96,11 +99,13 @@ impl Library {
         }
     }
 
-    /// Does one step, and gives the number.
-    pub fn step(self, record: &mut [u8], ram: &mut [u8], rom: &[u8]) -> u8 {
+    /// Does one step, and gives the number and the address.
+    pub fn step(self, record: &mut [u8], ram: &mut [u8], rom: &[u8]) -> (u8, u32) {
+        let mut at = UNWRITTEN;
         // SAFETY: each pointer and length is one whole slice, lent for the
-        // call; the record and RAM are lent alone.
-        unsafe {
+        // call; the record and RAM are lent alone; `at` is a whole word of
+        // its own.
+        let number = unsafe {
             surface::tlcs900h_step(
                 self.write(record),
                 record.len(),
@@ -108,13 +113,16 @@ impl Library {
                 ram.len(),
                 self.read(rom),
                 rom.len(),
+                &mut at,
             )
-        }
+        };
+        (number, at)
     }
 
-    /// Does many steps, and gives how many were done and the number.
-    pub fn run(self, record: &mut [u8], ram: &mut [u8], rom: &[u8], steps: u32) -> (u32, u8) {
-        let mut done = UNWRITTEN;
+    /// Does many steps, and gives how many were done, the number and the
+    /// address.
+    pub fn run(self, record: &mut [u8], ram: &mut [u8], rom: &[u8], steps: u32) -> (u32, u8, u32) {
+        let (mut done, mut at) = (UNWRITTEN, UNWRITTEN);
         // SAFETY: as for a step; and `done` is a whole word of its own.
         let number = unsafe {
             surface::tlcs900h_run(
@@ -126,9 +134,10 @@ impl Library {
                 rom.len(),
                 steps,
                 &mut done,
+                &mut at,
             )
         };
-        (done, number)
+        (done, number, at)
     }
 
     /// Gives the length of the instruction at an address, and the number.

@@ -6,42 +6,43 @@ use crate::flags::{condition, Flags};
 use crate::machine::{address, Machine, BC, XSP};
 use crate::memory::{check_lengths, code_from, Memories};
 use crate::number;
+use crate::refusal::Refusal;
 use crate::width::Width;
 
 /// How many steps a run may be asked for.
 pub const MOST_STEPS: u32 = 1_000_000;
 
-type Outcome = Result<(), u8>;
+type Outcome = Result<(), Refusal>;
 
-/// Does one step and gives its number. Anything but 0 is a refusal, which
-/// changes neither the state nor RAM.
-pub fn step(machine: &mut Machine, ram: &mut [u8], rom: &[u8]) -> u8 {
-    match check(machine, ram, rom).and_then(|()| checked_step(machine, ram, rom)) {
-        Ok(()) => number::DONE,
-        Err(number) => number,
+/// Does one step and gives its number and its address. Any number but 0 is a
+/// refusal, which changes neither the state nor RAM.
+pub fn step(machine: &mut Machine, ram: &mut [u8], rom: &[u8]) -> (u8, u32) {
+    match whole_step(machine, ram, rom) {
+        Ok(()) => (number::DONE, 0),
+        Err(refusal) => (refusal.number, refusal.at),
     }
 }
 
-/// Does up to `steps` steps: the count of those done, and 0 or the number of
-/// the one refused. 7, 1 and 2 are looked for before any step, even if none
-/// is asked for.
-pub fn run(machine: &mut Machine, ram: &mut [u8], rom: &[u8], steps: u32) -> (u32, u8) {
+/// Does up to `steps` steps: the count of those done, and the number and the
+/// address of the one refused, or 0 and 0. 7, 1 and 2 are looked for before
+/// any step, even if none is asked for.
+pub fn run(machine: &mut Machine, ram: &mut [u8], rom: &[u8], steps: u32) -> (u32, u8, u32) {
     if steps > MOST_STEPS {
-        return (0, number::TOO_MANY);
+        return (0, number::TOO_MANY, 0);
     }
     if let Err(number) = check(machine, ram, rom) {
-        return (0, number);
+        return (0, number, 0);
     }
     for done in 0..steps {
-        let number = step(machine, ram, rom);
+        let (number, at) = step(machine, ram, rom);
         if number != number::DONE {
-            return (done, number);
+            return (done, number, at);
         }
     }
-    (steps, number::DONE)
+    (steps, number::DONE, 0)
 }
 
-fn check(machine: &Machine, ram: &[u8], rom: &[u8]) -> Outcome {
+fn check(machine: &Machine, ram: &[u8], rom: &[u8]) -> Result<(), u8> {
     check_lengths(ram, rom)?;
     if machine.valid() {
         Ok(())
@@ -53,7 +54,8 @@ fn check(machine: &Machine, ram: &[u8], rom: &[u8]) -> Outcome {
 /// The step works on a copy, which takes the state's place only if nothing
 /// refused. No instruction stores twice or reads after storing, so RAM is
 /// changed only when nothing can refuse any more.
-fn checked_step(machine: &mut Machine, ram: &mut [u8], rom: &[u8]) -> Outcome {
+fn whole_step(machine: &mut Machine, ram: &mut [u8], rom: &[u8]) -> Outcome {
+    check(machine, ram, rom)?;
     let (instruction, length) = decode(code_from(ram, rom, machine.counter))?;
     let here = machine.counter;
     let mut next = machine.clone();
@@ -169,7 +171,7 @@ impl Work<'_> {
         self.locate(Place::Near(register, 0))
     }
 
-    fn value(&self, width: Width, operand: Operand) -> Result<u32, u8> {
+    fn value(&self, width: Width, operand: Operand) -> Result<u32, Refusal> {
         match operand {
             Operand::Register(register) => Ok(self.machine.get(width, register)),
             Operand::Constant(value) => Ok(value),
@@ -192,7 +194,7 @@ impl Work<'_> {
         self.memories.store(self.pointed(XSP), width, value)
     }
 
-    fn pop(&mut self, width: Width) -> Result<u32, u8> {
+    fn pop(&mut self, width: Width) -> Result<u32, Refusal> {
         let value = self.memories.read(self.pointed(XSP), width)?;
         self.machine.shove(Width::Long, XSP, width.bytes() as i64);
         Ok(value)

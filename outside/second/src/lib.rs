@@ -17,7 +17,9 @@
 //!
 //! The numbers are document 01's: 0 done, 7 too many steps, 1 a memory too
 //! long, 2 a state, address or record that breaks its rules, 3 code bytes
-//! missing, 4 a code not listed, 5 an operand missing, 6 a store to ROM.
+//! missing, 4 a code not listed, 5 an operand missing, 6 a store to ROM. To 5
+//! and 6 a step or a run adds the address that K3 names; with any other number
+//! it adds 0.
 
 #![forbid(unsafe_code)]
 
@@ -30,6 +32,7 @@ mod machine;
 mod memory;
 mod program;
 pub mod record;
+mod refusal;
 mod width;
 
 /// The numbers by which a call says how it ended.

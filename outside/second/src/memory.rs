@@ -1,34 +1,60 @@
 //! RAM at the bottom of the addresses, ROM at the top, nothing between.
 
 use crate::decode::decode;
-use crate::machine::ADDRESSES;
+use crate::machine::{address, ADDRESSES};
 use crate::number;
+use crate::refusal::Refusal;
 use crate::width::{gather, scatter, Width};
 use std::ops::Range;
 
 /// How many bytes each memory may have.
 pub const MOST_BYTES: usize = 65_536;
 
-/// Bytes that lie wholly in one of the memories, as places in it.
-enum Part {
-    Ram(Range<usize>),
-    Rom(Range<usize>),
+/// One of the two memories.
+#[derive(Clone, Copy, Debug, PartialEq, Eq)]
+enum Memory {
+    Ram,
+    Rom,
 }
 
-/// Finds `size` bytes (at least one) from an address below 2^24. Bytes past
-/// FFFFFFH would go on at 000000H, which is never in the same memory.
-fn find(ram: &[u8], rom: &[u8], address: u32, size: usize) -> Option<Part> {
-    let first = address as usize;
-    let beyond = first + size;
-    let top = ADDRESSES as usize;
-    let rom_first = top - rom.len();
-    if beyond <= ram.len() {
-        Some(Part::Ram(first..beyond))
-    } else if first >= rom_first && beyond <= top {
-        Some(Part::Rom(first - rom_first..beyond - rom_first))
+/// Bytes that lie wholly in one of the memories, as places in it.
+#[derive(Clone, Debug, PartialEq, Eq)]
+struct Part {
+    memory: Memory,
+    places: Range<usize>,
+}
+
+/// The memory that holds the byte at an address below 2^24, and its place
+/// there.
+fn holder(ram: &[u8], rom: &[u8], at: u32) -> Option<(Memory, usize)> {
+    let place = at as usize;
+    let rom_first = ADDRESSES as usize - rom.len();
+    if place < ram.len() {
+        Some((Memory::Ram, place))
+    } else if place >= rom_first {
+        Some((Memory::Rom, place - rom_first))
     } else {
         None
     }
+}
+
+/// Finds `size` bytes (at least one) from an address on, one by one; after
+/// FFFFFFH comes 000000H. If they are missing, the address that says where:
+/// the first byte's if neither memory holds that, and otherwise that of the
+/// first byte which is not in the first one's memory.
+fn find(ram: &[u8], rom: &[u8], first: u32, size: usize) -> Result<Part, u32> {
+    let (memory, place) = holder(ram, rom, first).ok_or(first)?;
+    for further in 1..size {
+        let at = address(i64::from(first) + further as i64);
+        let other = holder(ram, rom, at).map(|(memory, _)| memory);
+        if other != Some(memory) {
+            return Err(at);
+        }
+    }
+    Ok(Part {
+        memory,
+        places: place..place + size,
+    })
 }
 
 /// Both memories, as a step sees them.
@@ -38,26 +64,36 @@ pub(crate) struct Memories<'a> {
 }
 
 impl Memories<'_> {
-    /// The operand at an address; 5 if it is missing.
-    pub fn read(&self, address: u32, width: Width) -> Result<u32, u8> {
-        match find(self.ram, self.rom, address, width.bytes()) {
-            Some(Part::Ram(part)) => Ok(gather(&self.ram[part])),
-            Some(Part::Rom(part)) => Ok(gather(&self.rom[part])),
-            None => Err(number::MISSING),
+    /// The operand that begins at an address; 5 if it is missing.
+    pub fn read(&self, first: u32, width: Width) -> Result<u32, Refusal> {
+        let part = self.operand(first, width)?;
+        Ok(match part.memory {
+            Memory::Ram => gather(&self.ram[part.places]),
+            Memory::Rom => gather(&self.rom[part.places]),
+        })
+    }
+
+    /// Stores a value from an address on; 5 if there is no room for it, 6 if
+    /// it is ROM, and then at the first byte.
+    pub fn store(&mut self, first: u32, width: Width, value: u32) -> Result<(), Refusal> {
+        let part = self.operand(first, width)?;
+        match part.memory {
+            Memory::Ram => {
+                scatter(value, &mut self.ram[part.places]);
+                Ok(())
+            }
+            Memory::Rom => Err(Refusal {
+                number: number::INTO_ROM,
+                at: first,
+            }),
         }
     }
 
-    /// Stores a value at an address; 5 if there is nothing there, 6 if it is
-    /// ROM.
-    pub fn store(&mut self, address: u32, width: Width, value: u32) -> Result<(), u8> {
-        match find(self.ram, self.rom, address, width.bytes()) {
-            Some(Part::Ram(part)) => {
-                scatter(value, &mut self.ram[part]);
-                Ok(())
-            }
-            Some(Part::Rom(_)) => Err(number::INTO_ROM),
-            None => Err(number::MISSING),
-        }
+    fn operand(&self, first: u32, width: Width) -> Result<Part, Refusal> {
+        find(self.ram, self.rom, first, width.bytes()).map_err(|at| Refusal {
+            number: number::MISSING,
+            at,
+        })
     }
 }
 
@@ -73,9 +109,9 @@ pub(crate) fn check_lengths(ram: &[u8], rom: &[u8]) -> Result<(), u8> {
 /// Everything from an address to the end of the memory that holds it:
 /// the bytes an instruction there may have. Empty if nothing is there.
 pub(crate) fn code_from<'a>(ram: &'a [u8], rom: &'a [u8], address: u32) -> &'a [u8] {
-    match find(ram, rom, address, 1) {
-        Some(Part::Ram(part)) => &ram[part.start..],
-        Some(Part::Rom(part)) => &rom[part.start..],
+    match holder(ram, rom, address) {
+        Some((Memory::Ram, place)) => &ram[place..],
+        Some((Memory::Rom, place)) => &rom[place..],
         None => &[],
     }
 }
@@ -99,4 +135,129 @@ fn instruction_bytes<'a>(ram: &'a [u8], rom: &'a [u8], at: u32) -> Result<&'a [u
     let code = code_from(ram, rom, at);
     let (_, length) = decode(code)?;
     Ok(&code[..length])
+}
+
+#[cfg(test)]
+mod tests {
+    use super::*;
+
+    /// The operands that are missing, worked by hand: how long RAM and ROM
+    /// are, the operand's first byte and its size, and the address.
+    const MISSING: &[(usize, usize, u32, usize, u32)] = &[
+        // The first byte is in neither memory.
+        (0x100, 0x100, 0x00_0100, 1, 0x00_0100),
+        (0x100, 0x100, 0x00_0101, 2, 0x00_0101),
+        (0x100, 0x100, 0x80_0000, 1, 0x80_0000),
+        (0x100, 0x100, 0x80_0000, 2, 0x80_0000),
+        (0x100, 0x100, 0x80_0000, 4, 0x80_0000),
+        (0x100, 0x100, 0xFF_FEFF, 1, 0xFF_FEFF),
+        // Over the end of RAM: a word with 1 byte inside, a long with 3, 2, 1.
+        (0x100, 0x100, 0x00_00FF, 2, 0x00_0100),
+        (0x100, 0x100, 0x00_00FD, 4, 0x00_0100),
+        (0x100, 0x100, 0x00_00FE, 4, 0x00_0100),
+        (0x100, 0x100, 0x00_00FF, 4, 0x00_0100),
+        // RAM is shorter than the operand.
+        (1, 0x100, 0x00_0000, 2, 0x00_0001),
+        (1, 0x100, 0x00_0000, 4, 0x00_0001),
+        (2, 0x100, 0x00_0000, 4, 0x00_0002),
+        (3, 0x100, 0x00_0000, 4, 0x00_0003),
+        // Over the start of ROM from below: the first byte is in neither.
+        (0x100, 0x100, 0xFF_FEFF, 2, 0xFF_FEFF),
+        (0x100, 0x100, 0xFF_FEFD, 4, 0xFF_FEFD),
+        (0x100, 0x100, 0xFF_FEFE, 4, 0xFF_FEFE),
+        (0x100, 0x100, 0xFF_FEFF, 4, 0xFF_FEFF),
+        // Over the top from ROM, with RAM at 000000H and with nothing there.
+        (0x100, 0x100, 0xFF_FFFF, 2, 0x00_0000),
+        (0x100, 0x100, 0xFF_FFFD, 4, 0x00_0000),
+        (0x100, 0x100, 0xFF_FFFE, 4, 0x00_0000),
+        (0x100, 0x100, 0xFF_FFFF, 4, 0x00_0000),
+        (0, 0x100, 0xFF_FFFF, 2, 0x00_0000),
+        (0, 0x100, 0xFF_FFFD, 4, 0x00_0000),
+        // Over the top, with no ROM there: the first byte is in neither.
+        (0x100, 0, 0xFF_FFFF, 1, 0xFF_FFFF),
+        (0x100, 0, 0xFF_FFFF, 2, 0xFF_FFFF),
+        (0x100, 0, 0xFF_FFFD, 4, 0xFF_FFFD),
+        // Over the start of ROM and over the top.
+        (0x100, 1, 0xFF_FFFE, 4, 0xFF_FFFE),
+        (0x100, 2, 0xFF_FFFD, 4, 0xFF_FFFD),
+        (0x100, 1, 0xFF_FFFF, 4, 0x00_0000),
+        (0x100, 2, 0xFF_FFFE, 4, 0x00_0000),
+        // No RAM.
+        (0, 0x100, 0x00_0000, 1, 0x00_0000),
+        (0, 0x100, 0x00_0000, 4, 0x00_0000),
+        (0, 0x100, 0x00_0001, 2, 0x00_0001),
+        (0, 0x100, 0xFF_FEFE, 4, 0xFF_FEFE),
+        // Neither memory.
+        (0, 0, 0x00_0000, 1, 0x00_0000),
+        (0, 0, 0x12_3456, 2, 0x12_3456),
+        (0, 0, 0xFF_FFFF, 1, 0xFF_FFFF),
+        (0, 0, 0xFF_FFFF, 4, 0xFF_FFFF),
+        // As much RAM as there may be, and as much ROM.
+        (0x1_0000, 0x1_0000, 0x00_FFFF, 2, 0x01_0000),
+        (0x1_0000, 0x1_0000, 0x00_FFFD, 4, 0x01_0000),
+        (0x1_0000, 0x1_0000, 0x00_FFFE, 4, 0x01_0000),
+        (0x1_0000, 0x1_0000, 0x00_FFFF, 4, 0x01_0000),
+        (0x1_0000, 0x1_0000, 0x01_0000, 1, 0x01_0000),
+        (0x1_0000, 0x1_0000, 0xFE_FFFF, 2, 0xFE_FFFF),
+        (0x1_0000, 0x1_0000, 0xFF_FFFF, 2, 0x00_0000),
+    ];
+
+    #[test]
+    fn where_an_operand_is_missing() {
+        for &(ram, rom, first, size, at) in MISSING {
+            let found = find(&vec![0; ram], &vec![0; rom], first, size);
+            let row = format!("{size} bytes at {first:06X}, RAM {ram}, ROM {rom}");
+            assert_eq!(found, Err(at), "{row}");
+        }
+    }
+
+    /// The operands that are there, up to the last byte of each memory.
+    #[test]
+    fn where_an_operand_is() {
+        for (ram, rom, first, size, memory, place) in [
+            (1, 0, 0x00_0000, 1, Memory::Ram, 0),
+            (0x100, 0x100, 0x00_00FF, 1, Memory::Ram, 0xFF),
+            (0x100, 0x100, 0x00_00FE, 2, Memory::Ram, 0xFE),
+            (0x100, 0x100, 0x00_00FC, 4, Memory::Ram, 0xFC),
+            (0x1_0000, 0, 0x00_FFFC, 4, Memory::Ram, 0xFFFC),
+            (0, 1, 0xFF_FFFF, 1, Memory::Rom, 0),
+            (0x100, 0x100, 0xFF_FF00, 4, Memory::Rom, 0),
+            (0x100, 0x100, 0xFF_FFFF, 1, Memory::Rom, 0xFF),
+            (0x100, 0x100, 0xFF_FFFE, 2, Memory::Rom, 0xFE),
+            (0x100, 0x100, 0xFF_FFFC, 4, Memory::Rom, 0xFC),
+            (0, 0x1_0000, 0xFF_0000, 4, Memory::Rom, 0),
+        ] {
+            let places = place..place + size;
+            let found = find(&vec![0; ram], &vec![0; rom], first, size);
+            assert_eq!(found, Ok(Part { memory, places }), "{first:06X}");
+        }
+    }
+
+    /// A store that is all in ROM is refused at its first byte; one that is
+    /// only partly there is missing, as a read is.
+    #[test]
+    fn where_a_store_is_refused() {
+        for (first, width, number, at) in [
+            (0xFF_FF00, Width::Byte, 6, 0xFF_FF00),
+            (0xFF_FF00, Width::Word, 6, 0xFF_FF00),
+            (0xFF_FF00, Width::Long, 6, 0xFF_FF00),
+            (0xFF_FF81, Width::Word, 6, 0xFF_FF81),
+            (0xFF_FFFF, Width::Byte, 6, 0xFF_FFFF),
+            (0xFF_FFFE, Width::Word, 6, 0xFF_FFFE),
+            (0xFF_FFFC, Width::Long, 6, 0xFF_FFFC),
+            (0xFF_FFFF, Width::Word, 5, 0x00_0000),
+            (0xFF_FFFD, Width::Long, 5, 0x00_0000),
+            (0xFF_FEFF, Width::Word, 5, 0xFF_FEFF),
+            (0x00_00FF, Width::Word, 5, 0x00_0100),
+        ] {
+            let (mut ram, rom) = ([0x11; 0x100], [0x22; 0x100]);
+            let mut memories = Memories {
+                ram: &mut ram,
+                rom: &rom,
+            };
+            let refused = memories.store(first, width, 0x3333_3333);
+            assert_eq!(refused, Err(Refusal { number, at }), "{first:06X}");
+            assert_eq!(ram, [0x11; 0x100]);
+        }
+    }
 }

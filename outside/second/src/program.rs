@@ -41,7 +41,7 @@ pub fn line(image: &[u8]) -> String {
     if number != number::DONE {
         return refused(number);
     }
-    let (steps, number) = run(&mut machine, &mut ram, image, PROGRAM_STEPS);
+    let (steps, number, _) = run(&mut machine, &mut ram, image, PROGRAM_STEPS);
     let counter = machine.counter;
     let status = machine.status();
     let registers: String = (0..8)

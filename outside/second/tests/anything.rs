@@ -2,7 +2,7 @@
 
 mod common;
 
-use common::{rom_start, step_once, Chance};
+use common::{rom_start, step_at, step_once, Chance};
 use second::{run, show, Machine, Width};
 
 /// Pointers that mostly point at something.
@@ -72,9 +72,9 @@ fn any_run_is_its_steps() {
         let steps = chance.below(30);
         let (mut other, mut other_ram) = (machine.clone(), ram.clone());
         let ended = run(&mut machine, &mut ram, &rom, steps);
-        let mut counted = (0, 0);
+        let mut counted = (0, 0, 0);
         while counted.0 < steps {
-            counted.1 = step_once(&mut other, &mut other_ram, &rom);
+            (counted.1, counted.2) = step_at(&mut other, &mut other_ram, &rom);
             if counted.1 != 0 {
                 break;
             }

@@ -29,11 +29,11 @@ fn a_count_of_0_is_65536_rounds() {
     let before = ram.clone();
     machine.f = 0xD7;
     let start = machine.counter;
-    assert_eq!(run(&mut machine, &mut ram, &rom, 65_535), (65_535, 0));
+    assert_eq!(run(&mut machine, &mut ram, &rom, 65_535), (65_535, 0, 0));
     assert_eq!(machine.counter, start);
     assert_eq!(machine.get(Width::Word, BC), 1);
     assert_eq!(machine.f, 0xC5);
-    assert_eq!(run(&mut machine, &mut ram, &rom, 1), (1, 0));
+    assert_eq!(run(&mut machine, &mut ram, &rom, 1), (1, 0, 0));
     assert_eq!(machine.counter, 0, "past the last bytes of ROM");
     assert_eq!(machine.get(Width::Word, BC), 0);
     assert_eq!(machine.get(Width::Long, XHL), 65_536);
@@ -47,7 +47,7 @@ fn a_compare_with_a_count_of_0_goes_through_65536_bytes() {
     let (mut machine, rom) = at_block([0x83, CPIR], &[], 0);
     machine.set(Width::Byte, A, 1);
     let mut ram = vec![0; 65_536];
-    assert_eq!(run(&mut machine, &mut ram, &rom, 65_536), (65_536, 0));
+    assert_eq!(run(&mut machine, &mut ram, &rom, 65_536), (65_536, 0, 0));
     assert_eq!(machine.counter, 0);
     assert_eq!(machine.get(Width::Long, XHL), 65_536);
     assert_eq!(machine.f, 0x02);
@@ -107,7 +107,7 @@ fn overlapping_copies() {
         let count = 9 - distance;
         let (mut machine, rom) = at_block([0x85, kind], &[(XIY, source), (XIX, target)], count);
         let mut ram = text.clone();
-        assert_eq!(run(&mut machine, &mut ram, &rom, count), (count, 0));
+        assert_eq!(run(&mut machine, &mut ram, &rom, count), (count, 0, 0));
         assert_eq!(ram, wanted, "{kind:02X} from {source} to {target}");
     }
 }
@@ -117,7 +117,7 @@ fn overlapping_copies() {
 fn overlapping_words() {
     let (mut machine, rom) = at_block([0x93, LDIR], &[(XHL, 0), (XDE, 1)], 3);
     let mut ram = [1, 2, 3, 4, 5, 6, 7, 8];
-    assert_eq!(run(&mut machine, &mut ram, &rom, 3), (3, 0));
+    assert_eq!(run(&mut machine, &mut ram, &rom, 3), (3, 0, 0));
     // 1 2 goes over 2 3; then 2 4 over 4 5; then 4 6 over 6 7.
     assert_eq!(ram, [1, 1, 2, 2, 4, 4, 6, 8]);
 }
@@ -130,7 +130,10 @@ fn a_compare_ends_past_its_match() {
         machine.set(Width::Byte, A, 0x33);
         let mut ram = vec![0; 16];
         ram[place as usize] = 0x33;
-        assert_eq!(run(&mut machine, &mut ram, &rom, place + 1), (place + 1, 0));
+        assert_eq!(
+            run(&mut machine, &mut ram, &rom, place + 1),
+            (place + 1, 0, 0)
+        );
         assert_eq!(machine.counter, 0);
         assert_eq!(machine.get(Width::Long, XIX), place + 1);
         assert_eq!(machine.get(Width::Word, BC), 99 - place);
@@ -147,7 +150,7 @@ fn pointers_go_round_at_32_bits() {
     let mut machine = at(rom_start(&rom), &[(XHL, 0xFFFF_FFFE)]);
     machine.set(Width::Word, BC, 100);
     machine.set(Width::Byte, A, 0x33);
-    assert_eq!(run(&mut machine, &mut ram, &rom, 5), (5, 0));
+    assert_eq!(run(&mut machine, &mut ram, &rom, 5), (5, 0, 0));
     assert_eq!(machine.get(Width::Long, XHL), 3);
 
     // Downward from 0, then from the top on.
@@ -155,7 +158,7 @@ fn pointers_go_round_at_32_bits() {
     let mut machine = at(rom_start(&rom), &[(XHL, 0)]);
     machine.set(Width::Word, BC, 2);
     machine.set(Width::Byte, A, 0x33);
-    assert_eq!(run(&mut machine, &mut ram, &rom, 2), (2, 0));
+    assert_eq!(run(&mut machine, &mut ram, &rom, 2), (2, 0, 0));
     assert_eq!(machine.get(Width::Long, XHL), 0xFFFF_FFFE);
 
     // At 24 bits the pointer itself does not go round.
@@ -177,7 +180,10 @@ fn a_repeat_stops_before_the_round_it_cannot_do() {
     // 65,536 words are asked for, 32,768 are there.
     let (mut machine, rom) = at_block([0x93, LDIR], &[(XHL, 0), (XDE, 0)], 0);
     let mut ram = vec![0x55; 65_536];
-    assert_eq!(run(&mut machine, &mut ram, &rom, 40_000), (32_768, 5));
+    assert_eq!(
+        run(&mut machine, &mut ram, &rom, 40_000),
+        (32_768, 5, 0x1_0000)
+    );
     assert_eq!(machine.get(Width::Word, BC), 32_768);
     assert_eq!(machine.get(Width::Long, XHL), 65_536);
     assert_eq!(machine.get(Width::Long, XDE), 65_536);
@@ -186,7 +192,7 @@ fn a_repeat_stops_before_the_round_it_cannot_do() {
     // Downward off the bottom: the target after 0 is the top of ROM.
     let (mut machine, rom) = at_block([0x83, LDDR], &[(XHL, 8), (XDE, 2)], 9);
     let mut ram = [1, 2, 3, 4, 5, 6, 7, 8, 9];
-    assert_eq!(run(&mut machine, &mut ram, &rom, 9), (3, 6));
+    assert_eq!(run(&mut machine, &mut ram, &rom, 9), (3, 6, 0xFF_FFFF));
     assert_eq!(ram, [7, 8, 9, 4, 5, 6, 7, 8, 9]);
     assert_eq!(machine.get(Width::Word, BC), 6);
     assert_eq!(machine.get(Width::Long, XDE), 0xFFFF_FFFF);
@@ -195,7 +201,7 @@ fn a_repeat_stops_before_the_round_it_cannot_do() {
     // A compare off the end of RAM.
     let (mut machine, rom) = at_block([0x83, CPIR], &[(XHL, 0)], 0);
     machine.set(Width::Byte, A, 1);
-    assert_eq!(run(&mut machine, &mut [0; 5], &rom, 100), (5, 5));
+    assert_eq!(run(&mut machine, &mut [0; 5], &rom, 100), (5, 5, 5));
     assert_eq!(machine.get(Width::Long, XHL), 5);
     assert_eq!(machine.get(Width::Word, BC), 0x1_0000 - 5);
 }
@@ -211,7 +217,7 @@ fn a_copy_over_itself() {
     assert_eq!(machine.counter, 0);
     assert_eq!(ram, [0x00, LDIR, 0x00, 0x00]);
     // 00 is NOP, 11 is SCF, then the two NOPs.
-    assert_eq!(run(&mut machine, &mut ram, &[], 9), (4, 3));
+    assert_eq!(run(&mut machine, &mut ram, &[], 9), (4, 3, 0));
     assert_eq!(machine.f, 0x05);
     assert_eq!(machine.get(Width::Word, BC), 1);
 }

@@ -2,7 +2,7 @@
 
 mod common;
 
-use common::{at, memory, rom_start, step_once, A, LENGTHS, WA, XBC, XHL, XIX, XSP, XWA};
+use common::{at, memory, rom_start, step_at, step_once, A, LENGTHS, WA, XBC, XHL, XIX, XSP, XWA};
 use second::record::register;
 use second::{reset, run, show, Machine, Width};
 
@@ -29,6 +29,17 @@ fn whole_holder(ram: &[u8], rom: &[u8], address: u32, size: u32) -> Option<&'sta
         first
     } else {
         None
+    }
+}
+
+/// The address that goes with a number, by the ends of the memories: what
+/// begins in RAM goes on past the end of RAM, what begins in ROM past the top.
+fn told_address(ram: &[u8], rom: &[u8], first: u32, number: u8) -> u32 {
+    match (number, holder(ram, rom, first)) {
+        (5, Some("RAM")) => ram.len() as u32,
+        (5, Some(_)) => 0,
+        (5 | 6, _) => first,
+        _ => 0,
     }
 }
 
@@ -85,11 +96,12 @@ fn operands_over_the_ends() {
                             Some("ROM") if code != load => 6,
                             Some(_) => 0,
                         };
+                        let wanted = (wanted, told_address(&ram, &rom, address, wanted));
                         let mut fresh = ram.clone();
                         let mut machine = at(counter, &[(XIX, address | 0x5500_0000)]);
-                        let number = step_once(&mut machine, &mut fresh, &rom);
+                        let ended = step_at(&mut machine, &mut fresh, &rom);
                         assert_eq!(
-                            number, wanted,
+                            ended, wanted,
                             "{code:02X?} at {address:06X}, RAM {ram_length}, ROM {rom_length}"
                         );
                         tried += 1;
@@ -293,7 +305,7 @@ fn the_shortest_memories() {
     assert_eq!(show(&[], &[0x00], 0xFF_FFFE).1, 3);
     let mut machine = at(0xFF_FFFF, &[]);
     // NOP in ROM, NOP in RAM, then nothing.
-    assert_eq!(run(&mut machine, &mut [0x00], &[0x00], 9), (2, 3));
+    assert_eq!(run(&mut machine, &mut [0x00], &[0x00], 9), (2, 3, 0));
     assert_eq!(machine.counter, 1);
 }
 
@@ -304,7 +316,7 @@ fn each_step_fetches_afresh() {
     // LD (XIX),W puts 0C (INCF) over the first byte of what follows.
     let mut ram = [0xB4, 0x40, 0x01];
     let mut machine = at(0, &[(XIX, 2), (XWA, 0x0C00)]);
-    assert_eq!(run(&mut machine, &mut ram, &[], 5), (2, 3));
+    assert_eq!(run(&mut machine, &mut ram, &[], 5), (2, 3, 0));
     assert_eq!(machine.bank, 1);
     // And over itself.
     let mut ram = [0xB4, 0x50, 0x00];
@@ -372,7 +384,7 @@ fn registers_go_round_in_their_bank() {
         machine.set(Width::Long, XHL, 0xFFFF_FFFF);
         machine.f = 0xD7;
         let mut ram = [0xD9, 0x69, 0xEB, 0x61]; // DEC 1,BC; INC 1,XHL
-        assert_eq!(run(&mut machine, &mut ram, &[], 2), (2, 0));
+        assert_eq!(run(&mut machine, &mut ram, &[], 2), (2, 0, 0));
         assert_eq!(machine.get(Width::Long, XBC), 0x0001_FFFF);
         assert_eq!(machine.get(Width::Long, XHL), 0);
         assert_eq!(machine.f, 0xD7);

@@ -9,7 +9,7 @@ fn check(example: &Example) {
     let wanted = example.end();
     let mut machine = Machine::from_record(&scene.record).expect(&label);
     let ended = run(&mut machine, &mut scene.ram, &scene.rom, example.steps);
-    assert_eq!(ended, (example.steps, 0), "{label}");
+    assert_eq!(ended, (example.steps, 0, 0), "{label}");
     assert_eq!(
         Machine::from_record(&wanted.record).as_ref(),
         Ok(&machine),
@@ -70,8 +70,10 @@ fn the_code_may_lie_in_rom() {
         rom[first..first + example.code.len()].copy_from_slice(&example.code);
         in_rom.counter += 0xFF_0000;
         for _ in 0..example.steps {
-            assert_eq!(step(&mut in_ram, &mut scene.ram, &scene.rom), 0);
-            assert_eq!(step(&mut in_rom, &mut ram, &rom), 0, "{}", example.name);
+            let done = step(&mut in_ram, &mut scene.ram, &scene.rom);
+            assert_eq!(done, (0, 0), "{}", example.name);
+            let done = step(&mut in_rom, &mut ram, &rom);
+            assert_eq!(done, (0, 0), "{}", example.name);
         }
         let jumps = matches!(example.code[0], 0x0E | 0x1A..=0x1D);
         let calls = matches!(example.code[0], 0x1C..=0x1E);

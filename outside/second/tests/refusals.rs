@@ -39,8 +39,8 @@ fn number_7_first() {
             let mut after = machine.clone();
             let mut ram = vec![0; length];
             let ended = run(&mut after, &mut ram, &[], MOST_STEPS + 1);
-            assert_eq!(ended, (0, 7));
-            assert_eq!(run(&mut after, &mut ram, &[], u32::MAX), (0, 7));
+            assert_eq!(ended, (0, 7, 0));
+            assert_eq!(run(&mut after, &mut ram, &[], u32::MAX), (0, 7, 0));
             assert_eq!(after, machine);
             assert!(ram.iter().all(|&byte| byte == 0));
         }
@@ -53,7 +53,7 @@ fn exactly_a_million_steps_may_be_asked_for() {
     // JR to itself.
     let mut ram = [0x68, 0xFE];
     let ended = run(&mut machine, &mut ram, &[], MOST_STEPS);
-    assert_eq!(ended, (MOST_STEPS, 0));
+    assert_eq!(ended, (MOST_STEPS, 0, 0));
     assert_eq!(machine, Machine::zero());
 }
 
@@ -65,8 +65,8 @@ fn number_1_before_2() {
             let mut ram = ram.to_vec();
             let mut after = machine.clone();
             assert_eq!(step_once(&mut after, &mut ram, rom), 1);
-            assert_eq!(run(&mut after, &mut ram, rom, 0), (0, 1));
-            assert_eq!(run(&mut after, &mut ram, rom, 5), (0, 1));
+            assert_eq!(run(&mut after, &mut ram, rom, 0), (0, 1, 0));
+            assert_eq!(run(&mut after, &mut ram, rom, 5), (0, 1, 0));
             assert_eq!(after, machine);
             assert_eq!(show(&ram, rom, 0), (&[][..], 1));
             assert_eq!(show(&ram, rom, u32::MAX), (&[][..], 1));
@@ -83,8 +83,8 @@ fn number_2_before_3_and_4() {
             let mut ram = code.to_vec();
             let mut after = machine.clone();
             assert_eq!(step_once(&mut after, &mut ram, &[]), 2);
-            assert_eq!(run(&mut after, &mut ram, &[], 0), (0, 2));
-            assert_eq!(run(&mut after, &mut ram, &[], 9), (0, 2));
+            assert_eq!(run(&mut after, &mut ram, &[], 0), (0, 2, 0));
+            assert_eq!(run(&mut after, &mut ram, &[], 9), (0, 2, 0));
             assert_eq!(after, machine);
         }
     }
@@ -268,14 +268,14 @@ fn a_run_stops_before_the_refused_step() {
     let code = [0x21, 0x05, 0x61, 0x00, 0x01]; // LD A,5; JR LT,..; not listed
     let mut ram = code.to_vec();
     let mut machine = Machine::zero();
-    assert_eq!(run(&mut machine, &mut ram, &[], 100), (2, 4));
+    assert_eq!(run(&mut machine, &mut ram, &[], 100), (2, 4, 0));
     assert_eq!(machine.counter, 4);
     assert_eq!(machine.get(Width::Byte, A), 5);
-    assert_eq!(run(&mut machine, &mut ram, &[], 100), (0, 4));
-    assert_eq!(run(&mut machine, &mut ram, &[], 0), (0, 0));
+    assert_eq!(run(&mut machine, &mut ram, &[], 100), (0, 4, 0));
+    assert_eq!(run(&mut machine, &mut ram, &[], 0), (0, 0, 0));
 
     let mut machine = Machine::zero();
-    assert_eq!(run(&mut machine, &mut ram, &[], 1), (1, 0));
+    assert_eq!(run(&mut machine, &mut ram, &[], 1), (1, 0, 0));
     assert_eq!(machine.counter, 2);
 }
 
@@ -294,6 +294,10 @@ fn a_jump_to_nowhere_is_done() {
     for &code in jumps {
         let mut ram = memory(0x40, code);
         let mut machine = at(0, &[(XSP, 0x40)]);
-        assert_eq!(run(&mut machine, &mut ram, &[], 2), (1, 3), "{code:02X?}");
+        assert_eq!(
+            run(&mut machine, &mut ram, &[], 2),
+            (1, 3, 0),
+            "{code:02X?}"
+        );
     }
 }

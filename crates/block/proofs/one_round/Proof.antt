@@ -1,7 +1,7 @@
 use mathlib.Core.Path.{ap, sym, _∙_}
 use Rattle.state.specs.inner.Lent.{bankedWith}
 use Rattle.operand.specs.Try.{leaves}
-use Rattle.block.proofs.Rounds.{round-copies, round-compares, round-refused}
+use Rattle.block.proofs.Rounds.{round-copies, round-compares, round-missing}
 use borrow.Author.Needs.{needs}
 use Rattle.block.proofs.one_round.Statement.{statement}
 use Rattle.block.proofs.one_round.Tie as tie
@@ -32,8 +32,8 @@ returns c rest =
 compared-requires : tie.Need-compared-requires
 compared-requires c κs = search needs
 
-enum-known-w : tie.Need-enum-known-w
-enum-known-w c = search needs
+enum-known-a : tie.Need-enum-known-a
+enum-known-a c = search needs
 
 same-length-2 : tie.Need-same-length-2
 same-length-2 c = search needs
@@ -53,8 +53,8 @@ returns-3 : tie.Need-returns-3
 returns-3 c rest =
     let a = c .before .before .before .before .before .before .before .before .before .args in
     let s = bankedWith rest (a .regs .now) (a .bank) (a .flags .now) in
-    let e = sym (rw (c .before .before .before .before .pointer .ensures) at (c .before .before .before .load .ensures)) ∙ c .before .w .given .1 in
-    ap (leaves s (a .ram .now)) (sym (round-refused (a .f) s (a .ram .now) (a .rom .now) (c .before .w .given .0 .0) e))
+    let e = sym (rw (c .before .before .before .before .pointer .ensures) at (c .before .before .before .load .ensures)) ∙ c .before .a .given .1 in
+    ap (leaves s (a .ram .now)) (sym (round-missing (a .f) s (a .ram .now) (a .rom .now) (c .before .a .given .0 .0) e))
 
 pub one-round-spec : {M : Type 1} → statement M
 one-round-spec =
@@ -67,7 +67,7 @@ one-round-spec =
     same-length
     returns
     compared-requires
-    enum-known-w
+    enum-known-a
     same-length-2
     returns-2
     same-length-3

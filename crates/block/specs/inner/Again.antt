@@ -10,7 +10,7 @@ use Rattle.block.specs.Block.{goesOn}
 abbrev pub inRom : Place → Bool
 inRom (Ram o) = false
 inRom (Rom o) = true
-inRom Missing = false
+inRom (Missing x) = false
 
 -- a form goes on, its code stays as it is, and there are steps left for it
 abbrev pub againOf : Form → Bool → ℕ → State → Bool

@@ -62,8 +62,8 @@ part-read-end-2 c = rom-fits _ _ _ _ _ (is-rom (c .before)) .1
 read-requires-2 : tie.Need-read-requires-2
 read-requires-2 c κs = search needs
 
-enum-told : tie.Need-enum-told
-enum-told c = search needs
+enum-known-a : tie.Need-enum-known-a
+enum-known-a c = search needs
 
 returns : tie.Need-returns
 returns c =
@@ -83,8 +83,9 @@ returns-2 c =
 
 returns-3 : tie.Need-returns-3
 returns-3 c =
-    let a = c .before .before .before .before .before .args in
-    ap (λ (p : Place). loadFrom p (a .ram .now) (a .rom .now) (a .n)) (sym (sym (c .before .before .find .ensures) ∙ c .enum-told .given .1))
+    let k = c .before in
+    let a = k .before .before .before .before .before .args in
+    ap (λ (p : Place). loadFrom p (a .ram .now) (a .rom .now) (a .n)) (sym (sym (k .before .before .find .ensures) ∙ k .a .given .1))
 
 pub load-bytes-spec : {M : Type 1} → statement M
 load-bytes-spec =
@@ -103,7 +104,7 @@ load-bytes-spec =
     part-read-start-2
     part-read-end-2
     read-requires-2
-    enum-told
+    enum-known-a
     returns
     returns-2
     returns-3)

@@ -39,8 +39,8 @@ write-requires c κs = search needs
 enum-told : tie.Need-enum-told
 enum-told c = search needs
 
-enum-told-2 : tie.Need-enum-told-2
-enum-told-2 c = search needs
+enum-known-a : tie.Need-enum-known-a
+enum-known-a c = search needs
 
 same-length : tie.Need-same-length
 same-length c = search needs
@@ -57,7 +57,7 @@ returns-2 : tie.Need-returns-2
 returns-2 c = rw (sym (c .before .before .find .ensures) ∙ c .enum-told .given .1) (refl, refl)
 
 returns-3 : tie.Need-returns-3
-returns-3 c = rw (sym (c .before .before .find .ensures) ∙ c .enum-told2 .given .1) (refl, refl)
+returns-3 c = rw (sym (c .before .before .before .find .ensures) ∙ c .before .a .given .1) (refl, refl)
 
 pub store-bytes-spec : {M : Type 1} → statement M
 store-bytes-spec =
@@ -71,7 +71,7 @@ store-bytes-spec =
     part-write-end
     write-requires
     enum-told
-    enum-told-2
+    enum-known-a
     same-length
     returns
     returns-2

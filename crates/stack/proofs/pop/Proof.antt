@@ -21,8 +21,8 @@ popped-requires c κs = search needs
 write-requires : tie.Need-write-requires
 write-requires c κs = search needs
 
-enum-known-w : tie.Need-enum-known-w
-enum-known-w c = search needs
+enum-known-a : tie.Need-enum-known-a
+enum-known-a c = search needs
 
 returns : tie.Need-returns
 returns c rest =
@@ -37,7 +37,7 @@ returns-2 c rest =
     let a = c .before .before .before .before .before .before .before .before .args in
     let s = banked rest (a .regs .now) (a .bank) in
     let e = rw (c .before .before .before .before .pointer .ensures) at (c .before .before .before .load .ensures) in
-    sym (not-popped s (a .ram .now) (a .rom .now) (a .size) (λ t v. setRegister t (a .size) (a .code) v) (c .before .w .given .0 .0) (sym e ∙ c .before .w .given .1))
+    sym (not-popped s (a .ram .now) (a .rom .now) (a .size) (λ t v. setRegister t (a .size) (a .code) v) (c .before .a .given .0 .0) (sym e ∙ c .before .a .given .1))
 
 pub pop-spec : {M : Type 1} → statement M
 pop-spec =
@@ -48,6 +48,6 @@ pop-spec =
     enum-known-v
     popped-requires
     write-requires
-    enum-known-w
+    enum-known-a
     returns
     returns-2)

@@ -32,8 +32,8 @@ unpack-requires c κs = search needs
 pack-requires : tie.Need-pack-requires
 pack-requires c κs = search needs
 
-enum-known-w : tie.Need-enum-known-w
-enum-known-w c = search needs
+enum-known-a : tie.Need-enum-known-a
+enum-known-a c = search needs
 
 returns : tie.Need-returns
 unfolding withFlags withBothFlags
@@ -53,7 +53,7 @@ returns-2 c rest =
     let f = a .flags .now in
     let s = bankedWith rest (a .regs .now) (a .bank) f in
     let e = rw (c .before .before .before .before .pointer .ensures) at (c .before .before .before .load .ensures) in
-    sym (not-popped s (a .ram .now) (a .rom .now) Byte (λ t x. withFlags t (byteOf (flagsOf x))) (c .before .w .given .0 .0) (sym e ∙ c .before .w .given .1))
+    sym (not-popped s (a .ram .now) (a .rom .now) Byte (λ t x. withFlags t (byteOf (flagsOf x))) (c .before .a .given .0 .0) (sym e ∙ c .before .a .given .1))
 
 pub pop-f-spec : {M : Type 1} → statement M
 pop-f-spec =
@@ -66,6 +66,6 @@ pop-f-spec =
     popped-requires
     unpack-requires
     pack-requires
-    enum-known-w
+    enum-known-a
     returns
     returns-2)

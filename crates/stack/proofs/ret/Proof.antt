@@ -22,8 +22,8 @@ enum-known-v c = search needs
 popped-requires : tie.Need-popped-requires
 popped-requires c κs = search needs
 
-enum-known-w : tie.Need-enum-known-w
-enum-known-w c = search needs
+enum-known-a : tie.Need-enum-known-a
+enum-known-a c = search needs
 
 returns : tie.Need-returns
 unfolding withCounter
@@ -42,7 +42,7 @@ returns-2 c rest =
     let counter = a .counter .now in
     let s = bankedAt rest (a .regs .now) (a .bank) counter in
     let e = rw (c .before .before .before .before .pointer .ensures) at (c .before .before .before .load .ensures) in
-    sym (not-popped s (a .ram .now) (a .rom .now) Long withCounter (c .before .w .given .0 .0) (sym e ∙ c .before .w .given .1))
+    sym (not-popped s (a .ram .now) (a .rom .now) Long withCounter (c .before .a .given .0 .0) (sym e ∙ c .before .a .given .1))
 
 pub ret-spec : {M : Type 1} → statement M
 ret-spec =
@@ -52,6 +52,6 @@ ret-spec =
     load-requires
     enum-known-v
     popped-requires
-    enum-known-w
+    enum-known-a
     returns
     returns-2)

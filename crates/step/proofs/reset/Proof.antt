@@ -29,8 +29,8 @@ at-reset-requires c κs = search needs
 done-requires : tie.Need-done-requires
 done-requires c κs = search needs
 
-enum-known-w : tie.Need-enum-known-w
-enum-known-w c = search needs
+enum-known-a : tie.Need-enum-known-a
+enum-known-a c = search needs
 
 zero-requires-2 : tie.Need-zero-requires-2
 zero-requires-2 c κs = search needs
@@ -48,7 +48,7 @@ returns-3 : tie.Need-returns-3
 unfolding resetOf
 returns-3 c =
     c .refuse2 .ensures
-    ∙ rw (sym (c .before .before .before .before .before .before .before .too-long .ensures) ∙ c .before .before .before .before .before .before .if1 .left, sym (c .before .before .before .before .before .load .ensures) ∙ c .before .before .before .w .given .1, c .before .zero2 .ensures) refl
+    ∙ rw (sym (c .before .before .before .before .before .before .before .too-long .ensures) ∙ c .before .before .before .before .before .before .if1 .left, sym (c .before .before .before .before .before .load .ensures) ∙ c .before .before .before .a .given .1, c .before .zero2 .ensures) refl
 
 pub reset-spec : {M : Type 1} → statement M
 reset-spec =
@@ -62,7 +62,7 @@ reset-spec =
     enum-known-v
     at-reset-requires
     done-requires
-    enum-known-w
+    enum-known-a
     zero-requires-2
     refuse-requires-2
     returns-2

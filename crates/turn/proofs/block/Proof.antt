@@ -9,7 +9,8 @@ use Rattle.memory.specs.Access.{codeAt}
 use Rattle.state.specs.State.{zeroState}
 use Rattle.state.specs.inner.Lent.{bankedWith, bankedAtWith, standingAt}
 use Rattle.state.specs.declared.State.{State}
-use Rattle.answer.specs.declared.Answer.the-variants.{Done, Refused}
+use Rattle.answer.specs.declared.Answer.{Answer}
+use Rattle.answer.specs.declared.Answer.the-variants.{Done}
 use Rattle.block.specs.Block.{goesOn, endsAt}
 use Rattle.operand.specs.Try.{did, leaves, after}
 use Rattle.turn.specs.inner.Times.{timesOf}
@@ -58,39 +59,40 @@ loop-holds c = (omega arith, refl, refl, refl, refl, λ rest. rw (sub-self (c .b
 round-requires : tie.Need-round-requires Inv-loop μ-loop
 round-requires c κs = search needs
 
-enum-known-a : tie.Need-enum-known-a Inv-loop μ-loop
-enum-known-a c = search needs
+enum-told : tie.Need-enum-told Inv-loop μ-loop
+enum-told c = search needs
 
 same-length : tie.Need-same-length Inv-loop μ-loop
-same-length c = c .before .before .before .before .before .before .before .round .kept .1 .1 .1 .1 .0 ∙ c .before .before .before .before .before .before .before .before .before .before .before .loop .inv .3
+same-length c = c .before .before .before .before .before .before .round .kept .1 .1 .1 .1 .0 ∙ c .before .before .before .before .before .before .before .before .before .before .loop .inv .3
 
 returns : tie.Need-returns Inv-loop μ-loop
 returns c = (
-  c .before .before .before .before .before .before .before .before .before .before .before .loop .inv .1,
+  rw (c .before .before .enum-told .given .1) (c .before .before .before .before .before .before .before .before .before .before .loop .inv .1),
   λ rest.
-      let a = c .before .before .before .before .before .before .before .before .before .before .before .before .before .before .before .before .args in
-      let l = c .before .before .before .before .before .before .before .before .before .before .before .loop in
-      let r = c .before .before .before .before .before .before .before .round in
+      let a = c .before .before .before .before .before .before .before .before .before .before .before .before .before .before .before .args in
+      let l = c .before .before .before .before .before .before .before .before .before .before .loop in
+      let r = c .before .before .before .before .before .before .round in
       let z : a .more .now - l .left ≡ 0 = let t = c .if1 .taken in let i = l .inv .1 in omega (arith, t, i) in
       let y : a .more .now - l .left ≡ a .more .now - l .more = let t = c .if1 .taken in omega (arith, t) in
       let s = bankedAtWith rest (a .regs .now) (a .bank) (a .counter .now) (a .flags .now) in
-      ap (λ (x : ℕ). after (Refused (c .before .before .before .a .given .0 .0)) (bankedAtWith rest (r .last .1 .1 .1 .0) (a .bank) x (r .last .1 .1 .0)) (r .last .1 .1 .1 .1 .0)) (l .inv .2)
-      ∙ first-not (a .f) (a .at) (a .counter .now) (a .bank) rest (a .ram .now) (a .rom .now) (bankedAtWith rest (a .regs .now) (a .bank) (a .at) (a .flags .now)) (c .before .before .before .before .before .before .before .before .before .before .before .before .before .before .before .before .pre) (a .more .now - l .left) (l .regs) (l .flags) (l .ram) (l .inv .4) (l .inv .5 rest) (r .result) (r .last .1 .1 .1 .0) (r .last .1 .1 .0) (r .last .1 .1 .1 .1 .0) (r .ensures (standingAt rest (a .counter .now)))
-      (c .before .before .before .a .given .0 .0) (c .before .before .before .a .given .1) (a .regs .now) (a .flags .now) refl z
+      ap (λ (x : ℕ). after (r .result) (bankedAtWith rest (r .last .1 .1 .1 .0) (a .bank) x (r .last .1 .1 .0)) (r .last .1 .1 .1 .1 .0)) (l .inv .2)
+      ∙ ap (λ (x : Answer). after x (bankedAtWith rest (r .last .1 .1 .1 .0) (a .bank) (a .counter .now) (r .last .1 .1 .0)) (r .last .1 .1 .1 .1 .0)) (c .before .before .enum-told .given .1)
+      ∙ first-not (a .f) (a .at) (a .counter .now) (a .bank) rest (a .ram .now) (a .rom .now) (bankedAtWith rest (a .regs .now) (a .bank) (a .at) (a .flags .now)) (c .before .before .before .before .before .before .before .before .before .before .before .before .before .before .before .pre) (a .more .now - l .left) (l .regs) (l .flags) (l .ram) (l .inv .4) (l .inv .5 rest) (r .result) (r .last .1 .1 .1 .0) (r .last .1 .1 .0) (r .last .1 .1 .1 .1 .0) (r .ensures (standingAt rest (a .counter .now)))
+      (c .before .before .enum-told .given .0 .0) (c .before .before .enum-told .given .1) (a .regs .now) (a .flags .now) refl z
       ∙ ap (λ (x : ℕ). leaves s (a .ram .now) (timesOf (suc x) (bankedAtWith rest (a .regs .now) (a .bank) (a .at) (a .flags .now)) (a .ram .now) (a .rom .now))) y,
 )
 
 add-more : tie.Need-add-more Inv-loop μ-loop
-add-more c = let h = c .before .before .before .before .before .before .before .before .before .before .before .loop .inv .0 in let i = c .before .before .before .before .before .before .before .before .before .before .before .loop .inv .1 in let f = c .if1 .left in omega (arith, h, i, f)
+add-more c = let h = c .before .before .before .before .before .before .before .before .before .before .loop .inv .0 in let i = c .before .before .before .before .before .before .before .before .before .before .loop .inv .1 in let f = c .if1 .left in omega (arith, h, i, f)
 
 same-length-2 : tie.Need-same-length-2 Inv-loop μ-loop
-same-length-2 c = c .before .before .before .before .before .before .before .round .kept .1 .1 .1 .1 .0 ∙ c .before .before .before .before .before .before .before .before .before .before .before .loop .inv .3
+same-length-2 c = c .before .before .before .before .before .before .round .kept .1 .1 .1 .1 .0 ∙ c .before .before .before .before .before .before .before .before .before .before .loop .inv .3
 
 returns-2 : tie.Need-returns-2 Inv-loop μ-loop
 returns-2 c =
-    let a = c .before .before .before .before .before .before .before .before .before .before .before .before .before .before .before .before .args in
-    let l = c .before .before .before .before .before .before .before .before .before .before .before .loop in
-    let r = c .before .before .before .before .before .before .before .round in
+    let a = c .before .before .before .before .before .before .before .before .before .before .before .before .before .before .before .args in
+    let l = c .before .before .before .before .before .before .before .before .before .before .loop in
+    let r = c .before .before .before .before .before .before .round in
     let h = l .inv .0 in
     let i = l .inv .1 in
     let n = c .if1 .left in
@@ -99,13 +101,13 @@ returns-2 c =
       λ rest.
           let s = bankedAtWith rest (a .regs .now) (a .bank) (a .at) (a .flags .now) in
           let p = bankedAtWith rest (a .regs .now) (a .bank) (a .counter .now) (a .flags .now) in
-          later-not (a .f) (a .at) (a .counter .now) (a .bank) rest (a .ram .now) (a .rom .now) s (c .before .before .before .before .before .before .before .before .before .before .before .before .before .before .before .before .pre) (a .more .now - l .left) (l .regs) (l .flags) (l .ram) (l .inv .4) (l .inv .5 rest) (r .result) (r .last .1 .1 .1 .0) (r .last .1 .1 .0) (r .last .1 .1 .1 .1 .0) (r .ensures (standingAt rest (a .counter .now)))
-          (c .before .before .before .a .given .0 .0) (c .before .before .before .a .given .1) p
+          later-not (a .f) (a .at) (a .counter .now) (a .bank) rest (a .ram .now) (a .rom .now) s (c .before .before .before .before .before .before .before .before .before .before .before .before .before .before .before .pre) (a .more .now - l .left) (l .regs) (l .flags) (l .ram) (l .inv .4) (l .inv .5 rest) (r .result) (r .last .1 .1 .1 .0) (r .last .1 .1 .0) (r .last .1 .1 .1 .1 .0) (r .ensures (standingAt rest (a .counter .now)))
+          (c .before .before .enum-told .given .0 .0) (c .before .before .enum-told .given .1) p
           ∙ ap (λ (x : ℕ). leaves p (a .ram .now) (timesOf x s (a .ram .now) (a .rom .now))) k,
     )
 
-enum-told : tie.Need-enum-told Inv-loop μ-loop
-enum-told c = search needs
+enum-told-2 : tie.Need-enum-told-2 Inv-loop μ-loop
+enum-told-2 c = search needs
 
 again-requires : tie.Need-again-requires Inv-loop μ-loop
 again-requires c κs = search needs
@@ -133,7 +135,7 @@ loop-again c =
       λ rest.
           let s = bankedAtWith rest (a .regs .now) (a .bank) (a .at) (a .flags .now) in
           ap (λ (x : ℕ). timesOf x s (a .ram .now) (a .rom .now)) k
-          ∙ round-again (a .f) (a .at) (a .counter .now) (a .bank) rest (a .ram .now) (a .rom .now) s (c .before .before .before .before .before .before .before .before .before .before .before .before .before .before .before .before .before .pre) (a .more .now - l .left) (l .regs) (l .flags) (l .ram) (l .inv .4) (l .inv .5 rest) (r .result) (r .last .1 .1 .1 .0) (r .last .1 .1 .0) (r .last .1 .1 .1 .1 .0) (r .ensures (standingAt rest (a .counter .now))) (c .before .before .before .before .enum-told .given .1)
+          ∙ round-again (a .f) (a .at) (a .counter .now) (a .bank) rest (a .ram .now) (a .rom .now) s (c .before .before .before .before .before .before .before .before .before .before .before .before .before .before .before .before .before .pre) (a .more .now - l .left) (l .regs) (l .flags) (l .ram) (l .inv .4) (l .inv .5 rest) (r .result) (r .last .1 .1 .1 .0) (r .last .1 .1 .0) (r .last .1 .1 .1 .1 .0) (r .ensures (standingAt rest (a .counter .now))) (c .before .before .before .before .enum-told2 .given .1)
           (goes c (standingAt rest (a .counter .now)) .2) (rom-below (a .ram .now) (a .rom .now) (a .at) k-rom),
     )
 
@@ -150,7 +152,7 @@ returns-3 c = (
       let a = c .before .before .before .before .before .before .before .before .before .before .before .before .before .before .before .before .before .before .before .before .args in
       let r = c .before .before .before .before .before .before .before .before .before .before .before .round in
       ap (λ (s : State). after Done s (r .last .1 .1 .1 .1 .0)) (c .ended .ensures rest ∙ ap (λ (x : ℕ). endsAt (a .f) (a .at) (bankedAtWith rest (r .last .1 .1 .1 .0) (a .bank) x (r .last .1 .1 .0))) (c .before .before .before .before .before .before .before .before .before .before .before .before .before .before .before .loop .inv .2))
-      ∙ ap (leaves (bankedAtWith rest (a .regs .now) (a .bank) (a .counter .now) (a .flags .now)) (a .ram .now)) (sym (done-of (c .before .before .before .before .before .before .before .before .before .before .before) rest (c .before .before .before .before .before .before .before .enum-told .given .1))),
+      ∙ ap (leaves (bankedAtWith rest (a .regs .now) (a .bank) (a .counter .now) (a .flags .now)) (a .ram .now)) (sym (done-of (c .before .before .before .before .before .before .before .before .before .before .before) rest (c .before .before .before .before .before .before .before .enum-told2 .given .1))),
 )
 
 pub block-spec : {M : Type 1} → statement M
@@ -162,13 +164,13 @@ block-spec =
     in-rom-requires
     loop-holds
     round-requires
-    enum-known-a
+    enum-told
     same-length
     returns
     add-more
     same-length-2
     returns-2
-    enum-told
+    enum-told-2
     again-requires
     sub-left
     loop-less

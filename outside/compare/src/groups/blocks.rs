@@ -6,6 +6,7 @@ use crate::aim::{self, Layout, BC};
 use crate::case::{Call, Case};
 use crate::chance::Chance;
 use crate::image::Image;
+use crate::judge::Answer;
 use forms::Form;
 use second::record::{COUNTER, F};
 use second::{Machine, Width};
@@ -158,30 +159,33 @@ fn repeat_by_hand(bench: &mut Bench, code: [u8; 2], case: Case) {
     let mut by_hand = case.clone();
     by_hand.call = Call::Step;
     by_hand.rom = rom_with(&[code[0], code[1] & !1]);
-    let (rounds, number) = rounds_by_hand(bench, code, &mut by_hand);
-    let agreed = (answer.count, answer.number) == (rounds, number) && alike(&at_once, &by_hand);
+    let rounds = rounds_by_hand(bench, code, &mut by_hand);
+    let agreed = answer == rounds && alike(&at_once, &by_hand);
     bench.judge.expect(agreed, || {
         format!("a repeat is not its rounds: --case '{}'", case.text())
     });
 }
 
 /// Steps a single form, putting the counter back, until BC is 0, a compare
-/// has found its own or a round is refused: how many rounds were done, and
-/// the number a run then ends with.
-fn rounds_by_hand(bench: &mut Bench, code: [u8; 2], case: &mut Case) -> (u32, u8) {
+/// has found its own or a round is refused: what a run of the rounds that were
+/// done, and of what comes after them, has to answer.
+fn rounds_by_hand(bench: &mut Bench, code: [u8; 2], case: &mut Case) -> Answer {
     let count_place = aim::place_of_long(&case.record, BC);
     let compares = code[1] & 4 != 0;
     let mut rounds = 0;
     loop {
-        let number = bench.judge.hold_and_carry(case).number;
-        if number != 0 {
-            return (rounds, number);
+        let answer = bench.judge.hold_and_carry(case);
+        if answer.number != 0 {
+            return Answer {
+                count: rounds,
+                ..answer
+            };
         }
         rounds += 1;
         let left = aim::get_long(&case.record, count_place) & 0xFFFF;
         let found = compares && case.record[F] & Z != 0;
         if left == 0 || found {
-            return (rounds, second::number::NOT_LISTED);
+            return Answer::counted((rounds, second::number::NOT_LISTED));
         }
         aim::put_long(&mut case.record, COUNTER, ROM_START);
     }
@@ -208,16 +212,17 @@ fn repeat_in_pieces(bench: &mut Bench, case: Case) {
     let whole = bench.judge.hold_and_carry(&mut at_once);
 
     let mut in_pieces = case.clone();
-    let mut count = 0;
-    let mut number = 0;
-    while number == 0 && count < STEPS {
-        let piece = (1 + bench.chance.below(12)).min(STEPS - count);
+    let mut all = Answer::number(0);
+    while all.number == 0 && all.count < STEPS {
+        let piece = (1 + bench.chance.below(12)).min(STEPS - all.count);
         in_pieces.call = Call::Run(piece);
         let answer = bench.judge.hold_and_carry(&mut in_pieces);
-        count += answer.count;
-        number = answer.number;
+        all = Answer {
+            count: all.count + answer.count,
+            ..answer
+        };
     }
-    let agreed = (whole.count, whole.number) == (count, number) && alike(&at_once, &in_pieces);
+    let agreed = whole == all && alike(&at_once, &in_pieces);
     bench.judge.expect(agreed, || {
         format!("a repeat is not its pieces: --case '{}'", case.text())
     });

@@ -4,6 +4,7 @@
 use super::Bench;
 use crate::case::{Call, Case};
 use crate::image::Image;
+use crate::judge::Answer;
 use second::examples::{self, Example};
 
 pub fn all(bench: &mut Bench) {
@@ -23,14 +24,17 @@ fn example_holds(bench: &mut Bench, example: &Example) {
         rom: Image::of(&start.rom),
     };
     let answer = bench.judge.hold(&case);
-    let done = (answer.count, answer.number) == (example.steps, 0);
+    let done = answer == Answer::counted((example.steps, 0));
     let (record, ram) = bench.judge.left();
     let right = done && record == end.record && ram == end.ram;
     bench.judge.expect(right, || told(example, &case));
 
     case.call = Call::Step;
     let whole = case.clone();
-    let done = (0..example.steps).all(|_| bench.judge.hold_and_carry(&mut case).number == 0);
+    let done = (0..example.steps).all(|_| {
+        let answer = bench.judge.hold_and_carry(&mut case);
+        answer == Answer::number(0)
+    });
     let right = done && case.record == end.record && case.ram.bytes == end.ram;
     bench.judge.expect(right, || told(example, &whole));
 }

@@ -5,6 +5,7 @@ use crate::aim::{self, Layout};
 use crate::case::{Call, Case};
 use crate::chance::Chance;
 use crate::image::Image;
+use crate::judge::Answer;
 use forms::Form;
 use second::record::COUNTER;
 
@@ -139,11 +140,9 @@ pub fn lengths(bench: &mut Bench) {
         } else {
             (0, 7)
         };
-        bench
-            .judge
-            .expect((answer.count, answer.number) == wanted, || {
-                format!("a run of {steps} answered {answer:?}")
-            });
+        bench.judge.expect(answer == Answer::counted(wanted), || {
+            format!("a run of {steps} answered {answer:?}")
+        });
     }
     case.rom = Image::of(&[0xFF; 16]);
     for steps in [0, 1, 1_000_000, 1_000_001] {
@@ -205,17 +204,16 @@ fn run_as_steps(bench: &mut Bench, case: &mut Case) {
     let mut stepped = case.clone();
     stepped.call = Call::Step;
     let ended = bench.judge.hold_and_carry(case);
-    let (mut done, mut number) = (0, 0);
-    while done < steps {
-        number = bench.judge.hold_and_carry(&mut stepped).number;
-        if number != 0 {
-            break;
-        }
-        done += 1;
+    let mut all = Answer::number(0);
+    while all.number == 0 && all.count < steps {
+        let answer = bench.judge.hold_and_carry(&mut stepped);
+        let done = u32::from(answer.number == 0);
+        all = Answer {
+            count: all.count + done,
+            ..answer
+        };
     }
-    let same = (ended.count, ended.number) == (done, number)
-        && case.record == stepped.record
-        && case.ram == stepped.ram;
+    let same = ended == all && case.record == stepped.record && case.ram == stepped.ram;
     bench
         .judge
         .expect(same, || format!("a run is not its steps: --case '{text}'"));

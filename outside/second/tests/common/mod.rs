@@ -40,18 +40,38 @@ pub fn memory(length: usize, beginning: &[u8]) -> Vec<u8> {
     bytes
 }
 
-/// Steps once, and checks that a refusal changes nothing at all.
+/// Whether an address may come with a number. What is missing is in neither
+/// memory, or it is 000000H after the top of ROM; a store to ROM is there;
+/// and any other number has nothing to say.
+fn address_fits(number: u8, at: u32, ram: &[u8], rom: &[u8]) -> bool {
+    let in_ram = (at as usize) < ram.len();
+    let in_rom = (rom_start(rom)..0x100_0000).contains(&at);
+    match number {
+        5 => at == 0 || at < 0x100_0000 && !in_ram && !in_rom,
+        6 => in_rom,
+        _ => at == 0,
+    }
+}
+
+/// Steps once, and gives the number alone.
 pub fn step_once(machine: &mut Machine, ram: &mut [u8], rom: &[u8]) -> u8 {
+    step_at(machine, ram, rom).0
+}
+
+/// Steps once, and checks that a refusal changes nothing at all and that the
+/// address fits the number.
+pub fn step_at(machine: &mut Machine, ram: &mut [u8], rom: &[u8]) -> (u8, u32) {
     let state_before = machine.clone();
     let ram_before = ram.to_vec();
-    let number = step(machine, ram, rom);
+    let (number, at) = step(machine, ram, rom);
+    assert!(address_fits(number, at, ram, rom), "{number} at {at:06X}");
     if number == 0 {
         assert!(machine.valid());
     } else {
         assert_eq!(*machine, state_before, "a refusal changed the state");
         assert!(ram == ram_before, "a refusal changed RAM");
     }
-    number
+    (number, at)
 }
 
 /// Numbers that are always the same ones, spread over all 32 bits.

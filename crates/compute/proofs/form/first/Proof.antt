@@ -24,8 +24,8 @@ stores-requires c κs = search needs
 write-requires : tie.Need-write-requires
 write-requires c κs = search needs
 
-enum-known-w : tie.Need-enum-known-w
-enum-known-w c = search needs
+enum-known-a : tie.Need-enum-known-a
+enum-known-a c = search needs
 
 returns : tie.Need-returns
 unfolding flagged withFlags withBothFlags
@@ -37,7 +37,7 @@ unfolding flagged withFlags withBothFlags
 returns-2 c rest = rw (sym (c .before .before .before .before .before .before .before .before .before .load .ensures) ∙ c .before .before .before .before .before .before .before .v .given .1, sym (c .before .stores .ensures) ∙ c .if1 .left, c .before .before .operated .ensures .1, c .before .before .before .before .read .ensures) refl
 
 returns-3 : tie.Need-returns-3
-returns-3 c rest = rw (sym (c .before .before .before .load .ensures) ∙ c .before .w .given .1) refl
+returns-3 c rest = rw (sym (c .before .before .before .load .ensures) ∙ c .before .a .given .1) refl
 
 pub first-spec : {M : Type 1} → statement M
-first-spec = tie.close (tie.spec load-requires enum-known-v read-requires operated-requires stores-requires write-requires enum-known-w returns returns-2 returns-3)
+first-spec = tie.close (tie.spec load-requires enum-known-v read-requires operated-requires stores-requires write-requires enum-known-a returns returns-2 returns-3)

@@ -12,14 +12,14 @@ enum-known-v c = search needs
 write-requires : tie.Need-write-requires
 write-requires c κs = search needs
 
-enum-known-w : tie.Need-enum-known-w
-enum-known-w c = search needs
+enum-known-a : tie.Need-enum-known-a
+enum-known-a c = search needs
 
 returns : tie.Need-returns
 returns c rest = rw (sym (c .before .before .before .before .before .load .ensures) ∙ c .before .before .before .v .given .1, c .write .ensures rest) refl
 
 returns-2 : tie.Need-returns-2
-returns-2 c rest = rw (sym (c .before .before .before .load .ensures) ∙ c .before .w .given .1) refl
+returns-2 c rest = rw (sym (c .before .before .before .load .ensures) ∙ c .before .a .given .1) refl
 
 pub load-spec : {M : Type 1} → statement M
-load-spec = tie.close (tie.spec load-requires enum-known-v write-requires enum-known-w returns returns-2)
+load-spec = tie.close (tie.spec load-requires enum-known-v write-requires enum-known-a returns returns-2)

@@ -39,8 +39,8 @@ returns c rest =
     rw (c .stored .ensures .0, c .stored .ensures .1, c .before .before .before .before .store .ensures .0, c .before .before .before .before .store .ensures .1, sym (c .before .before .before .before .before .before .before .before .before .before .before .before .before .before .before .load .ensures) ∙ c .before .before .before .before .before .before .before .before .before .before .before .before .before .v .given .1, sym (c .before .before .before .before .before .before .before .stores .ensures) ∙ c .before .before .before .before .before .before .if1 .taken, c .before .before .before .before .before .before .before .before .operated .ensures .0, c .before .before .before .before .before .before .before .before .operated .ensures .1, c .before .before .before .before .before .before .before .before .before .before .before .read .ensures)
     (store-or-kept (a .ram .now) (a .rom .now) (a .at) (a .size) _ (λ (f : ℕ). bankedWith rest (a .regs .now) (a .bank) f) (a .flags .now) _)
 
-enum-known-w : tie.Need-enum-known-w
-enum-known-w c = search needs
+enum-known-a : tie.Need-enum-known-a
+enum-known-a c = search needs
 
 same-length-2 : tie.Need-same-length-2
 same-length-2 c = search needs
@@ -53,7 +53,7 @@ same-length-3 : tie.Need-same-length-3
 same-length-3 c = search needs
 
 returns-3 : tie.Need-returns-3
-returns-3 c rest = rw (sym (c .before .before .before .load .ensures) ∙ c .before .w .given .1) refl
+returns-3 c rest = rw (sym (c .before .before .before .load .ensures) ∙ c .before .a .given .1) refl
 
 pub second-spec : {M : Type 1} → statement M
-second-spec = tie.close (tie.spec load-requires enum-known-v read-requires operated-requires stores-requires store-requires stored-requires same-length returns enum-known-w same-length-2 returns-2 same-length-3 returns-3)
+second-spec = tie.close (tie.spec load-requires enum-known-v read-requires operated-requires stores-requires store-requires stored-requires same-length returns enum-known-a same-length-2 returns-2 same-length-3 returns-3)
