@@ -199,15 +199,18 @@ stored-fits (Sets r) z o s = fits-none
 stored-fits (Blocks f) z o s = either-fits (f .copies) _ (fits-bytes (round _) (size-some (f .size)))
 
 -- ---- what an answer says of the place
-load-missing : (p : Place) (x : ℕ) → loadTo p ≡ Refused (why.Missing x) → p ≡ Missing x
-load-missing (Ram o) x e = absurd (omega (arith, ap numberOf e))
-load-missing (Rom o) x e = absurd (omega (arith, ap numberOf e))
-load-missing (Missing y) x e = cc
+-- a refusal of what is read, or of what is stored
+abbrev Either : Answer → Answer → Why → Type 0
+Either a b v = (a ≡ Refused v) ⊎ (b ≡ Refused v)
 
-store-missing : (p : Place) (a x : ℕ) → storeTo p a ≡ Refused (why.Missing x) → p ≡ Missing x
-store-missing (Ram o) a x e = absurd (omega (arith, ap numberOf e))
-store-missing (Rom o) a x e = absurd (omega (arith, ap numberOf e))
-store-missing (Missing y) a x e = cc
+-- where neither is one
+neither : (v : Why) → 1 ≤ whyNumber v → Either Done Done v → ⊥
+neither v h e = ⊎-elim (λ u. omega (arith, ap numberOf u)) (λ u. omega (arith, ap numberOf u)) e
+
+either-missing : (p : Place) (a x : ℕ) → Either (loadTo p) (storeTo p a) (why.Missing x) → p ≡ Missing x
+either-missing (Ram o) a x e = absurd (neither (why.Missing x) (omega arith) e)
+either-missing (Rom o) a x e = absurd (⊎-elim (λ u. omega (arith, ap numberOf u)) (λ u. omega (arith, ap numberOf u)) e)
+either-missing (Missing y) a x e = ⊎-elim (λ u. cc) (λ u. cc) e
 
 load-rom : (p : Place) (x : ℕ) → loadTo p ≡ Refused (why.ToRom x) → ⊥
 load-rom (Ram o) x e = omega (arith, ap numberOf e)
@@ -220,7 +223,7 @@ store-rom (Rom o) a x e = (o, refl, cc)
 store-rom (Missing y) a x e = absurd (omega (arith, ap numberOf e))
 
 -- the first refusal of two is one of them
-one-of : (a b : Answer) (v : Why) → firstRefusal a b ≡ Refused v → (a ≡ Refused v) ⊎ (b ≡ Refused v)
+one-of : (a b : Answer) (v : Why) → firstRefusal a b ≡ Refused v → Either a b v
 one-of Done b v e = inr e
 one-of (Refused u) b v e = inl e
 
@@ -229,13 +232,10 @@ module _ (ram rom : List ℕ) (w : Within ram rom) (x : ℕ) where
   abbrev Of : Span → Type 0
   Of g = (a : ℕ) × (n : ℕ) × (g ≡ bytes a n) × FirstApart ram rom a n x
 
-  read-of : (r : Span) → Fits r → readAnswer ram rom r ≡ Refused (why.Missing x) → Of r
-  read-of none f e = absurd (omega (arith, ap numberOf e))
-  read-of (bytes a n) (fits-bytes b s) e = (a, n, refl, first-apart ram rom a n x w b s (load-missing (placeOf (length ram) (length rom) a n) x e))
-
-  stored-of : (g : Span) → Fits g → storeAnswer ram rom g ≡ Refused (why.Missing x) → Of g
-  stored-of none f e = absurd (omega (arith, ap numberOf e))
-  stored-of (bytes a n) (fits-bytes b s) e = (a, n, refl, first-apart ram rom a n x w b s (store-missing (placeOf (length ram) (length rom) a n) a x e))
+  span-of : (g : Span) → Fits g → Either (readAnswer ram rom g) (storeAnswer ram rom g) (why.Missing x) → Of g
+  span-of none f e = absurd (neither (why.Missing x) (omega arith) e)
+  span-of (bytes a n) (fits-bytes b s) e =
+      (a, n, refl, first-apart ram rom a n x w b s (either-missing (placeOf (length ram) (length rom) a n) a x e))
 
   read-not-rom : (r : Span) → readAnswer ram rom r ≡ Refused (why.ToRom x) → ⊥
   read-not-rom none e = omega (arith, ap numberOf e)
@@ -265,30 +265,30 @@ module _ (s : State) (ram rom : List ℕ) (x : ℕ) where
   refused-for :
       (v : Why) → 5 ≤ whyNumber v → stepOf s ram rom .answer ≡ Refused v →
       (i : Instruction) × Within ram rom × (decodeOf (codeAt ram rom (s .counter)) ≡ Whole i)
-      × ((readAnswer ram rom (reads i) ≡ Refused v) ⊎ (storeAnswer ram rom (target i) ≡ Refused v))
+      × Either (readAnswer ram rom (reads i)) (storeAnswer ram rom (target i)) v
   unfolding answerBy
   refused-for v n e = go (operated s ram rom (Refused v) (inr n) e)
     where
       go :
           (i : Instruction) × (Passed s ram rom × (decodeOf (codeAt ram rom (s .counter)) ≡ Whole i))
           → (i : Instruction) × Within ram rom × (decodeOf (codeAt ram rom (s .counter)) ≡ Whole i)
-          × ((readAnswer ram rom (reads i) ≡ Refused v) ⊎ (storeAnswer ram rom (target i) ≡ Refused v))
+          × Either (readAnswer ram rom (reads i)) (storeAnswer ram rom (target i)) v
       go (i, (p, d)) = (i, p .0, d, one-of _ _ v (sym (refused-when s ram rom .operands i p d) ∙ e))
 
   five :
       (i : Instruction) → Within ram rom → decodeOf (codeAt ram rom (s .counter)) ≡ Whole i →
-      (readAnswer ram rom (reads i) ≡ Refused (why.Missing x)) ⊎ (storeAnswer ram rom (target i) ≡ Refused (why.Missing x)) →
+      Either (readAnswer ram rom (reads i)) (storeAnswer ram rom (target i)) (why.Missing x) →
       (a : ℕ) × (n : ℕ) × (Reads s ram rom a n ⊎ Stores s ram rom a n) × FirstApart ram rom a n x
   five i w d (inl e) =
-      let o = read-of ram rom w x (reads i) (read-fits (i .op) (i .size) (i .operand) (pastOf (i .length) s)) e in
+      let o = span-of ram rom w x (reads i) (read-fits (i .op) (i .size) (i .operand) (pastOf (i .length) s)) (inl e) in
       (o .0, o .1, inl (i, d, o .2), o .3)
   five i w d (inr e) =
-      let o = stored-of ram rom w x (target i) (stored-fits (i .op) (i .size) (i .operand) (pastOf (i .length) s)) e in
+      let o = span-of ram rom w x (target i) (stored-fits (i .op) (i .size) (i .operand) (pastOf (i .length) s)) (inr e) in
       (o .0, o .1, inr (i, d, o .2), o .3)
 
   six :
       (i : Instruction) → Within ram rom → decodeOf (codeAt ram rom (s .counter)) ≡ Whole i →
-      (readAnswer ram rom (reads i) ≡ Refused (why.ToRom x)) ⊎ (storeAnswer ram rom (target i) ≡ Refused (why.ToRom x)) →
+      Either (readAnswer ram rom (reads i)) (storeAnswer ram rom (target i)) (why.ToRom x) →
       (n : ℕ) × Stores s ram rom x n × InRom rom x
   six i w d (inl e) = absurd (read-not-rom ram rom w x (reads i) e)
   six i w d (inr e) =
