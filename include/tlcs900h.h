@@ -17,7 +17,15 @@
  *   offset 84   SR, two bytes: F in bits 0 to 7 (S 7, Z 6, H 4, V 2, N 1, C 0; bits 5 and 3 zero),
  *               the bank in bits 8 to 10 (0 to 3), bit 11 one, the interrupt level in bits 12 to 14, bit 15 one
  *   offset 86   F', one byte (bits 5 and 3 zero)
- *   offset 87   a zero byte
+ *   offset 87   three zero bytes
+ *   offset 90   the marks: bit 0 H of F, bit 1 V of F, bit 2 H of F', bit 3 V of F'; the other bits zero
+ *   offset 91   a zero byte
+ * A marked flag is one that Toshiba's book leaves undefined after the instruction that wrote it last: H after ADD, ADC, SUB,
+ * SBC and CP of a long and after CCF and ZCF, V after AND, OR, XOR and the shifts of a long. Its bit is 0, and a record where
+ * it is 1 is no state's. The mark goes when the flag gets a value; EX F,F' exchanges those of F and F', POP F clears those of F,
+ * and reset leaves none.
+ * A record of 88 bytes, as it was before 3.0, is made one of 92 by four zero bytes behind it.
+ *
  * It may be copied, stored and handed back later; tlcs900h_reset makes the first one. A run of 0 steps tells whether a
  * record is good: with both memories empty it changes nothing, and answers 0 for a state's record and 2 for any other.
  *
@@ -33,8 +41,8 @@
  *   are never null. The parts of one call must not overlap, `done` and `at` are two variables, and nothing else may write
  *   them while it runs.
  *
- * The answer of each call is a number, 0 to 7, and depends on nothing but what the call is given. A step or run that was
- * refused with 1 to 6, asked again for a step or more, is refused with the same number and address (and *done is then 0)
+ * The answer of each call is a number, 0 to 8, and depends on nothing but what the call is given. A step or run that was
+ * refused with 1 to 6 or 8, asked again for a step or more, is refused with the same number and address (and *done is then 0)
  * until the caller changes what it hands over.
  *
  * Which address: a step and a run write *at every time. With 5 and 6 it is an address below 2^24, and it may be 0; with any
@@ -65,11 +73,13 @@ extern "C" {
  *   1.1  LDF with 04 to 07 is done, where it was refused with 4: it selects the bank of the number's low two bits, 0 to 3
  *   2.0  tlcs900h_step and tlcs900h_run have one more parameter, `at`: the address that goes with 5 and 6. Compile again all
  *        that calls them: the linker does not notice an old call
+ *   3.0  a record has 92 bytes, with the marks at offset 90; one of 88 is refused with 2. A jump whose condition reads a marked V, and PUSH F with a mark of
+ *        F set, are refused with 8; before, they took the undefined flag as 0
  */
-#define TLCS900H_VERSION_MAJOR 2
+#define TLCS900H_VERSION_MAJOR 3
 #define TLCS900H_VERSION_MINOR 0
 
-#define TLCS900H_RECORD 88          /* the bytes of a record */
+#define TLCS900H_RECORD 92          /* the bytes of a record */
 #define TLCS900H_MEMORY 65536       /* the most bytes of RAM, and of ROM */
 #define TLCS900H_LEAST_ROM 256      /* the fewest bytes of ROM for a reset */
 #define TLCS900H_MOST_STEPS 1000000 /* the most steps of a run */
@@ -99,9 +109,16 @@ enum {
     TLCS900H_XSP = 76,
     TLCS900H_COUNTER = 80,
     TLCS900H_SR = 84,
-    TLCS900H_F = 84,      /* the low byte of SR */
-    TLCS900H_BANK = 85,   /* the high byte of SR: the bank in use is its low two bits */
-    TLCS900H_F_PRIME = 86 /* F' */
+    TLCS900H_F = 84,       /* the low byte of SR */
+    TLCS900H_BANK = 85,    /* the high byte of SR: the bank in use is its low two bits */
+    TLCS900H_F_PRIME = 86, /* F' */
+    TLCS900H_MARKS = 90    /* the marks */
+};
+
+/* The bits of the marks of F; those of F' stand two bits above. */
+enum {
+    TLCS900H_MARK_H = 1,
+    TLCS900H_MARK_V = 2
 };
 
 /* The numbers that a call answers. */
@@ -113,7 +130,8 @@ enum {
     TLCS900H_UNLISTED = 4, /* the bytes at the counter begin no listed instruction */
     TLCS900H_MISSING = 5,  /* an operand lies in neither memory, or only partly in one, see *at; at reset: ROM has fewer than 256 bytes */
     TLCS900H_TO_ROM = 6,   /* a store would go to ROM, see *at */
-    TLCS900H_TOO_MANY = 7  /* a run is asked for more than 1,000,000 steps */
+    TLCS900H_TOO_MANY = 7, /* a run is asked for more than 1,000,000 steps */
+    TLCS900H_UNDEFINED = 8 /* a jump's condition reads V (LT, LE, V and their opposites) and V is marked; or PUSH F, and H or V of F is marked */
 };
 
 /* A few words for a number, to print. A program that does not call this holds none of them. */
@@ -127,13 +145,14 @@ static inline const char *tlcs900h_name(uint8_t number) {
     case TLCS900H_MISSING: return "operand missing";
     case TLCS900H_TO_ROM: return "store to ROM";
     case TLCS900H_TOO_MANY: return "too many steps";
+    case TLCS900H_UNDEFINED: return "undefined flag";
     default: return "no such number";
     }
 }
 
 /*
  * Writes the record of the reset state: XSP 100H, bank 0, level 7, everything else zero, and the counter from the low 24
- * bits of the four bytes at FFFF00H. RAM is only measured.
+ * bits of the four bytes at FFFF00H. No flag is marked. RAM is only measured.
  * Looks for 1, then 5, then 2 (a buffer that is not TLCS900H_RECORD bytes long; what it holds does not matter).
  * A refusal leaves the buffer as it was.
  */
@@ -141,8 +160,8 @@ uint8_t tlcs900h_reset(uint8_t *record, size_t record_len, const uint8_t *ram, s
 
 /*
  * Does the one instruction at the counter: the record and RAM are then those after it.
- * Looks for 1, then 2, then 3 or 4, then 5, then 6. A refusal leaves the record and RAM as they were; with 5
- * and 6 *at says which address it was.
+ * Looks for 1, then 2, then 3 or 4, then 8, then 5, then 6. A refusal leaves the record and RAM as they were; with 5
+ * and 6 *at says which address it was. With 8 a jump is refused whether it would be taken or not.
  * A repeating copy or compare does one round a step and stays at its address until it ends.
  */
 uint8_t tlcs900h_step(uint8_t *record, size_t record_len, uint8_t *ram, size_t ram_len, const uint8_t *rom, size_t rom_len, uint32_t *at);

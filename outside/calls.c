@@ -23,9 +23,9 @@ struct size {
     int null;
 };
 
-static const struct size record_sizes[] = {{0, 1}, {0, 0}, {1, 0}, {87, 0}, {88, 0}, {89, 0}, {176, 0}};
+static const struct size record_sizes[] = {{0, 1}, {0, 0}, {1, 0}, {88, 0}, {91, 0}, {92, 0}, {93, 0}, {184, 0}};
 static const struct size memory_sizes[] = {{0, 1}, {0, 0}, {255, 0}, {256, 0}, {65536, 0}, {65537, 0}};
-static const struct size whole = {88, 0}, small = {256, 0};
+static const struct size whole = {92, 0}, small = {256, 0};
 
 static struct lent record, ram, rom;
 static uint32_t word[3], kept_word;   /* `done` or `length`, between two others */
@@ -50,12 +50,13 @@ static void put(uint8_t *to, int bytes, uint32_t value) {
     for (; bytes > 0; bytes--, value >>= 8) *to++ = (uint8_t)value;
 }
 
-/* A valid state's record: all flags 1, bank 2, level 5, F' 91H, and registers of noise. */
+/* A valid state's record: all flags 1, bank 2, level 5, F' 91H, no mark, and registers of noise. */
 static void lend_record(struct size size, uint32_t counter) {
     uint8_t *r = record.bytes + GUARD;
     lend(&record, size);
     put(r + 80, 4, counter);
     put(r + 84, 4, 0x0091DAD7);
+    put(r + 88, 4, 0);
 }
 
 /* Sets down what all of it is before a call. */
@@ -131,9 +132,9 @@ static void same_number(unsigned long is, unsigned long expected) {
 }
 
 static void constants(void) {
-    same_number(TLCS900H_VERSION_MAJOR, 2);
+    same_number(TLCS900H_VERSION_MAJOR, 3);
     same_number(TLCS900H_VERSION_MINOR, 0);
-    same_number(TLCS900H_RECORD, 88);
+    same_number(TLCS900H_RECORD, 92);
     same_number(TLCS900H_MEMORY, 65536);
     same_number(TLCS900H_LEAST_ROM, 256);
     same_number(TLCS900H_MOST_STEPS, 1000000);
@@ -146,6 +147,9 @@ static void constants(void) {
     same_number(TLCS900H_F, 84);
     same_number(TLCS900H_BANK, 85);
     same_number(TLCS900H_F_PRIME, 86);
+    same_number(TLCS900H_MARKS, 90);
+    same_number(TLCS900H_MARK_H, 1);
+    same_number(TLCS900H_MARK_V, 2);
 }
 
 /* The registers of bank 0, in the record's order, and the distance to the next bank. */
@@ -182,7 +186,8 @@ static void numbers(void) {
     same_name(TLCS900H_MISSING, 5, "operand missing");
     same_name(TLCS900H_TO_ROM, 6, "store to ROM");
     same_name(TLCS900H_TOO_MANY, 7, "too many steps");
-    same_name(8, 8, "no such number");
+    same_name(TLCS900H_UNDEFINED, 8, "undefined flag");
+    same_name(9, 9, "no such number");
     same_name(255, 255, "no such number");
 }
 
@@ -192,9 +197,9 @@ static void reset_once(struct size size) {
     lend(&record, size);
     if (rom.length >= 256) put(rom.bytes + GUARD + rom.length - 256, 4, 0xFF543210); /* the vector, at FFFF00H */
     keep();
-    number = too_long() ? 1 : rom.length < 256 ? 5 : size.length != 88 ? 2 : 0;
+    number = too_long() ? 1 : rom.length < 256 ? 5 : size.length != 92 ? 2 : 0;
     if (number == 0) {
-        memset(kept(&record), 0, 88);
+        memset(kept(&record), 0, 92); /* no mark is left */
         put(kept(&record) + 76, 4, 0x100);
         put(kept(&record) + 80, 4, 0x543210);
         put(kept(&record) + 84, 2, 0xF800);
@@ -212,7 +217,7 @@ static void step_at(struct size size, uint32_t counter, int broken) {
     if (ram.length > 0) ram.bytes[GUARD] = 0;
     if (rom.length > 0) rom.bytes[GUARD + rom.length - 1] = 0;
     keep();
-    number = too_long() ? 1 : size.length != 88 || broken ? 2 : (counter == 0 ? ram.length : rom.length) == 0 ? 3 : 0;
+    number = too_long() ? 1 : size.length != 92 || broken ? 2 : (counter == 0 ? ram.length : rom.length) == 0 ? 3 : 0;
     if (number == 0) put(kept(&record) + 80, 4, (counter + 1) % 0x1000000);
     held("step", step(), number);
 }
@@ -232,7 +237,7 @@ static void run_for(struct size size, uint32_t steps, int broken) {
     if (broken) record.bytes[GUARD + 85] |= 4;
     memset(ram.bytes + GUARD, 0, ram.length);
     keep();
-    number = steps > 1000000 ? 7 : too_long() ? 1 : size.length != 88 || broken ? 2 : steps > ram.length ? 3 : 0;
+    number = steps > 1000000 ? 7 : too_long() ? 1 : size.length != 92 || broken ? 2 : steps > ram.length ? 3 : 0;
     kept_word = 0;
     if (number == 0 || number == 3) {
         kept_word = steps > ram.length ? (uint32_t)ram.length : steps;
@@ -460,32 +465,208 @@ static void stops(void) {
     held("run", run(1000001), 7);
 }
 
-/* ---- every bit of a record turned over, one at a time: a run of 0 steps tells whether the record is good */
-static int may_turn(size_t byte, int bit) {
-    if (byte < 83) return 1;                                  /* registers, and a counter below 2^24 */
-    if (byte == 84 || byte == 86) return bit != 5 && bit != 3; /* F and F' */
-    if (byte == 85) return bit < 2 || (4 <= bit && bit < 7);   /* bank and level */
-    return 0;
+/* ---- the marks, in the byte at 90: H of F, V of F, H of F', V of F'. A marked flag is 0 */
+static void lend_marked(const uint8_t *bytes, uint8_t f, uint8_t spare, uint8_t marks) {
+    lend_code(0, bytes, 6);
+    record.bytes[GUARD + 84] = f;
+    record.bytes[GUARD + 86] = spare;
+    record.bytes[GUARD + TLCS900H_MARKS] = marks;
 }
 
-static void record_bits(void) {
+/* The operations below take zeros: XWA of bank 2, and memory at 0010H. */
+static void clear_operands(void) {
+    memset(record.bytes + GUARD + 32, 0, 4);
+    memset(ram.bytes + GUARD + 0x10, 0, 4);
+}
+
+/* A step that leaves these flags and marks, and nothing else new. S, Z and N are 1 before. */
+static void marked(const uint8_t *bytes, uint8_t length, uint8_t marks, uint8_t f, uint8_t left) {
+    lend_marked(bytes, 0xC2, 0x81, marks);
+    clear_operands();
+    keep();
+    put(kept(&record) + 80, 4, length);
+    kept(&record)[84] = f;
+    kept(&record)[TLCS900H_MARKS] = left;
+    held("step", step(), 0);
+}
+
+/* An operation by its number, 0 to 7: as a long with a register, a constant and memory, both ways; and as a byte and a word. */
+static void marked_operation(uint8_t operation, uint8_t marks, uint8_t f, uint8_t left, uint8_t short_f) {
+    uint8_t along = (uint8_t)(0x80 + 16 * operation), spare = marks & 12;
+    uint8_t with_register[6] = {0xE8, 0}, with_constant[6] = {0xE8, 0}, with_memory[6] = {0xE0, 0x10, 0};
+    with_register[1] = along;
+    with_constant[1] = (uint8_t)(0xC8 + operation);
+    with_memory[2] = along;
+    marked(with_register, 2, marks, f, left);
+    marked(with_constant, 6, marks, f, left);
+    marked(with_memory, 3, marks, f, left);
+    with_memory[2] |= 8;
+    marked(with_memory, 3, marks, f, left);
+    with_register[0] = 0xC8;
+    marked(with_register, 2, marks, short_f, spare);
+    with_register[0] = 0xD8;
+    marked(with_register, 2, marks, short_f, spare);
+}
+
+static void marked_shift(uint8_t second, uint8_t marks) {
+    uint8_t shift[6] = {0xE8, 0, 0x01};
+    shift[1] = second;
+    marked(shift, 3, marks, 0x40, (uint8_t)((marks & 12) | 2));
+    shift[0] = 0xC8;
+    marked(shift, 3, marks, 0x44, marks & 12); /* no ones, which is even */
+}
+
+static void marked_swap(uint8_t marks) {
+    static const uint8_t swap[6] = {0x16}; /* EX F,F' */
+    lend_marked(swap, 0xC2, 0x81, marks);
+    keep();
+    put(kept(&record) + 80, 4, 1);
+    kept(&record)[84] = 0x81;
+    kept(&record)[86] = 0xC2;
+    kept(&record)[TLCS900H_MARKS] = (uint8_t)((marks << 2 | marks >> 2) & 15);
+    held("step", step(), 0);
+}
+
+static void marked_pop(uint8_t marks) {
+    static const uint8_t pop[6] = {0x19}; /* POP F, of FFH */
+    lend_marked(pop, 0xC2, 0x81, marks);
+    put(record.bytes + GUARD + 76, 4, 0x80);
+    ram.bytes[GUARD + 0x80] = 0xFF;
+    keep();
+    put(kept(&record) + 76, 4, 0x81);
+    put(kept(&record) + 80, 4, 1);
+    kept(&record)[84] = 0xD7;
+    kept(&record)[TLCS900H_MARKS] = marks & 12;
+    held("step", step(), 0);
+}
+
+static void mark_changes(void) {
+    static const uint8_t nop[6] = {0x00}, rcf[6] = {0x10}, scf[6] = {0x11}, ccf[6] = {0x12}, zcf[6] = {0x13};
+    uint8_t marks;
+    for (marks = 0; marks < 16; marks++) {
+        uint8_t spare = marks & 12, v = marks & 2, i;
+        marked(nop, 1, marks, 0xC2, marks);
+        marked(rcf, 1, marks, 0xC0, spare | v);
+        marked(scf, 1, marks, 0xC1, spare | v);
+        marked(ccf, 1, marks, 0xC1, spare | v | 1);
+        marked(zcf, 1, marks, 0xC0, spare | v | 1);
+        for (i = 0; i < 2; i++) marked_operation(i, marks, 0x40, spare | 1, 0x40);    /* ADD ADC */
+        for (i = 2; i < 4; i++) marked_operation(i, marks, 0x42, spare | 1, 0x42);    /* SUB SBC */
+        marked_operation(4, marks, 0x50, spare | 2, 0x54);                             /* AND */
+        for (i = 5; i < 7; i++) marked_operation(i, marks, 0x40, spare | 2, 0x44);    /* XOR OR */
+        marked_operation(7, marks, 0x42, spare | 1, 0x42);                             /* CP */
+        for (i = 0xEC; i <= 0xEF; i++) marked_shift(i, marks);                         /* SLA SRA SLL SRL */
+        marked_swap(marks);
+        marked_pop(marks);
+    }
+}
+
+/* Each condition with each set of marks: 8 for LT, LE, V and their opposites, where V of F is marked. */
+static void marked_jump(const uint8_t *bytes, uint8_t length, uint8_t marks) {
+    static const uint8_t with_c3[16] = {0, 1, 1, 1, 0, 1, 1, 1, 1, 0, 0, 0, 1, 0, 0, 0}; /* S, Z, N and C are 1 */
+    uint8_t cc = bytes[0] & 15, reads_v = cc == 1 || cc == 2 || cc == 4 || cc == 9 || cc == 10 || cc == 12;
+    lend_marked(bytes, 0xC3, 0x81, marks);
+    keep();
+    if (reads_v && (marks & 2)) {
+        held("step", step(), TLCS900H_UNDEFINED);
+        kept_word = 0;
+        held("run", run(1000), TLCS900H_UNDEFINED);
+        held("run", run(1000), TLCS900H_UNDEFINED); /* the same again, while nothing has changed */
+        return;
+    }
+    put(kept(&record) + 80, 4, with_c3[cc] ? length + 0x10u : length);
+    held("step", step(), 0);
+}
+
+/* PUSH F, where it would be done, where it would be 5 and where it would be 6 */
+static void marked_push(uint8_t marks, uint32_t pointer, uint8_t number, uint32_t address) {
+    static const uint8_t push[6] = {0x18, 0x01}; /* and a code that is not listed */
+    lend_marked(push, 0xC3, 0x81, marks);
+    put(record.bytes + GUARD + 76, 4, pointer);
+    keep();
+    if (marks & 3) number = TLCS900H_UNDEFINED, address = 0;
+    if (number == 0) {
+        put(kept(&record) + 76, 4, pointer - 1);
+        put(kept(&record) + 80, 4, 1);
+        kept(&ram)[pointer - 1] = 0xC3;
+    }
+    held("step", step_to(address), number);
+    if (number == 0) return;
+    kept_word = 0;
+    held("run", run_to(1000, address), number);
+}
+
+static void mark_refusals(void) {
+    static const uint8_t stop[6] = {0xE8, 0xC0, 0x00, 0x61, 0x10}; /* AND XWA,XWA; NOP; JR LT */
+    uint8_t cc, marks;
+    for (marks = 0; marks < 16; marks++) {
+        for (cc = 0; cc < 16; cc++) {
+            uint8_t jr[6] = {0, 0x10}, jrl[6] = {0, 0x10, 0x00};
+            jr[0] = (uint8_t)(0x60 + cc);
+            jrl[0] = (uint8_t)(0x70 + cc);
+            marked_jump(jr, 2, marks);
+            marked_jump(jrl, 3, marks);
+        }
+        marked_push(marks, 0x80, 0, 0);
+        marked_push(marks, 0x101, 5, 0x100);
+        marked_push(marks, 0x12345678, 5, 0x345677);
+        marked_push(marks, 0, 6, 0xFFFFFF);
+        marked_push(marks, 0xFFFF81, 6, 0xFFFF80);
+    }
+    /* a run does the steps before it */
+    lend_marked(stop, 0xC3, 0x81, 0);
+    clear_operands();
+    keep();
+    put(kept(&record) + 80, 4, 3);
+    kept(&record)[84] = 0x50;
+    kept(&record)[TLCS900H_MARKS] = 2;
+    kept_word = 2;
+    held("run", run(1000), TLCS900H_UNDEFINED);
+    kept_word = 0;
+    held("run", run(1000), TLCS900H_UNDEFINED);
+    held("step", step(), TLCS900H_UNDEFINED);
+    held("run", run(0), 0);
+}
+
+/* ---- every bit of a record turned over, one at a time: a run of 0 steps tells whether the record is good */
+static int is_good(const uint8_t *r) {
+    uint8_t marked_f = (uint8_t)((r[TLCS900H_MARKS] & 1 ? 0x10 : 0) | (r[TLCS900H_MARKS] & 2 ? 0x04 : 0));
+    uint8_t marked_spare = (uint8_t)((r[TLCS900H_MARKS] & 4 ? 0x10 : 0) | (r[TLCS900H_MARKS] & 8 ? 0x04 : 0));
+    if (r[83] != 0) return 0;                          /* a counter below 2^24 */
+    if ((r[84] & 0x28) || (r[86] & 0x28)) return 0;    /* F and F' */
+    if ((r[85] & 0x8C) != 0x88) return 0;              /* bank and level */
+    if (r[87] || r[88] || r[89] || r[91]) return 0;    /* zeros */
+    if (r[TLCS900H_MARKS] > 15) return 0;                          /* four marks, and a marked flag is 0 */
+    return (r[84] & marked_f) == 0 && (r[86] & marked_spare) == 0;
+}
+
+static void turn_bits(uint8_t f, uint8_t spare, uint8_t marks) {
     static const uint8_t nop[6] = {0};
     size_t byte;
     int bit;
-    for (byte = 0; byte < 88; byte++)
+    for (byte = 0; byte < 92; byte++)
         for (bit = 0; bit < 8; bit++) {
-            uint8_t number = may_turn(byte, bit) ? 0 : 2;
-            lend_code(0, nop, 6);
+            uint8_t number;
+            lend_marked(nop, f, spare, marks);
             record.bytes[GUARD + byte] ^= (uint8_t)(1 << bit);
+            number = is_good(record.bytes + GUARD) ? 0 : 2;
             keep();
             kept_word = 0;
             held("run", run(0), number);
             word[1] = place[1] = 1;
-            held("run", tlcs900h_run(at(&record), 88, NULL, 0, NULL, 0, 0, &word[1], &place[1]), number);
+            held("run", tlcs900h_run(at(&record), 92, NULL, 0, NULL, 0, 0, &word[1], &place[1]), number);
             if (number == 0) continue;
             held("run", run(1), number);
             held("step", step(), number);
         }
+}
+
+/* All flags 1; no flag that can be marked; all of these marked; one of each. */
+static void record_bits(void) {
+    turn_bits(0xD7, 0xD7, 0);
+    turn_bits(0xC3, 0x81, 0);
+    turn_bits(0xC3, 0x81, 15);
+    turn_bits(0xD3, 0x85, 2 | 4);
 }
 
 static void group(const char *name, void (*does)(void)) {
@@ -515,6 +696,8 @@ int main(void) {
     group("constants loaded into every register of every bank", registers);
     group("a store, F and F' exchanged, LDF 0 to 7", changes);
     group("a run that stops, and the longest", stops);
+    group("what sets, clears, keeps and exchanges the marks", mark_changes);
+    group("jumps and PUSH F that read a marked flag", mark_refusals);
     group("records with one bit turned over", record_bits);
     printf("%u passed, %u failed\n", passed, failed);
     return failed != 0;

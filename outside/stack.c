@@ -1,8 +1,8 @@
 /*
  * How much stack each call takes: it is called on a painted stack, and what is no longer paint was used. Every first byte of
  * an instruction is tried with every byte behind it, and with every byte behind one, two and three others, which are 0; from RAM and from
- * ROM; with registers that point to RAM, to ROM and to neither. The header names a bound; the last line counts the calls
- * that keep below it. Stack that is set aside and never written is not seen. For x86-64.
+ * ROM; with registers that point to RAM, to ROM and to neither; with H and V of F and F' marked, and with no mark. The header names a
+ * bound; the last line counts the calls that keep below it. Stack that is set aside and never written is not seen. For x86-64.
  */
 #define _XOPEN_SOURCE 700
 #include <stdio.h>
@@ -16,7 +16,7 @@ enum { CASES = 256, MEMORY = 256, SPACE = 65536 };
 static uint8_t records[CASES][TLCS900H_RECORD], rams[CASES][MEMORY], roms[CASES][MEMORY];
 static uint8_t space[SPACE], *top; /* the painted stack; where it stood just before a call */
 static uint32_t counter, count, place;
-static unsigned long answers[8];
+static unsigned long answers[9];
 static ucontext_t here, there;
 
 /* The stack pointer: what a call pushes for itself lies below it. */
@@ -60,6 +60,7 @@ static void prepare(int first, int behind, int in_rom, uint32_t pointer) {
         for (int r = TLCS900H_XWA; r <= TLCS900H_XSP; r += 4) put(records[i] + r, pointer);
         put(records[i] + TLCS900H_COUNTER, counter);
         put(records[i] + TLCS900H_SR, i % 2 ? 0xF8D7 : 0xF800);
+        records[i][TLCS900H_MARKS] = i % 4 ? 0 : 0x0F; /* every fourth has all marks, and the flags 0 */
     }
 }
 
@@ -95,9 +96,9 @@ static int keeps(const char *name, void (*call)(void)) {
     size_t bytes;
     memset(answers, 0, sizeof answers);
     bytes = most(call);
-    printf("%s takes %lu bytes of stack at most; it answered 0 to 6 so often:", name, (unsigned long)bytes);
+    printf("%s takes %lu bytes of stack at most; it answered 0 to 6 and 8 so often:", name, (unsigned long)bytes);
     for (int number = 0; number <= 6; number++) printf(" %lu", answers[number]);
-    printf("\n");
+    printf(" %lu\n", answers[8]);
     return bytes < TLCS900H_STACK && answers[0] > 0;
 }
 

@@ -1,9 +1,9 @@
 -- Each case of the table has the value and the F that stand there.
 use lib.Dec.{T}
-use Rattle.flags.specs.Flag.{byteOf, flagsOf}
+use Rattle.flags.specs.Flag.{byteOf, packedOf, flagsOf}
 use Rattle.flags.specs.Condition.{basic, holdsOf}
-use Rattle.alu.specs.Parity.{onesOf, evenOnes, parityOf}
-use Rattle.flags.specs.Sums.{computedOf, sumOf, differenceOf}
+use Rattle.alu.specs.Parity.{onesOf, evenOnes}
+use Rattle.flags.specs.Sums.{resultOf, sumOf, differenceOf}
 use Rattle.alu.specs.Logic.{plain, andOf, orOf, xorOf}
 use Rattle.alu.specs.Operation.{operated}
 use Rattle.alu.specs.Shift.{placesOf, shiftOf, shiftBy}
@@ -12,5 +12,5 @@ use Rattle.alu.specs.Extend.{extzOf, extsOf}
 use Rattle.alu.specs.Cases.{every, holding, aluCases}
 
 pub cases-hold : T (every (λ b. b) aluCases)
-unfolding aluCases every holding basic holdsOf operated placesOf byteOf flagsOf onesOf evenOnes parityOf computedOf sumOf differenceOf plain andOf orOf xorOf shiftOf shiftBy incOf decOf extzOf extsOf
+unfolding aluCases every holding basic holdsOf operated placesOf byteOf packedOf flagsOf onesOf evenOnes resultOf sumOf differenceOf plain andOf orOf xorOf shiftOf shiftBy incOf decOf extzOf extsOf
 cases-hold = tt

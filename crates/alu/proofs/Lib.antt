@@ -6,3 +6,4 @@ pub mod Depends
 pub mod Results
 pub mod Order
 pub mod Cases
+pub mod Fits

@@ -10,13 +10,14 @@ use lib.Pow.{pow-pos}
 use borrow.Author.Tests.{lt-ltb, le-ltb, le-leb, lt-leb, leb-true, leb-false, eq-eqb, ne-eqb, eqb-true, eqb-false}
 use Rattle.alu.specs.declared.Arith.the-variants.{Cp}
 use Rattle.flags.specs.Width.{low, negative, one}
-use Rattle.flags.specs.Sums.{turned, computedOf, differenceOf}
+use Rattle.flags.specs.Sums.{turned, resultOf, differenceOf}
 use Rattle.flags.specs.declared.Flags.{Flags}
 use Rattle.alu.specs.Operation.{operated}
 use Rattle.flags.specs.Condition.{lessThan, basic, holdsOf}
 use Rattle.flags.specs.Meaning.{off}
 use Rattle.alu.specs.Meaning.{ComparisonOrders}
 use Rattle.flags.proofs.Widths.{twice}
+use Rattle.flags.proofs.Undefined.{sum-defines-v}
 use Rattle.alu.proofs.Ranges.{difference-lt}
 use Rattle.alu.proofs.Results.{compared-same, exact}
 
@@ -113,13 +114,14 @@ module _ (k a b : ℕ) (c : Bool) (p : 0 < k) where
   f = operated Cp k a b c .flags
 
   carry-below : f .c ≡ ltb (low k a) (low k b)
-  unfolding operated differenceOf computedOf
+  unfolding operated differenceOf resultOf
   carry-below = ap (ltb (low k a)) (add-zero (low k b))
 
   signs-less : lessThan f ≡ ltb (low k a + off k (low k b)) (low k b + off k (low k a))
-  unfolding operated differenceOf computedOf
+  unfolding operated differenceOf resultOf
   signs-less =
-      signed-less (2 ^ k) (2 ^ (k - 1)) (low k a) (low k b) (differenceOf k a b false .value) (ltb (low k a) (low k b + 0)) (twice k p) (mod-lt a (pow-pos k)) (mod-lt b (pow-pos k)) (difference-lt k a b false)
+      ap (λ (v : Bool). not (Bool·beq (f .s) v)) (sum-defines-v k _)
+      ∙ signed-less (2 ^ k) (2 ^ (k - 1)) (low k a) (low k b) (differenceOf k a b false .value) (ltb (low k a) (low k b + 0)) (twice k p) (mod-lt a (pow-pos k)) (mod-lt b (pow-pos k)) (difference-lt k a b false)
       (sym (add-zero _) ∙ exact k a b ∙ ap (λ (n : ℕ). low k a + n) (borrowed (2 ^ k) (ltb (low k a) (low k b + 0))))
 
   zero-signed : f .z ≡ eqb (low k a + off k (low k b)) (low k b + off k (low k a))

@@ -12,7 +12,7 @@ use Rattle.alu.specs.declared.Arith.the-variants.{Add, Adc, Sub, Sbc, An
 use Rattle.alu.specs.declared.Shift.{Shift}
 use Rattle.flags.specs.declared.Flags.{Flags}
 use Rattle.flags.specs.Width.{low, negative}
-use Rattle.flags.specs.Sums.{computedOf, sumOf, differenceOf}
+use Rattle.flags.specs.Sums.{resultOf, sumOf, differenceOf}
 use Rattle.alu.specs.Logic.{plain, andOf, orOf, xorOf}
 use Rattle.alu.specs.Operation.{operated}
 use Rattle.alu.specs.Shift.{shifted, shiftOf}
@@ -22,16 +22,16 @@ use Rattle.alu.proofs.Shifts.{shift-lt}
 use Rattle.flags.proofs.Widths.{half-le}
 
 pub sum-lt : (k a b : ℕ) (c : Bool) → sumOf k a b c .value < 2 ^ k
-unfolding sumOf computedOf
+unfolding sumOf resultOf
 sum-lt k a b c = mod-lt _ (pow-pos k)
 
 pub difference-lt : (k a b : ℕ) (c : Bool) → differenceOf k a b c .value < 2 ^ k
-unfolding differenceOf computedOf
+unfolding differenceOf resultOf
 difference-lt k a b c = mod-lt _ (pow-pos k)
 
 -- the eight operations
 pub operated-lt : (op : Arith) (k a b : ℕ) (c : Bool) → operated op k a b c .value < 2 ^ k
-unfolding operated plain andOf orOf xorOf computedOf
+unfolding operated plain andOf orOf xorOf resultOf
 operated-lt Add k a b c = sum-lt k a b false
 operated-lt Adc k a b c = sum-lt k a b c
 operated-lt Sub k a b c = difference-lt k a b false
@@ -43,7 +43,7 @@ operated-lt Cp k a b c = difference-lt k a b false
 
 -- the shifts, by any number of places
 pub shifted-lt : (w : Shift) (k a n : ℕ) → 0 < k → shiftOf w k a n .value < 2 ^ k
-unfolding shiftOf computedOf
+unfolding shiftOf resultOf
 shifted-lt w k a n p = shift-lt w k n (shifted (low k a) false) p (mod-lt a (pow-pos k))
 
 -- INC and DEC

@@ -1,5 +1,5 @@
 -- S and Z are those of the value; what INC and DEC keep; Z after a comparison says that the operands are equal.
-use mathlib.Core.Path.{_≡_, refl, _∙_}
+use mathlib.Core.Path.{_≡_, refl, sym, ap, _∙_}
 use mathlib.Core.Bool.{Bool, false, true, cond}
 use Prim.Native.Nat.{ℕ, _+_, _*_, _%_, _^_, _≤_, _<_}
 use native.Mathlib.Nat.{mod-lt, lt-of-not-le}
@@ -13,7 +13,9 @@ use Rattle.alu.specs.declared.Arith.the-variants.{Add, Adc, Sub, Sbc, An
 use Rattle.alu.specs.declared.Shift.{Shift}
 use Rattle.flags.specs.declared.Computed.{Computed}
 use Rattle.flags.specs.Width.{low, negative, one}
-use Rattle.flags.specs.Sums.{computedOf, sumOf, differenceOf}
+use Rattle.flags.specs.Sums.{resultOf, sumOf, differenceOf}
+use Rattle.flags.specs.Undefined.{byParity, undefinedOf}
+use Rattle.alu.specs.inner.Parity.{parityOf}
 use Rattle.alu.specs.Logic.{plain, andOf, orOf, xorOf}
 use Rattle.alu.specs.Operation.{operated}
 use Rattle.alu.specs.Shift.{shiftOf}
@@ -21,32 +23,39 @@ use Rattle.flags.specs.declared.Flags.{Flags}
 use Rattle.flags.specs.Flag.{keepingC}
 use Rattle.alu.specs.Count.{countedOf, incOf, decOf}
 use Rattle.flags.proofs.Meaning.{difference-is-exact}
+use Rattle.flags.proofs.Undefined.{parity-defines-h}
 
 -- Z is 1 exactly where the value is 0, and S is the value's top bit
 pub record Judged (k : ℕ) (r : Computed) : Type 0 where
   pub zero : r .flags .z ≡ eqb (r .value) 0
   pub sign : r .flags .s ≡ negative k (r .value)
 
-judged : (k r : ℕ) (h v n c : Bool) → Judged k (computedOf k r h v n c)
-unfolding computedOf
-judged k r h v n c = record { zero = refl; sign = refl }
+judged : (k r : ℕ) (h v n c : Bool) (m : ℕ) → Judged k (resultOf k r h v n c m)
+unfolding resultOf
+judged k r h v n c m = record { zero = refl; sign = refl }
+
+-- the parts that the code hands on make a result with parity
+pub plain-made :
+    (k r m : ℕ) (h v c : Bool) → v ≡ parityOf k r → m ≡ undefinedOf (byParity k) → resultOf k r h v false c m ≡ plain k r h c
+unfolding plain parityOf
+plain-made k r m h v c e f = rw (e, f) (ap (λ (b : Bool). resultOf k r b (parityOf k r) false c (undefinedOf (byParity k))) (sym (parity-defines-h k h)))
 
 -- the eight operations
 pub operated-judged : (op : Arith) (k a b : ℕ) (c : Bool) → Judged k (operated op k a b c)
 unfolding operated sumOf differenceOf plain andOf orOf xorOf
-operated-judged Add k a b c = judged k _ _ _ _ _
-operated-judged Adc k a b c = judged k _ _ _ _ _
-operated-judged Sub k a b c = judged k _ _ _ _ _
-operated-judged Sbc k a b c = judged k _ _ _ _ _
-operated-judged And k a b c = judged k _ _ _ _ _
-operated-judged Xor k a b c = judged k _ _ _ _ _
-operated-judged Or k a b c = judged k _ _ _ _ _
-operated-judged Cp k a b c = judged k _ _ _ _ _
+operated-judged Add k a b c = judged k _ _ _ _ _ _
+operated-judged Adc k a b c = judged k _ _ _ _ _ _
+operated-judged Sub k a b c = judged k _ _ _ _ _ _
+operated-judged Sbc k a b c = judged k _ _ _ _ _ _
+operated-judged And k a b c = judged k _ _ _ _ _ _
+operated-judged Xor k a b c = judged k _ _ _ _ _ _
+operated-judged Or k a b c = judged k _ _ _ _ _ _
+operated-judged Cp k a b c = judged k _ _ _ _ _ _
 
 -- the shifts
 pub shift-judged : (w : Shift) (k a n : ℕ) → Judged k (shiftOf w k a n)
 unfolding shiftOf
-shift-judged w k a n = judged k _ _ _ _ _
+shift-judged w k a n = judged k _ _ _ _ _ _
 
 -- ---- INC and DEC keep C, and at another width than a byte all flags
 counted-carry : (old : Flags) (k : ℕ) (r : Computed) → countedOf old k r .flags .c ≡ old .c
@@ -91,7 +100,7 @@ same m v x y h e d (no q) =
 pub exact :
     (k a b : ℕ) →
     differenceOf k a b false .value + low k b + 0 ≡ low k a + 2 ^ k * one (ltb (low k a) (low k b + 0))
-unfolding differenceOf computedOf
+unfolding differenceOf resultOf
 exact k a b = difference-is-exact k a b false
 
 -- Z of CP is 1 exactly where the operands' low k bits are the same

@@ -15,7 +15,7 @@ use Rattle.alu.specs.Extend.{extzOf, extsOf}
 use Rattle.alu.specs.declared.Shift.the-variants.{Sla, Sra, Sll, Srl}
 use Rattle.alu.specs.declared.shifter.Shifted.{Shifted}
 use Rattle.flags.specs.Width.{low, negative, weighed}
-use Rattle.flags.specs.Sums.{computedOf}
+use Rattle.flags.specs.Sums.{resultOf}
 use Rattle.alu.specs.Shift.{shifted, onePlace, shiftBy, shiftOf}
 use Rattle.flags.specs.Meaning.{off}
 use Rattle.alu.specs.Meaning.{EndsWithAPlace, LeftMultiplies, RightDivides, SignedRightDivides, ExtsKeepsNumber}
@@ -29,7 +29,7 @@ unfolding shiftBy
 last w k n s = ap (λ (m : ℕ). shiftBy w k m s) (sym (add-one n)) ∙ shift-add w k n 1 s
 
 pub ends-with-a-place : EndsWithAPlace
-unfolding shiftOf computedOf
+unfolding shiftOf resultOf
 ends-with-a-place w k a n =
     let e = last w k n (shifted (low k a) false) in
     record { value = ap (λ (t : Shifted). t .value) e; carry = ap (λ (t : Shifted). t .out) e }
@@ -61,7 +61,7 @@ left-after w f k a (suc n) =
     ∙ rw (left-after w f k a n, doubled (2 ^ k) (a * 2 ^ n), mul-assoc a (2 ^ n) 2, pow-suc 2 n)
 
 pub left-multiplies : LeftMultiplies
-unfolding shiftOf computedOf after
+unfolding shiftOf resultOf after
 left-multiplies k a n = (left-after Sla (λ k x. refl) k a n, left-after Sll (λ k x. refl) k a n)
 
 -- ---- to the right
@@ -71,7 +71,7 @@ right-after k x (suc n) =
     after-more Srl k x n ∙ rw (right-after k x n, add-zero, shr-shr x n 1, add-one)
 
 pub right-divides : RightDivides
-unfolding shiftOf computedOf after
+unfolding shiftOf resultOf after
 right-divides k a n = right-after k (low k a) n
 
 -- ---- to the right, with the sign
@@ -121,7 +121,7 @@ signed-after k x (suc n) p =
     ∙ ap (λ (m : ℕ). (x + s * (m - 1)) / m) (sym (pow-suc 2 n))
 
 pub signed-right-divides : SignedRightDivides
-unfolding shiftOf computedOf after
+unfolding shiftOf resultOf after
 signed-right-divides k a n p = signed-after k (low k a) n p
 
 -- ---- EXTS

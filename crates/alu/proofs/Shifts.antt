@@ -13,7 +13,7 @@ use Rattle.little.specs.Width.{bitsOf}
 use lib.Dec.{leb, eqb, lit≤}
 use borrow.Author.Tests.{le-leb, lt-leb, leb-false, eqb-true, eqb-false}
 use Rattle.alu.specs.Logic.{plain}
-use Rattle.flags.specs.Sums.{computedOf}
+use Rattle.flags.specs.Sums.{resultOf}
 use native.Mathlib.Numerals.{sub-one}
 use Rattle.alu.specs.declared.Shift.{Shift}
 use Rattle.alu.specs.declared.shifter.Shifted.{Shifted}
@@ -118,7 +118,7 @@ out-forgotten w k (suc n) s t h e = ap (λ (x : ℕ). shiftBy w k n (onePlace w 
 
 -- a places and then b places leave the same value and flags as a + b places
 pub shift-merge : (w : Shift) (k x a b : ℕ) → 0 < k → 0 < b → shiftOf w k (shiftOf w k x a .value) b ≡ shiftOf w k x (a + b)
-unfolding shiftOf computedOf
+unfolding shiftOf resultOf
 shift-merge w k x a b p h =
     ap (λ (t : Shifted). plain k (t .value) false (t .out))
     (out-forgotten w k b (shifted (low k (shiftBy w k a (shifted (low k x) false) .value)) false) (shiftBy w k a (shifted (low k x) false)) h

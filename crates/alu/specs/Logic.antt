@@ -1,11 +1,11 @@
 -- AND, OR and XOR of two operands of k bits.
 use Rattle.little.specs.Words.{ℕ, Bool, true, false, bitAnd, bitOr, bitXor}
-use Rattle.flags.specs.{declared.Computed.Computed, Width.low, Sums.computedOf}
-use Rattle.alu.specs.{Parity.parityOf}
+use Rattle.flags.specs.{declared.Computed.Computed, Width.low, Sums.computedOf, Undefined.byParity, Undefined.undefinedOf}
+use Rattle.alu.specs.{Parity.evenOnes}
 
--- a result of k bits whose V is its parity, N 0
+-- a result of k bits whose V is its parity: 1 where the ones are even; N 0
 unfoldable pub plain : ℕ → ℕ → Bool → Bool → Computed
-plain k r h c = computedOf k r h (parityOf k r) false c
+plain k r h c = computedOf k (undefinedOf (byParity k)) r h (evenOnes k r) false c
 
 -- AND: H 1, C 0
 unfoldable pub andOf : ℕ → ℕ → ℕ → Computed

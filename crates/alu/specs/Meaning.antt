@@ -1,11 +1,30 @@
 -- What the conditions after a comparison, shifts and EXTS mean, for every width of k bits.
--- Each statement is proved in proofs/Order.antt or proofs/Shifting.antt.
+-- Which flags are marked. Each statement is proved in proofs/Fits.antt, proofs/Order.antt or proofs/Shifting.antt.
 use Rattle.little.specs.Words.{ℕ, suc, _+_, _-_, _*_, _/_, _^_, _<_, _≡_, Bool, leb, ltb}
 use Rattle.little.specs.{declared.Size.Size, Width.bitsOf}
 use Rattle.flags.specs.{declared.Flags.Flags, Width.low, Condition.holdsOf, Meaning.off}
-use Rattle.alu.specs.{declared.Shift.Shift, declared.Arith.the-variants.Cp, Operation.operated, Shift.onePlace, Shift.shiftOf}
+use Rattle.flags.specs.Undefined.{Made, bySum, byParity, undefinedOf}
+use Rattle.alu.specs.{declared.Shift.Shift, declared.Arith.Arith, Operation.operated, Shift.onePlace, Shift.shiftOf}
+use Rattle.alu.specs.declared.Arith.the-variants.{Add, Adc, Sub, Sbc, And, Xor, Or, Cp}
 use Rattle.alu.specs.{Extend.extzOf, Extend.extsOf}
 use Rattle.alu.specs.declared.Shift.the-variants.{Sla, Sra, Sll, Srl}
+
+-- how each operation makes its flags, and so which of them the book leaves undefined
+abbrev pub madeBy : Arith → ℕ → Made
+madeBy Add k = bySum k
+madeBy Adc k = bySum k
+madeBy Sub k = bySum k
+madeBy Sbc k = bySum k
+madeBy And k = byParity k
+madeBy Xor k = byParity k
+madeBy Or k = byParity k
+madeBy Cp k = bySum k
+
+-- an operation and a shift mark just these
+abbrev pub MarksAre : Type 0
+MarksAre =
+    ((op : Arith) (k a b : ℕ) (c : Bool) → operated op k a b c .flags .marks ≡ undefinedOf (madeBy op k))
+    × ((w : Shift) (k a n : ℕ) → shiftOf w k a n .flags .marks ≡ undefinedOf (byParity k))
 
 -- after a comparison of x with y the conditions C and ULE order the numbers without a sign, LT and LE those with one
 pub record Ordered (k x y : ℕ) (f : Flags) : Type 0 where

@@ -1,5 +1,5 @@
--- The number of ones, and V of logic and shifts.
-use Rattle.little.specs.Words.{ℕ, zero, suc, _+_, _/_, _%_, Bool, _&&_, eqb, ltb}
+-- The number of ones, whose parity is V of logic and shifts.
+use Rattle.little.specs.Words.{ℕ, zero, suc, _+_, _/_, _%_, Bool, eqb}
 
 -- how many of the k low bits of x are ones
 unfoldable pub onesOf : ℕ → ℕ → ℕ
@@ -9,7 +9,3 @@ onesOf (suc k) x = x % 2 + onesOf k (x / 2)
 -- their number is even
 unfoldable pub evenOnes : ℕ → ℕ → Bool
 evenOnes k x = eqb (onesOf k x % 2) 0
-
--- V of logic and shifts: even ones, and 0 for a long
-unfoldable pub parityOf : ℕ → ℕ → Bool
-parityOf k x = ltb k 32 && evenOnes k x

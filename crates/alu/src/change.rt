@@ -1,7 +1,7 @@
 // What is made of one value by itself: INC, DEC, shifts and extensions.
 ghost use mathlib.Core.Path.{_≡_};
 ghost use Rattle.little.specs.Width.{bitsOf};
-ghost use Rattle.flags.specs.Flag.{byteOf, flagsOf};
+ghost use Rattle.flags.specs.Flag.{packedOf, flagsOf};
 ghost use Rattle.alu.specs.Change.{keeping, changed};
 use crate::Shift;
 use crate::count::dec;
@@ -33,9 +33,9 @@ fn keeping(old: Flags, value: u32) -> Computed
 }
 
 // The value; the flags go into F. Each arm does so by itself, which was measured to be faster.
-pub fn changed(how: Change, size: Size, a: u32, flags: &mut u8) -> u32
+pub fn changed(how: Change, size: Size, a: u32, flags: &mut u16) -> u32
     ensures { λ r. ⌜ (r ≡ changed how (bitsOf size) a (flagsOf (now (flags .entry))) .value)
-        × (now (flags .exit) ≡ byteOf (changed how (bitsOf size) a (flagsOf (now (flags .entry))) .flags)) ⌝ }
+        × (now (flags .exit) ≡ packedOf (changed how (bitsOf size) a (flagsOf (now (flags .entry))) .flags)) ⌝ }
 {
     match how {
         Change::Inc(n) => settled(inc(unpack(*flags), size, a, steps_of(n)), flags),

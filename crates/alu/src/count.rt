@@ -31,6 +31,7 @@ fn keeping_c(old: Flags, f: Flags) -> Flags
         v: f.v,
         n: f.n,
         c: old.c,
+        marks: f.marks,
     }
 }
 

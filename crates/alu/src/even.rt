@@ -1,7 +1,9 @@
-// The parity table, its rule, and V by it.
+// The parity table, its rule, V by it, and where V is marked.
 ghost use mathlib.Core.Path.{_≡_};
 ghost use Rattle.little.specs.Width.{bitsOf};
-ghost use Rattle.alu.specs.Parity.{evenOnes, parityOf};
+ghost use Rattle.flags.specs.Undefined.{byParity, undefinedOf};
+ghost use Rattle.alu.specs.Parity.{evenOnes};
+ghost use Rattle.alu.specs.inner.Parity.{parityOf};
 use little::Size;
 
 // Whether a byte has an even number of ones.
@@ -39,5 +41,16 @@ pub fn parity(size: Size, x: u32) -> bool
         Size::Byte => even_ones((x % 256) as u8),
         Size::Word => even_ones(((x / 256 ^ x) % 256) as u8),
         Size::Long => false,
+    }
+}
+
+// The mark of V, which nobody defined for a long.
+pub fn marks(size: Size) -> u8
+    ensures { λ r. ⌜ r ≡ undefinedOf (byParity (bitsOf size)) ⌝ }
+{
+    match size {
+        Size::Byte => 0,
+        Size::Word => 0,
+        Size::Long => 2,
     }
 }

@@ -1,15 +1,17 @@
 // Operations on two operands, and changes of one, of the three sizes, with their flags.
 ghost use mathlib.Core.Path.{_≡_};
 ghost use Rattle.little.specs.Width.{bitsOf};
+ghost use Rattle.flags.specs.Flag.{packedOf, flagsOf};
 ghost use Rattle.alu.specs.Operation.{operated};
 pub use crate::change::Change;
 pub use crate::change::changed;
 use crate::logic::and;
 use crate::logic::or;
 use crate::logic::xor;
-use flags::Computed;
+use flags::settled;
 use flags::sum::add;
 use flags::sum::sub;
+use flags::unpack;
 use little::Size;
 
 mod change;
@@ -39,18 +41,22 @@ pub enum Shift {
     Srl,
 }
 
-// The eight operations on two operands, with the carry that was.
-pub fn operate(op: Arith, size: Size, a: u32, b: u32, carry: bool) -> Computed
-    ensures { λ r. ⌜ r ≡ operated op (bitsOf size) a b carry ⌝ }
+// The eight operations on two operands, with the carry in F. The value; the flags go into F, in each arm by itself, so that one packed F
+// leaves the arms, and not a value and seven fields.
+pub fn operate(op: Arith, size: Size, a: u32, b: u32, flags: &mut u16) -> u32
+    ensures { λ r. ⌜ (r ≡ operated op (bitsOf size) a b (flagsOf (now (flags .entry)) .c) .value)
+        × (now (flags .exit) ≡ packedOf (operated op (bitsOf size) a b (flagsOf (now (flags .entry)) .c) .flags)) ⌝ }
 {
+    let old = unpack(*flags);
+    let carry = old.c;
     match op {
-        Arith::Add => add(size, a, b, false),
-        Arith::Adc => add(size, a, b, carry),
-        Arith::Sub => sub(size, a, b, false),
-        Arith::Sbc => sub(size, a, b, carry),
-        Arith::And => and(size, a, b),
-        Arith::Xor => xor(size, a, b),
-        Arith::Or => or(size, a, b),
-        Arith::Cp => sub(size, a, b, false),
+        Arith::Add => settled(add(size, a, b, false), flags),
+        Arith::Adc => settled(add(size, a, b, carry), flags),
+        Arith::Sub => settled(sub(size, a, b, false), flags),
+        Arith::Sbc => settled(sub(size, a, b, carry), flags),
+        Arith::And => settled(and(size, a, b), flags),
+        Arith::Xor => settled(xor(size, a, b), flags),
+        Arith::Or => settled(or(size, a, b), flags),
+        Arith::Cp => settled(sub(size, a, b, false), flags),
     }
 }

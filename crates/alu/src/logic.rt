@@ -3,6 +3,7 @@ ghost use mathlib.Core.Path.{_≡_};
 ghost use mathlib.Core.Bool.{false};
 ghost use Rattle.little.specs.Width.{bitsOf};
 ghost use Rattle.alu.specs.Logic.{plain, andOf, orOf, xorOf};
+use crate::even::marks;
 use crate::even::parity;
 use flags::Computed;
 use flags::width::judged;
@@ -13,7 +14,7 @@ use little::Size;
 fn plain(size: Size, r: u32, h: bool) -> Computed
     ensures { λ a. ⌜ a ≡ plain (bitsOf size) r h false ⌝ }
 {
-    judged(size, r, h, parity(size, r), false, false)
+    judged(size, r, h, parity(size, r), false, false, marks(size))
 }
 
 pub fn and(size: Size, a: u32, b: u32) -> Computed

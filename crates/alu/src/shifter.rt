@@ -6,6 +6,7 @@ ghost use Rattle.flags.specs.Width.{weighed};
 ghost use Rattle.alu.specs.inner.Place.{goesLeft, comesIn, Goes};
 ghost use Rattle.alu.specs.Shift.{placesOf, shifted, joined, leftOf, rightOf, onePlace, shiftBy, shiftOf};
 use crate::Shift;
+use crate::even::marks;
 use crate::even::parity;
 use flags::Computed;
 use flags::width::judged;
@@ -116,5 +117,6 @@ pub fn shift_by(kind: Shift, size: Size, a: u32, code: u8) -> Computed
     let above = comes_in(kind, weight, x);
     let t = places(goes_left(kind), weight, above, x, false, places_of(code));
     let r = (t % 0x1_0000_0000) as u32;
-    judged(size, r, false, parity(size, r), false, 0x1_0000_0000 <= t)
+    let v = parity(size, r);
+    judged(size, r, false, v, false, 0x1_0000_0000 <= t, marks(size))
 }

@@ -14,6 +14,8 @@ pub enum Why {
     NoCode,
     // The bytes begin no listed instruction.
     Unlisted,
+    // A jump would decide by a flag that nobody defined, or PUSH F would store one.
+    Undefined,
     // An operand is not whole in one memory: the address of its missing byte.
     Missing(u32),
     // A store would go to ROM: the address of its first byte.
@@ -35,6 +37,7 @@ pub fn why_number(w: Why) -> u8
         Why::Invalid => 2,
         Why::NoCode => 3,
         Why::Unlisted => 4,
+        Why::Undefined => 8,
         Why::Missing(_) => 5,
         Why::ToRom(_) => 6,
     }
@@ -60,6 +63,7 @@ fn why_at(w: Why) -> u32
         Why::Invalid => 0,
         Why::NoCode => 0,
         Why::Unlisted => 0,
+        Why::Undefined => 0,
         Why::Missing(a) => a,
         Why::ToRom(a) => a,
     }

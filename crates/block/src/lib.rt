@@ -67,7 +67,7 @@ fn moved(f: Form, r: u8, bank: Bank, regs: &mut [u32; 20])
     state::write(regs, bank, Size::Long, r, y);
 }
 
-fn copied(f: Form, bank: Bank, flags: &mut u8, regs: &mut [u32; 20])
+fn copied(f: Form, bank: Bank, flags: &mut u16, regs: &mut [u32; 20])
     ensures { λ _. ⌜ ((s : State) → bankedWith s (now (regs .exit)) bank (now (flags .exit))
         ≡ copied f (bankedWith s (now (regs .entry)) bank (now (flags .entry)))) ⌝ }
 {
@@ -89,7 +89,7 @@ fn difference(bank: Bank, regs: &[u32; 20], size: Size, v: u32) -> Computed
     }
 }
 
-fn compared(f: Form, v: u32, bank: Bank, flags: &mut u8, regs: &mut [u32; 20])
+fn compared(f: Form, v: u32, bank: Bank, flags: &mut u16, regs: &mut [u32; 20])
     ensures { λ _. ⌜ ((s : State) → bankedWith s (now (regs .exit)) bank (now (flags .exit))
         ≡ compared f v (bankedWith s (now (regs .entry)) bank (now (flags .entry)))) ⌝ }
 {
@@ -107,7 +107,7 @@ fn copy(
     f: Form,
     v: u32,
     bank: Bank,
-    flags: &mut u8,
+    flags: &mut u16,
     regs: &mut [u32; 20],
     ram: &mut [u8],
     rom: &[u8],
@@ -129,7 +129,7 @@ fn copy(
 fn one_round(
     f: Form,
     bank: Bank,
-    flags: &mut u8,
+    flags: &mut u16,
     regs: &mut [u32; 20],
     ram: &mut [u8],
     rom: &[u8],
@@ -155,7 +155,7 @@ fn one_round(
 pub fn round(
     f: Form,
     bank: Bank,
-    flags: &mut u8,
+    flags: &mut u16,
     regs: &mut [u32; 20],
     ram: &mut [u8],
     rom: &[u8],
@@ -167,7 +167,7 @@ pub fn round(
     one_round(f, bank, flags, regs, ram, rom)
 }
 
-fn goes_on(f: Form, bank: Bank, flags: u8, regs: &[u32; 20]) -> bool
+fn goes_on(f: Form, bank: Bank, flags: u16, regs: &[u32; 20]) -> bool
     ensures { λ r. ⌜ ((s : State) → r ≡ goesOn f (bankedWith s (now (regs .entry)) bank flags)) ⌝ }
 {
     if f.again {
@@ -181,7 +181,7 @@ fn goes_on(f: Form, bank: Bank, flags: u8, regs: &[u32; 20]) -> bool
 }
 
 // The counter at the form again, where it goes on.
-pub fn ended(f: Form, at: u32, bank: Bank, flags: u8, regs: &[u32; 20], counter: u32) -> u32
+pub fn ended(f: Form, at: u32, bank: Bank, flags: u16, regs: &[u32; 20], counter: u32) -> u32
     ensures { λ r. ⌜ ((s : State) → bankedAtWith s (now (regs .entry)) bank r flags
         ≡ endsAt f at (bankedAtWith s (now (regs .entry)) bank counter flags)) ⌝ }
 {
@@ -203,7 +203,7 @@ pub fn in_rom(ram_len: usize, rom_len: usize, at: u32) -> bool
 }
 
 // Whether another round is done in the same call.
-pub fn again(f: Form, stays: bool, left: u32, bank: Bank, flags: u8, regs: &[u32; 20]) -> bool
+pub fn again(f: Form, stays: bool, left: u32, bank: Bank, flags: u16, regs: &[u32; 20]) -> bool
     ensures { λ r. ⌜ ((s : State) → r ≡ againOf f stays left (bankedWith s (now (regs .entry)) bank flags)) ⌝ }
 {
     if goes_on(f, bank, flags, regs) {

@@ -5,4 +5,4 @@ use Rattle.cases.proofs.Computed.{left, said, each}
 
 pub cases-hold : CasesHold
 unfolding cases left said
-cases-hold = (each (cases 0x00) refl, each (cases 0xD7) refl)
+cases-hold = (each (cases 0x00) refl, each (cases 0xD7) refl, each (cases 0x300) refl)

@@ -6,10 +6,10 @@ use Rattle.memory.specs.Place.{firstWithout, missingOf, placeOf}
 use Rattle.memory.specs.Access.{loadOf, storeOf, ramAfter, codeAt}
 use Rattle.state.specs.State.{zeroState, resetState, validOf, longOf, withLong, withCounter, withBank, withBothFlags, withFlags}
 use Rattle.state.specs.Register.{getBits, setBits, slotIn, setSlot, slotOf, registerAt, setRegister}
-use Rattle.flags.specs.Flag.{byteOf, flagsOf}
-use Rattle.flags.specs.Condition.{basic, holdsOf}
-use Rattle.alu.specs.Parity.{onesOf, evenOnes, parityOf}
-use Rattle.flags.specs.Sums.{computedOf, sumOf, differenceOf}
+use Rattle.flags.specs.Flag.{byteOf, packedOf, flagsOf}
+use Rattle.flags.specs.Condition.{basic, holdsOf, readsV, readsMarked}
+use Rattle.alu.specs.Parity.{onesOf, evenOnes}
+use Rattle.flags.specs.Sums.{resultOf, sumOf, differenceOf}
 use Rattle.alu.specs.Logic.{plain, andOf, orOf, xorOf}
 use Rattle.alu.specs.Operation.{operated}
 use Rattle.alu.specs.Shift.{placesOf, shiftBy, shiftOf}
@@ -21,7 +21,7 @@ use Rattle.code.specs.Registers.{placesRows, registerRows}
 use Rattle.code.specs.Memory.{memoryRows, storeRows, copies, compares, blocks, indirectRows}
 use Rattle.code.specs.Listed.{bankNumberRows, bankRows, flagRows, constantRows, stackRows, jumpRows, relativeRows, registerFormRows, absoluteRows, memoryFormRows, memoryAtRows, storeFormRows, aloneRows, memoryFirstRows, firstRows, decodeOf}
 use Rattle.operand.specs.Operand.{addressIn, valueIn, storing}
-use Rattle.stack.specs.Stack.{pushOf, popOf, stackOf}
+use Rattle.stack.specs.Stack.{pushOf, pushFOf, popOf, stackOf}
 use Rattle.operand.specs.Flag.{flagged}
 use Rattle.control.specs.Control.{jumpOf, controlOf}
 use Rattle.block.specs.Block.{counted, moved, copied, compared, roundOf, goesOn, endsAt}
@@ -35,7 +35,7 @@ use Rattle.cases.specs.Table.{Case, ComesOut, OfEach, begin}
 
 -- what the run of a row leaves, and what the row says of it
 unfoldable pub left : Case → Result
-unfolding begin valueOf bytesFrom replaced firstWithout missingOf placeOf loadOf storeOf ramAfter codeAt zeroState resetState validOf longOf withLong withCounter withBank withBothFlags withFlags getBits setBits slotIn setSlot slotOf registerAt setRegister byteOf flagsOf basic holdsOf onesOf evenOnes parityOf computedOf sumOf differenceOf plain andOf orOf xorOf operated placesOf shiftBy shiftOf incOf decOf extzOf extsOf numberAt judge lookup placesRows registerRows memoryRows storeRows copies compares blocks indirectRows bankNumberRows bankRows flagRows constantRows stackRows jumpRows relativeRows registerFormRows absoluteRows memoryFormRows memoryAtRows storeFormRows aloneRows memoryFirstRows firstRows decodeOf addressIn valueIn storing pushOf popOf flagged jumpOf counted moved copied compared roundOf goesOn endsAt pastOf controlOf stackOf putsOf effectOf executedOf guarded onceOf tryOf manyOf runOf
+unfolding begin valueOf bytesFrom replaced firstWithout missingOf placeOf loadOf storeOf ramAfter codeAt zeroState resetState validOf longOf withLong withCounter withBank withBothFlags withFlags getBits setBits slotIn setSlot slotOf registerAt setRegister byteOf packedOf flagsOf basic holdsOf readsV readsMarked onesOf evenOnes resultOf sumOf differenceOf plain andOf orOf xorOf operated placesOf shiftBy shiftOf incOf decOf extzOf extsOf numberAt judge lookup placesRows registerRows memoryRows storeRows copies compares blocks indirectRows bankNumberRows bankRows flagRows constantRows stackRows jumpRows relativeRows registerFormRows absoluteRows memoryFormRows memoryAtRows storeFormRows aloneRows memoryFirstRows firstRows decodeOf addressIn valueIn storing pushOf pushFOf popOf flagged jumpOf counted moved copied compared roundOf goesOn endsAt pastOf controlOf stackOf putsOf effectOf executedOf guarded onceOf tryOf manyOf runOf
 left c = runOf (c .steps) (c .start .state) (c .start .ram) (c .rom)
 
 unfoldable pub said : Case → Result

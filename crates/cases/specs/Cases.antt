@@ -32,6 +32,6 @@ cases f =
     (XIX 0x3459 & BC 0x01FD & F (0x46 + f % 2) & Counter 2)
     ∷ []
 
--- all of them, with no flag set before and with all of them set
+-- all of them, with no flag set before, with all of them set, and with H and V marked
 abbrev pub CasesHold : Type 0
-CasesHold = OfEach ComesOut (cases 0x00) × OfEach ComesOut (cases 0xD7)
+CasesHold = OfEach ComesOut (cases 0x00) × OfEach ComesOut (cases 0xD7) × OfEach ComesOut (cases 0x300)

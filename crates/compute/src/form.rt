@@ -5,7 +5,6 @@ ghost use Rattle.state.specs.State.{banked};
 ghost use Rattle.state.specs.inner.Lent.{bankedWith};
 ghost use Rattle.operand.specs.inner.Does.{Does};
 ghost use Rattle.compute.specs.inner.Form.{loadedFrom, storedTo, firstWith, secondWith, keptOr};
-use crate::operated;
 use crate::stores;
 use alu::Arith;
 use answer::Answer;
@@ -62,7 +61,7 @@ pub fn first(
     at: u32,
     size: Size,
     bank: Bank,
-    flags: &mut u8,
+    flags: &mut u16,
     regs: &mut [u32; 20],
     ram: &[u8],
     rom: &[u8],
@@ -74,7 +73,7 @@ pub fn first(
     match memory::load(ram, rom, at, size) {
         Loaded::Value(v) => {
             let x = state::read(&*regs, bank, size, r);
-            let w = operated(op, size, x, v, flags);
+            let w = alu::operate(op, size, x, v, flags);
             if stores(op) {
                 state::write(regs, bank, size, r, w);
             }
@@ -85,7 +84,7 @@ pub fn first(
 }
 
 // A refused store leaves F as it was before.
-fn stored(a: Answer, before: u8, flags: &mut u8) -> Answer
+fn stored(a: Answer, before: u16, flags: &mut u16) -> Answer
     ensures { λ r. ⌜ (r ≡ a) × (now (flags .exit) ≡ keptOr a before (now (flags .entry))) ⌝ }
 {
     if let Answer::Refused(_) = a {
@@ -102,7 +101,7 @@ pub fn second(
     at: u32,
     size: Size,
     bank: Bank,
-    flags: &mut u8,
+    flags: &mut u16,
     regs: &[u32; 20],
     ram: &mut [u8],
     rom: &[u8],
@@ -115,7 +114,7 @@ pub fn second(
         Loaded::Value(v) => {
             let y = state::read(regs, bank, size, r);
             let before = *flags;
-            let w = operated(op, size, v, y, &mut *flags);
+            let w = alu::operate(op, size, v, y, &mut *flags);
             if stores(op) {
                 return stored(memory::store(ram, rom, at, size, w), before, flags);
             }

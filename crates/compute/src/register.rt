@@ -11,7 +11,6 @@ ghost use Rattle.state.specs.inner.Lent.{bankedWith};
 ghost use Rattle.state.specs.Register.{registerAt, setRegister};
 ghost use Rattle.operand.specs.inner.Does.{Does};
 ghost use Rattle.compute.specs.Compute.{putsOf};
-use crate::operated;
 use crate::stores;
 use alu::Arith;
 use alu::Change;
@@ -35,7 +34,7 @@ pub fn operate(
     size: Size,
     r: u8,
     bank: Bank,
-    flags: &mut u8,
+    flags: &mut u16,
     regs: &mut [u32; 20],
 )
     ensures { λ _. ⌜ ((s : State) (ram rom : List ℕ) → Does (λ t m. putsOf (Compute op (First n)) size (Register r) t m rom)
@@ -44,27 +43,27 @@ pub fn operate(
 {
     let v = state::read(&*regs, bank, size, r);
     let x = state::read(&*regs, bank, size, n);
-    let w = operated(op, size, x, v, flags);
+    let w = alu::operate(op, size, x, v, flags);
     if stores(op) {
         state::write(regs, bank, size, n, w);
     }
 }
 
 // An operation on the register r and a number.
-pub fn with(op: Arith, n: u32, size: Size, r: u8, bank: Bank, flags: &mut u8, regs: &mut [u32; 20])
+pub fn with(op: Arith, n: u32, size: Size, r: u8, bank: Bank, flags: &mut u16, regs: &mut [u32; 20])
     ensures { λ _. ⌜ ((s : State) (ram rom : List ℕ) → Does (λ t m. putsOf (Compute op (With n)) size (Register r) t m rom)
         (bankedWith s (now (regs .entry)) bank (now (flags .entry))) ram
         Answer.Done (bankedWith s (now (regs .exit)) bank (now (flags .exit))) ram) ⌝ }
 {
     let v = state::read(&*regs, bank, size, r);
-    let w = operated(op, size, v, n, flags);
+    let w = alu::operate(op, size, v, n, flags);
     if stores(op) {
         state::write(regs, bank, size, r, w);
     }
 }
 
 // A change of the register r.
-pub fn change(how: Change, size: Size, r: u8, bank: Bank, flags: &mut u8, regs: &mut [u32; 20])
+pub fn change(how: Change, size: Size, r: u8, bank: Bank, flags: &mut u16, regs: &mut [u32; 20])
     ensures { λ _. ⌜ ((s : State) (ram rom : List ℕ) → Does (λ t m. putsOf (Changed how) size (Register r) t m rom)
         (bankedWith s (now (regs .entry)) bank (now (flags .entry))) ram
         Answer.Done (bankedWith s (now (regs .exit)) bank (now (flags .exit))) ram) ⌝ }

@@ -1,14 +1,16 @@
 -- Banks, flags and jumps: what changes the counter, the bank and the flags alone.
 use Rattle.little.specs.Words.{ℕ, _+_, cond, List}
-use Rattle.flags.specs.{Condition.holdsOf, Flag.rcfOf, Flag.scfOf, Flag.ccfOf, Flag.zcfOf}
+use Rattle.flags.specs.{Condition.holdsOf, Condition.readsMarked, Flag.rcfOf, Flag.scfOf, Flag.ccfOf, Flag.zcfOf}
+use Rattle.answer.specs.declared.Why.the-variants.{Undefined}
 use Rattle.state.specs.{declared.State.State, State.withBank, State.withCounter}
 use Rattle.code.specs.declared.Control.{Control}
 use Rattle.code.specs.declared.Control.the-variants.{Nop, Incf, Decf, Ldf, Rcf, Scf, Ccf, Zcf, Exf, Jp16, Jp24, Jr, Jrl}
-use Rattle.operand.specs.{Try.Try, Try.did, Flag.flagsIn, Flag.flagged, Flag.exchanged, Operand.displaced}
+use Rattle.operand.specs.{Try.Try, Try.did, Try.no, Flag.flagsIn, Flag.flagged, Flag.exchanged, Operand.displaced}
 
--- the counter is `to` where the condition cc holds; else it stays past the jump
+-- 8 where the condition cc reads a marked flag; else the counter is `to` where cc holds, and stays past the jump where it does not
 unfoldable pub jumpOf : State → List ℕ → ℕ → ℕ → Try
-jumpOf s ram cc to = did (cond (holdsOf (flagsIn s) cc) (withCounter s to) s) ram
+jumpOf s ram cc to =
+    cond (readsMarked (flagsIn s) cc) (no Undefined) (did (cond (holdsOf (flagsIn s) cc) (withCounter s to) s) ram)
 
 -- what each does, with the number n that is its operand; the state is past the instruction
 unfoldable pub controlOf : Control → ℕ → State → List ℕ → Try

@@ -3,13 +3,14 @@ ghost use mathlib.Core.Path.{_≡_};
 ghost use mathlib.Core.List.{List};
 ghost use Prim.Native.Nat.{ℕ, _+_, _%_, _^_};
 ghost use Rattle.little.specs.Width.{bitsOf};
-ghost use Rattle.flags.specs.Flag.{byteOf};
+ghost use Rattle.flags.specs.Flag.{packedOf};
 ghost use Rattle.state.specs.declared.State.{State};
 ghost use Rattle.state.specs.inner.Lent.{controlled, flaggedAt};
 ghost use Rattle.operand.specs.inner.Does.{Does};
 ghost use Rattle.operand.specs.Operand.{displaced};
 ghost use Rattle.control.specs.Control.{jumpOf, controlOf};
 use answer::Answer;
+use answer::Why;
 use code::Control;
 use flags::Flags;
 use little::ADDRESSES;
@@ -25,12 +26,15 @@ pub fn past(counter: &mut u32, n: usize)
     *counter = std::num::wrapping_add_u32(*counter, m) % ADDRESSES;
 }
 
-// A jump by a displacement of a size, where its condition holds.
-pub fn jump(flags: u8, counter: &mut u32, cc: u8, size: Size, d: u32) -> Answer
+// A jump by a displacement of a size, where its condition holds; refused where the condition reads a flag that nobody defined.
+pub fn jump(flags: u16, counter: &mut u32, cc: u8, size: Size, d: u32) -> Answer
     ensures { λ a. ⌜ ((s : State) (ram : List ℕ) → Does (λ t m. jumpOf t m cc (displaced (bitsOf size) (t .counter) d))
         (flaggedAt s (now (counter .entry)) flags) ram
         a (flaggedAt s (now (counter .exit)) flags) ram) ⌝ }
 {
+    if flags::reads_marked(flags, cc) {
+        return Answer::Refused(Why::Undefined);
+    }
     if flags::holds(flags::unpack(flags), cc) {
         *counter = displace(size, *counter, d);
     }
@@ -52,14 +56,14 @@ fn select(bank: &mut u8, n: u32) -> Answer
     Answer::Done
 }
 
-fn set(flags: &mut u8, new: Flags) -> Answer
-    ensures { λ a. ⌜ (a ≡ Answer.Done) × (now (flags .exit) ≡ byteOf new) ⌝ }
+fn set(flags: &mut u16, new: Flags) -> Answer
+    ensures { λ a. ⌜ (a ≡ Answer.Done) × (now (flags .exit) ≡ packedOf new) ⌝ }
 {
     *flags = flags::pack(new);
     Answer::Done
 }
 
-fn exchange(flags: &mut u8, spare: &mut u8) -> Answer
+fn exchange(flags: &mut u16, spare: &mut u16) -> Answer
     ensures { λ a. ⌜ (a ≡ Answer.Done) × ((now (flags .exit) ≡ now (spare .entry)) × (now (spare .exit) ≡ now (flags .entry))) ⌝ }
 {
     let f = *flags;
@@ -73,8 +77,8 @@ pub fn control(
     number: u32,
     counter: &mut u32,
     bank: &mut u8,
-    flags: &mut u8,
-    spare: &mut u8,
+    flags: &mut u16,
+    spare: &mut u16,
 ) -> Answer
     ensures { λ a. ⌜ ((s : State) (ram : List ℕ) → Does (controlOf what number)
         (controlled s (now (counter .entry)) (now (bank .entry)) (now (flags .entry)) (now (spare .entry))) ram

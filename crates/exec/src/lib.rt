@@ -59,8 +59,8 @@ pub fn alone(
     regs: &mut [u32; 20],
     counter: &mut u32,
     bank: &mut u8,
-    flags: &mut u8,
-    spare: &mut u8,
+    flags: &mut u16,
+    spare: &mut u16,
     ram: &mut [u8],
     rom: &[u8],
 ) -> Answer
@@ -96,7 +96,7 @@ pub fn of_register(
     size: Size,
     r: u8,
     bank: Bank,
-    flags: &mut u8,
+    flags: &mut u16,
     regs: &mut [u32; 20],
     counter: &mut u32,
 ) -> Answer

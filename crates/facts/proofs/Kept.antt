@@ -1,13 +1,17 @@
 -- A step keeps a valid state valid, a sound one sound, and RAM's length.
-use Prim.Native.Nat.{ℕ, _%_, _^_}
-use mathlib.Core.Path.{_≡_, ap, _∙_}
+use Prim.Native.Nat.{ℕ, _%_, _^_, _<_}
+use mathlib.Core.Path.{_≡_, refl, ap, _∙_, subst}
 use mathlib.Core.List.{List}
+use mathlib.Core.Bool.{Bool}
 use native.Mathlib.Omega.{arith}
 use lib.ListN.{length}
+use Rattle.answer.specs.declared.Answer.{Answer}
 use Rattle.little.specs.declared.Size.{Size}
-use Rattle.flags.specs.Flag.{byteOf}
+use Rattle.flags.specs.Flag.{packedOf}
 use Rattle.flags.specs.declared.Flags.{Flags}
-use Rattle.flags.proofs.Packed.{packed-bits, packed-lt}
+use Rattle.flags.proofs.Fits.{Fits}
+use Rattle.flags.proofs.Packed.{packed-lt}
+use Rattle.operand.proofs.Flags.{valid-fits, fits-valid}
 use Rattle.memory.specs.Access.{codeAt}
 use Rattle.state.specs.State.{withCounter, withBank, withFlags, withBothFlags}
 use Rattle.state.specs.Register.{setRegister}
@@ -17,6 +21,8 @@ use Rattle.state.proofs.Sound.{sound-lent}
 use Rattle.state.proofs.Laws.{sound-register}
 use Rattle.state.proofs.Valid.{Valid, valid-says, valid-from, valid-register, valid-counter, valid-bank, valid-flags, valid-both}
 use Rattle.code.specs.declared.Form.{Form}
+use Rattle.code.specs.declared.Op.{Op}
+use Rattle.code.specs.declared.Op.the-variants.{Controls, Stacks, Puts, Sets, Blocks}
 use Rattle.code.specs.declared.Instruction.{Instruction}
 use Rattle.code.specs.declared.Decoded.{Decoded}
 use Rattle.code.specs.declared.Decoded.the-variants as decoded
@@ -26,16 +32,16 @@ use Rattle.operand.specs.Flag.{flagged, exchanged}
 use Rattle.block.specs.Block.{copied, compared, roundOf}
 use Rattle.exec.specs.Exec.{pastOf, executedOf, done}
 use Rattle.turn.specs.Once.{onceOf}
-use Rattle.facts.specs.Touched.{Span, none, bytes, readOf, storedOf, KeepsRest}
-use Rattle.facts.proofs.Touched.{Kept, past-kept, copied-kept, compared-kept, Fair, fair-round, fair-effect}
+use Rattle.facts.specs.Touched.{Span, none, bytes, usesMarked, readOf, storedOf, KeepsRest}
+use Rattle.facts.proofs.Touched.{Kept, past-kept, copied-kept, compared-kept, Gives, GivesBy, fair-round, fair-effect}
 
 -- ---- validity
 valid-register-kept : (s : State) (z : Size) (r v : ℕ) → Valid s → Valid (setRegister s z r v)
 valid-register-kept s z r v ok = valid-says _ (valid-register s z r v ∙ valid-from s ok)
 
-valid-flagged : (s : State) (f : Flags) → Valid s → Valid (flagged s f)
+valid-flagged : (s : State) (f : Flags) → Fits f → Valid s → Valid (flagged s f)
 unfolding flagged
-valid-flagged s f ok = valid-flags s (byteOf f) (packed-bits f) ok
+valid-flagged s f x ok = valid-flags s (packedOf f) (fits-valid f x) ok
 
 pub valid-kept : Kept Valid
 valid-kept =
@@ -43,6 +49,7 @@ valid-kept =
       registers = valid-register-kept;
       counters = valid-counter;
       banks = valid-bank;
+      fitting = λ s ok. valid-fits (s .flags) (ok .flags);
       flags = valid-flagged;
       exchanges = λ s ok. valid-both s _ _ (ok .spare) (ok .flags) ok;
     }
@@ -64,38 +71,67 @@ unfolding withBank
 sound-bank s b ok =
     sound-lent s (s .registers) (s .counter) (b % 4) (s .flags) (s .spare) ok (ok .twenty) (ok .fit) (ok .counter-fit) (omega arith) (ok .flags-fit) (ok .spare-fit)
 
-sound-flagged : (s : State) (f : Flags) → Sound s → Sound (flagged s f)
+packed-fits : (f : Flags) → f .marks < 2 ^ 8 → packedOf f < 2 ^ 16
+unfolding packedOf
+packed-fits f h = omega (arith, packed-lt f)
+
+pub sound-flagged : (s : State) (f : Flags) → f .marks < 2 ^ 8 → Sound s → Sound (flagged s f)
 unfolding flagged withFlags withBothFlags
-sound-flagged s f ok =
-    sound-lent s (s .registers) (s .counter) (s .bank .0) (byteOf f) (s .spare) ok (ok .twenty) (ok .fit) (ok .counter-fit) (ok .bank-fit) (packed-lt f) (ok .spare-fit)
+sound-flagged s f h ok =
+    sound-lent s (s .registers) (s .counter) (s .bank .0) (packedOf f) (s .spare) ok (ok .twenty) (ok .fit) (ok .counter-fit) (ok .bank-fit) (packed-fits f h) (ok .spare-fit)
 
 sound-exchanged : (s : State) → Sound s → Sound (exchanged s)
 unfolding withBothFlags
 sound-exchanged s ok =
     sound-lent s (s .registers) (s .counter) (s .bank .0) (s .spare) (s .flags) ok (ok .twenty) (ok .fit) (ok .counter-fit) (ok .bank-fit) (ok .spare-fit) (ok .flags-fit)
 
-pub sound-kept : Kept Sound
-sound-kept = record { registers = sound-register; counters = sound-counter; banks = sound-bank; flags = sound-flagged; exchanges = sound-exchanged }
+-- a valid state that is sound
+abbrev pub Whole : State → Type 0
+Whole s = Valid s × Sound s
+
+pub whole-kept : Kept Whole
+whole-kept =
+    record {
+      registers = λ s z r v ok. (valid-kept .registers s z r v (ok .0), sound-register s z r v (ok .1));
+      counters = λ s c ok. (valid-kept .counters s c (ok .0), sound-counter s c (ok .1));
+      banks = λ s b ok. (valid-kept .banks s b (ok .0), sound-bank s b (ok .1));
+      fitting = λ s ok. valid-kept .fitting s (ok .0);
+      flags = λ s f x ok. (valid-kept .flags s f x (ok .0), sound-flagged s f (omega (arith, x .few)) (ok .1));
+      exchanges = λ s ok. (valid-kept .exchanges s (ok .0), sound-exchanged s (ok .1));
+    }
 
 -- ---- what a step leaves
 pub spares-length : (g : Span) (ram m : List ℕ) → KeepsRest g ram m → length m ≡ length ram
 spares-length none ram m e = ap length e
 spares-length (bytes a n) ram m h = h .0
 
+-- the counter is no flag
+past-uses : (op : Op) (n : ℕ) (s : State) → usesMarked op (pastOf n s) ≡ usesMarked op s
+unfolding usesMarked pastOf withCounter
+past-uses (Controls what) n s = refl
+past-uses (Stacks what) n s = refl
+past-uses (Puts how) n s = refl
+past-uses (Sets r) n s = refl
+past-uses (Blocks f) n s = refl
+
 pub executed-fair :
     (P : State → Type 0) (i : Instruction) (s : State) (ram rom : List ℕ) → Kept P → P s
-    → Fair P ram rom (readOf (i .op) (i .size) (i .operand) (pastOf (i .length) s)) (storedOf (i .op) (i .size) (i .operand) (pastOf (i .length) s)) (executedOf i s ram rom)
+    → GivesBy P ram rom (usesMarked (i .op) s) (readOf (i .op) (i .size) (i .operand) (pastOf (i .length) s)) (storedOf (i .op) (i .size) (i .operand) (pastOf (i .length) s)) (executedOf i s ram rom)
 unfolding executedOf
-executed-fair P i s ram rom k ok = fair-effect P ram rom (i .op) (i .size) (i .operand) (s .counter) (pastOf (i .length) s) k (past-kept P k (i .length) s ok)
+executed-fair P i s ram rom k ok =
+    let t = pastOf (i .length) s in
+    subst (λ (b : Bool). GivesBy P ram rom b (readOf (i .op) (i .size) (i .operand) t) (storedOf (i .op) (i .size) (i .operand) t) (executedOf i s ram rom))
+    (past-uses (i .op) (i .length) s)
+    (fair-effect P ram rom (i .op) (i .size) (i .operand) (s .counter) t k (past-kept P k (i .length) s ok))
 
 unfoldable pub Keeps : List ℕ → Try → Type 0
 Keeps ram (did t m) = Valid t × (length m ≡ length ram)
 Keeps ram (no w) = Unit {0}
 
-keeps-fair : (ram rom : List ℕ) (r g : Span) (t : Try) → Fair Valid ram rom r g t → Keeps ram t
-unfolding Keeps Fair
-keeps-fair ram rom r g (did t m) h = (h .0, spares-length g ram m (h .1 .0))
-keeps-fair ram rom r g (no w) h = tt
+keeps-fair : (ram rom : List ℕ) (a : Answer) (g : Span) (t : Try) → Gives Valid ram rom a g t → Keeps ram t
+unfolding Keeps Gives
+keeps-fair ram rom a g (did t m) h = (h .0, spares-length g ram m (h .1 .0))
+keeps-fair ram rom a g (no w) h = tt
 
 pub keeps-round : (ram rom : List ℕ) (f : Form) (s : State) → Valid s → Keeps ram (roundOf f s ram rom)
 keeps-round ram rom f s ok = keeps-fair ram rom _ _ (roundOf f s ram rom) (fair-round Valid ram rom f s valid-kept ok)

@@ -4,3 +4,4 @@ pub mod Statements
 pub mod Shown
 pub mod Banks
 pub mod Where
+pub mod Marks

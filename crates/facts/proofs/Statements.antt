@@ -9,7 +9,7 @@ use lib.ListN.{length}
 use lib.Dec.{ltb}
 use borrow.Author.Tests.{ltb-true, ltb-false, le-ltb}
 use Rattle.answer.specs.declared.Why.{Why}
-use Rattle.answer.specs.declared.Why.the-variants.{TooMany, TooLong, Invalid, NoCode, Unlisted, Missing, ToRom}
+use Rattle.answer.specs.declared.Why.the-variants.{TooMany, TooLong, Invalid, NoCode, Unlisted, Undefined, Missing, ToRom}
 use Rattle.answer.specs.declared.Answer.{Answer}
 use Rattle.answer.specs.declared.Answer.the-variants.{Done, Refused}
 use Rattle.answer.specs.Number.{whyNumber, numberOf, firstRefusal}
@@ -34,10 +34,10 @@ use Rattle.exec.specs.Exec.{pastOf, effectOf, executedOf, done}
 use Rattle.turn.specs.Once.{onceOf}
 use Rattle.step.specs.Step.{tooLong, guarded, tryOf, stepOf}
 use Rattle.step.specs.Reset.{resetOf, resetFrom}
-use Rattle.facts.specs.Touched.{Span, none, bytes, readOf, storedOf, loadTo, readAnswer, storeAnswer, answerBy, KeepsRest}
+use Rattle.facts.specs.Touched.{Span, none, bytes, usesMarked, readOf, storedOf, loadTo, readAnswer, storeAnswer, operandsAnswer, answerBy, KeepsRest}
 use Rattle.facts.specs.Statements.{_⇔_, RefusedChangesNothing, Within, Passed, RefusedWhen, KeepsValid, StoresOnlyThere, Settled, ResetMissing, single, RoundIsSingle}
-use Rattle.facts.proofs.Touched.{Kept, Fair}
-use Rattle.facts.proofs.Kept.{valid-kept, sound-kept, spares-length, executed-fair}
+use Rattle.facts.proofs.Touched.{Kept, Gives}
+use Rattle.facts.proofs.Kept.{valid-kept, Whole, whole-kept, spares-length, executed-fair}
 
 -- ---- the limits
 longer : (a b : ℕ) → tooLong a b ≡ true → (2 ^ 16 < a) ⊎ (2 ^ 16 < b)
@@ -67,23 +67,27 @@ some TooLong = omega arith
 some Invalid = omega arith
 some NoCode = omega arith
 some Unlisted = omega arith
+some Undefined = omega arith
 some (Missing x) = omega arith
 some (ToRom x) = omega arith
 
-module _ (P : State → Type 0) (s : State) (ram rom : List ℕ) (r g : Span) where
-  fair-answer : (t : Try) → Fair P ram rom r g t → leaves s ram t .answer ≡ answerBy ram rom r g
-  unfolding Fair
+module _ (P : State → Type 0) (s : State) (ram rom : List ℕ) (a : Answer) (g : Span) where
+  fair-answer : (t : Try) → Gives P ram rom a g t → leaves s ram t .answer ≡ a
+  unfolding Gives
   fair-answer (did t m) h = sym (h .1 .1)
   fair-answer (no w) h = sym h
 
-  fair-done : (t : Try) → Fair P ram rom r g t → leaves s ram t .answer ≡ Done → P (leaves s ram t .state) × KeepsRest g ram (leaves s ram t .ram)
-  unfolding Fair
+  fair-done : (t : Try) → Gives P ram rom a g t → leaves s ram t .answer ≡ Done → P (leaves s ram t .state) × KeepsRest g ram (leaves s ram t .ram)
+  unfolding Gives
   fair-done (did t m) h e = (h .0, h .1 .0)
   fair-done (no w) h e = absurd (omega (arith, ap numberOf e, some w))
 
--- 0, 5 and 6 are all that operands can give
+-- 0, 5 and 6 are all that operands can give; flags give 8
 abbrev ByOperands : Answer → Type 0
 ByOperands a = (numberOf a ≡ 0) ⊎ ((5 ≤ numberOf a) × (numberOf a ≤ 6))
+
+abbrev ByBoth : Answer → Type 0
+ByBoth a = ByOperands a ⊎ (numberOf a ≡ 8)
 
 by-load : (p : Place) → ByOperands (loadTo p)
 by-load (place.Ram o) = inl refl
@@ -95,8 +99,8 @@ by-store (place.Ram o) a = inl refl
 by-store (place.Rom o) a = inr (omega arith, omega arith)
 by-store (place.Missing x) a = inr (omega arith, omega arith)
 
-by-operands : (ram rom : List ℕ) (r g : Span) → ByOperands (answerBy ram rom r g)
-unfolding answerBy
+by-operands : (ram rom : List ℕ) (r g : Span) → ByOperands (operandsAnswer ram rom r g)
+unfolding operandsAnswer
 by-operands ram rom r g = go (readAnswer ram rom r) (reading r) (storeAnswer ram rom g) (storing g)
   where
     reading : (x : Span) → ByOperands (readAnswer ram rom x)
@@ -110,6 +114,10 @@ by-operands ram rom r g = go (readAnswer ram rom r) (reading r) (storeAnswer ram
     go : (a : Answer) → ByOperands a → (b : Answer) → ByOperands b → ByOperands (firstRefusal a b)
     go Done p b q = q
     go (Refused w) p b q = p
+
+by-both : (ram rom : List ℕ) (b : Bool) (r g : Span) → ByBoth (answerBy b (operandsAnswer ram rom r g))
+by-both ram rom true r g = inr refl
+by-both ram rom false r g = inl (by-operands ram rom r g)
 
 abbrev answerIn : Outcome → Answer
 answerIn o = o .answer
@@ -127,6 +135,12 @@ module _ (s : State) (ram rom : List ℕ) where
   abbrev target : Instruction → Span
   target i = storedOf (i .op) (i .size) (i .operand) (pastOf (i .length) s)
 
+  abbrev uses : Instruction → Bool
+  uses i = usesMarked (i .op) s
+
+  abbrev operated-by : Instruction → Answer
+  operated-by i = answerBy (uses i) (operandsAnswer ram rom (reads i) (target i))
+
   step-long : tooLong (length ram) (length rom) ≡ true → stepOf s ram rom ≡ leaves s ram (no TooLong)
   unfolding stepOf tryOf guarded
   step-long e = rw e refl
@@ -143,17 +157,17 @@ module _ (s : State) (ram rom : List ℕ) where
   pub step-whole : (i : Instruction) → Passed s ram rom → judged ≡ decoded.Whole i → stepOf s ram rom ≡ leaves s ram (executedOf i s ram rom)
   step-whole i p e = step-judged (decoded.Whole i) (not-long (length ram) (length rom) (p .0 .0) (p .0 .1)) (p .1) e
 
-  answered : (i : Instruction) → Passed s ram rom → judged ≡ decoded.Whole i → answer ≡ answerBy ram rom (reads i) (target i)
+  answered : (i : Instruction) → Passed s ram rom → judged ≡ decoded.Whole i → answer ≡ operated-by i
   answered i p e =
       ap answerIn (step-whole i p e)
-      ∙ fair-answer Valid s ram rom (reads i) (target i) (executedOf i s ram rom)
+      ∙ fair-answer Valid s ram rom (operated-by i) (target i) (executedOf i s ram rom)
       (executed-fair Valid i s ram rom valid-kept (valid-says s (p .1)))
 
   left : (P : State → Type 0) → Kept P → P s → (i : Instruction) → Passed s ram rom → judged ≡ decoded.Whole i → answer ≡ Done → P (stepOf s ram rom .state) × KeepsRest (target i) ram (stepOf s ram rom .ram)
   left P k ok i p e d =
       let w = step-whole i p e in
       subst (λ (o : Outcome). P (o .state) × KeepsRest (target i) ram (o .ram)) (sym w)
-      (fair-done P s ram rom (reads i) (target i) (executedOf i s ram rom) (executed-fair P i s ram rom k ok) (sym (ap answerIn w) ∙ d))
+      (fair-done P s ram rom (operated-by i) (target i) (executedOf i s ram rom) (executed-fair P i s ram rom k ok) (sym (ap answerIn w) ∙ d))
 
   -- the five courses of a step
   data Course : Type 0 where
@@ -161,7 +175,7 @@ module _ (s : State) (ram rom : List ℕ) where
     invalid : Within ram rom → validOf s ≡ false → answer ≡ Refused Invalid → Course
     short : Passed s ram rom → judged ≡ decoded.Short → answer ≡ Refused NoCode → Course
     unlisted : Passed s ram rom → judged ≡ decoded.Unlisted → answer ≡ Refused Unlisted → Course
-    whole : (i : Instruction) → Passed s ram rom → judged ≡ decoded.Whole i → answer ≡ answerBy ram rom (reads i) (target i) → Course
+    whole : (i : Instruction) → Passed s ram rom → judged ≡ decoded.Whole i → answer ≡ operated-by i → Course
 
   course : Course
   course = go (tooLong (length ram) (length rom)) (validOf s) judged refl refl refl
@@ -173,13 +187,14 @@ module _ (s : State) (ram rom : List ℕ) where
       go false true decoded.Unlisted e f h = unlisted (within _ _ e, f) h (ap answerIn (step-judged decoded.Unlisted e f h))
       go false true (decoded.Whole i) e f h = whole i (within _ _ e, f) h (answered i (within _ _ e, f) h)
 
-  -- a number from 1 to 4 does not come from operands
-  not-operands : (r g : Span) (a : Answer) → 1 ≤ numberOf a → numberOf a ≤ 4 → answer ≡ answerBy ram rom r g → answer ≡ a → ⊥
-  not-operands r g a l m e f = go (by-operands ram rom r g) (ap numberOf (sym e ∙ f))
+  -- a number from 1 to 4 does not come from operands and flags
+  not-operands : (i : Instruction) (a : Answer) → 1 ≤ numberOf a → numberOf a ≤ 4 → answer ≡ operated-by i → answer ≡ a → ⊥
+  not-operands i a l m e f = go (by-both ram rom (uses i) (reads i) (target i)) (ap numberOf (sym e ∙ f))
     where
-      go : ByOperands (answerBy ram rom r g) → numberOf (answerBy ram rom r g) ≡ numberOf a → ⊥
-      go (inl z) n = omega arith
-      go (inr z) n = omega (arith, z .0)
+      go : ByBoth (operated-by i) → numberOf (operated-by i) ≡ numberOf a → ⊥
+      go (inl (inl z)) n = omega arith
+      go (inl (inr z)) n = omega (arith, z .0)
+      go (inr z) n = omega arith
 
   -- two courses cannot both be
   far : (limit : (2 ^ 16 < length ram) ⊎ (2 ^ 16 < length rom)) → Within ram rom → ⊥
@@ -194,7 +209,7 @@ module _ (s : State) (ram rom : List ℕ) where
       go (invalid w v a) e = absurd (omega (arith, ap numberOf (sym a ∙ e)))
       go (short p d a) e = absurd (omega (arith, ap numberOf (sym a ∙ e)))
       go (unlisted p d a) e = absurd (omega (arith, ap numberOf (sym a ∙ e)))
-      go (whole i p d a) e = absurd (not-operands (reads i) (target i) (Refused TooLong) (omega arith) (omega arith) a e)
+      go (whole i p d a) e = absurd (not-operands i (Refused TooLong) (omega arith) (omega arith) a e)
 
       back : Course → (2 ^ 16 < length ram) ⊎ (2 ^ 16 < length rom) → answer ≡ Refused TooLong
       back (long l a) h = a
@@ -215,7 +230,7 @@ module _ (s : State) (ram rom : List ℕ) where
       go (invalid w v a) e = (w, v)
       go (short p d a) e = absurd (omega (arith, ap numberOf (sym a ∙ e)))
       go (unlisted p d a) e = absurd (omega (arith, ap numberOf (sym a ∙ e)))
-      go (whole i p d a) e = absurd (not-operands (reads i) (target i) (Refused Invalid) (omega arith) (omega arith) a e)
+      go (whole i p d a) e = absurd (not-operands i (Refused Invalid) (omega arith) (omega arith) a e)
 
       back : Course → Within ram rom × (validOf s ≡ false) → answer ≡ Refused Invalid
       back (long l a) h = absurd (far l (h .0))
@@ -238,7 +253,7 @@ module _ (s : State) (ram rom : List ℕ) where
       go (invalid w v a) e = absurd (omega (arith, ap numberOf (sym a ∙ e)))
       go (short p d a) e = (p, d)
       go (unlisted p d a) e = absurd (omega (arith, ap numberOf (sym a ∙ e)))
-      go (whole i p d a) e = absurd (not-operands (reads i) (target i) (Refused NoCode) (omega arith) (omega arith) a e)
+      go (whole i p d a) e = absurd (not-operands i (Refused NoCode) (omega arith) (omega arith) a e)
 
       back : Course → Passed s ram rom × (judged ≡ decoded.Short) → answer ≡ Refused NoCode
       back (long l a) h = absurd (far l (h .0 .0))
@@ -255,7 +270,7 @@ module _ (s : State) (ram rom : List ℕ) where
       go (invalid w v a) e = absurd (omega (arith, ap numberOf (sym a ∙ e)))
       go (short p d a) e = absurd (omega (arith, ap numberOf (sym a ∙ e)))
       go (unlisted p d a) e = (p, d)
-      go (whole i p d a) e = absurd (not-operands (reads i) (target i) (Refused Unlisted) (omega arith) (omega arith) a e)
+      go (whole i p d a) e = absurd (not-operands i (Refused Unlisted) (omega arith) (omega arith) a e)
 
       back : Course → Passed s ram rom × (judged ≡ decoded.Unlisted) → answer ≡ Refused Unlisted
       back (long l a) h = absurd (far l (h .0 .0))
@@ -264,21 +279,45 @@ module _ (s : State) (ram rom : List ℕ) where
       back (unlisted p d a) h = a
       back (whole i p d a) h = absurd (omega (arith, ap kind (sym d ∙ h .1)))
 
-  pub refused-when : RefusedWhen s ram rom
-  refused-when = record { one = one-holds; two = two-holds; three = three-holds; four = four-holds; operands = answered }
-
-  number-most : (w : Why) → Course → answer ≡ Refused w → whyNumber w ≤ 6
-  number-most w (long l a) e = omega (arith, ap numberOf (sym a ∙ e))
-  number-most w (invalid x v a) e = omega (arith, ap numberOf (sym a ∙ e))
-  number-most w (short p d a) e = omega (arith, ap numberOf (sym a ∙ e))
-  number-most w (unlisted p d a) e = omega (arith, ap numberOf (sym a ∙ e))
-  number-most w (whole i p d a) e = go (by-operands ram rom (reads i) (target i)) (ap numberOf (sym a ∙ e))
+  -- 8 comes from a marked flag, and from nothing else
+  eight-marked : (i : Instruction) → answer ≡ operated-by i → answer ≡ Refused Undefined → uses i ≡ true
+  eight-marked i a e = go (uses i) (by-operands ram rom (reads i) (target i)) (ap numberOf (sym a ∙ e))
     where
-      go : ByOperands (answerBy ram rom (reads i) (target i)) → numberOf (answerBy ram rom (reads i) (target i)) ≡ whyNumber w → whyNumber w ≤ 6
-      go (inl z) n = omega arith
-      go (inr z) n = omega (arith, z .1)
+      go : (b : Bool) → ByOperands (operandsAnswer ram rom (reads i) (target i)) → numberOf (answerBy b (operandsAnswer ram rom (reads i) (target i))) ≡ 8 → b ≡ true
+      go true z n = refl
+      go false (inl z) n = absurd (omega arith)
+      go false (inr z) n = absurd (omega (arith, z .1))
 
-  -- an accepted step, and one refused with 5 or 6, has a whole instruction at its counter
+  eight-holds :
+      (answer ≡ Refused Undefined) ⇔ (Passed s ram rom × ((i : Instruction) × (judged ≡ decoded.Whole i) × (uses i ≡ true)))
+  eight-holds = (go course, λ h. back (h .1 .0) (h .0) (h .1 .1) (h .1 .2))
+    where
+      go : Course → answer ≡ Refused Undefined → Passed s ram rom × ((i : Instruction) × (judged ≡ decoded.Whole i) × (uses i ≡ true))
+      go (long l a) e = absurd (omega (arith, ap numberOf (sym a ∙ e)))
+      go (invalid w v a) e = absurd (omega (arith, ap numberOf (sym a ∙ e)))
+      go (short p d a) e = absurd (omega (arith, ap numberOf (sym a ∙ e)))
+      go (unlisted p d a) e = absurd (omega (arith, ap numberOf (sym a ∙ e)))
+      go (whole i p d a) e = (p, (i, d, eight-marked i a e))
+
+      back : (i : Instruction) → Passed s ram rom → judged ≡ decoded.Whole i → uses i ≡ true → answer ≡ Refused Undefined
+      back i p d u = answered i p d ∙ ap (λ (b : Bool). answerBy b (operandsAnswer ram rom (reads i) (target i))) u
+
+  pub refused-when : RefusedWhen s ram rom
+  refused-when = record { one = one-holds; two = two-holds; three = three-holds; four = four-holds; eight = eight-holds; operands = answered }
+
+  number-most : (w : Why) → Course → answer ≡ Refused w → (whyNumber w ≤ 6) ⊎ (whyNumber w ≡ 8)
+  number-most w (long l a) e = inl (omega (arith, ap numberOf (sym a ∙ e)))
+  number-most w (invalid x v a) e = inl (omega (arith, ap numberOf (sym a ∙ e)))
+  number-most w (short p d a) e = inl (omega (arith, ap numberOf (sym a ∙ e)))
+  number-most w (unlisted p d a) e = inl (omega (arith, ap numberOf (sym a ∙ e)))
+  number-most w (whole i p d a) e = go (by-both ram rom (uses i) (reads i) (target i)) (ap numberOf (sym a ∙ e))
+    where
+      go : ByBoth (operated-by i) → numberOf (operated-by i) ≡ whyNumber w → (whyNumber w ≤ 6) ⊎ (whyNumber w ≡ 8)
+      go (inl (inl z)) n = inl (omega arith)
+      go (inl (inr z)) n = inl (omega (arith, z .1))
+      go (inr z) n = inr (sym n ∙ z)
+
+  -- an accepted step, and one refused with 5, 6 or 8, has a whole instruction at its counter
   pub operated : (b : Answer) → (numberOf b ≡ 0) ⊎ (5 ≤ numberOf b) → answer ≡ b → (i : Instruction) × (Passed s ram rom × (judged ≡ decoded.Whole i))
   operated b n e = go course
     where
@@ -314,7 +353,7 @@ keeps-valid s ram rom e = go (operated s ram rom Done (inl refl) e)
         → (validOf (stepOf s ram rom .state) ≡ true) × (length (stepOf s ram rom .ram) ≡ length ram) × (Sound s → Sound (stepOf s ram rom .state))
     go (i, (p, d)) =
         let v = left s ram rom Valid valid-kept (valid-says s (p .1)) i p d e in
-        (valid-from (stepOf s ram rom .state) (v .0), spares-length (storedOf (i .op) (i .size) (i .operand) (pastOf (i .length) s)) ram (stepOf s ram rom .ram) (v .1), λ ok. left s ram rom Sound sound-kept ok i p d e .0)
+        (valid-from (stepOf s ram rom .state) (v .0), spares-length (storedOf (i .op) (i .size) (i .operand) (pastOf (i .length) s)) ram (stepOf s ram rom .ram) (v .1), λ ok. left s ram rom Whole whole-kept (valid-says s (p .1), ok) i p d e .0 .1)
 
 pub stores-only-there : StoresOnlyThere
 stores-only-there s ram rom i e d = go (operated s ram rom Done (inl refl) e)

@@ -2,20 +2,24 @@
 use Prim.Native.Nat.{ℕ, _+_, _<_, _≤_}
 use mathlib.Core.Path.{_≡_, refl, ap, _∙_, subst}
 use mathlib.Core.List.{List}
-use mathlib.Core.Bool.{Bool, true, false, cond}
+use mathlib.Core.Bool.{Bool, true, false, cond, _&&_}
 use mathlib.Core.Logic.{_⊎_, ⊎-elim}
+use native.Mathlib.Nat.{add-zero}
+use native.Mathlib.Omega.{arith}
 use lib.ListN.{getD, take, drop}
 use Rattle.answer.specs.Number.{firstRefusal}
 use Rattle.answer.specs.declared.Answer.{Answer}
 use Rattle.answer.specs.declared.Answer.the-variants.{Done, Refused}
+use Rattle.answer.specs.declared.Why.the-variants.{Undefined}
 use Rattle.little.specs.declared.Size.{Size}
 use Rattle.little.specs.declared.Size.the-variants.{Byte, Word, Long}
-use Rattle.little.specs.Width.{bytesOf}
+use Rattle.little.specs.Width.{bitsOf, bytesOf}
 use Rattle.little.specs.Bytes.{valueOf}
-use Rattle.flags.specs.Flag.{byteOf}
+use Rattle.flags.specs.Flag.{byteOf, packedOf, flagsOf, anyMarked, carried}
 use Rattle.flags.specs.declared.Flags.{Flags}
 use Rattle.flags.specs.declared.Computed.{Computed}
 use Rattle.alu.specs.declared.Arith.{Arith}
+use Rattle.alu.specs.Change.{changed}
 use Rattle.memory.specs.Access.{loadOf, loadFrom, storeOf, ramAfter, operandAt}
 use Rattle.memory.specs.declared.Place.{Place}
 use Rattle.memory.specs.declared.Place.the-variants.{Ram, Rom, Missing}
@@ -35,24 +39,40 @@ use Rattle.code.specs.declared.Stack.the-variants.{PushF, PopF, Push, Pop, Call
 use Rattle.code.specs.declared.Use.{Use}
 use Rattle.code.specs.declared.Use.the-variants.{Number, From, Load, Compute, Changed}
 use Rattle.code.specs.declared.Side.the-variants.{First, Second, With}
-use Rattle.flags.specs.Condition.{holdsOf}
+use Rattle.flags.specs.Condition.{holdsOf, readsV, readsMarked}
+use Rattle.flags.proofs.Fits.{Fits, difference-fits, carried-fits, copied-fits, compared-fits}
+use Rattle.alu.proofs.Fits.{operated-fits, changed-fits}
 use Rattle.operand.specs.Try.{Try, did, no, andThen, withLoaded}
 use Rattle.operand.specs.Operand.{pointerOf, valueAt, valueIn, storing, storedBy, putAt}
 use Rattle.operand.specs.Round.{plus}
-use Rattle.stack.specs.Stack.{pushOf, popOf, stackOf}
+use Rattle.stack.specs.Stack.{pushOf, pushFOf, popOf, stackOf}
 use Rattle.operand.specs.Flag.{flagsIn, flagged, exchanged}
 use Rattle.control.specs.Control.{jumpOf, controlOf}
 use Rattle.compute.specs.Compute.{computed, resultIn, storesOf, answerIn, putsOf}
-use Rattle.block.specs.Block.{counted, moved, copied, compared, roundOf, goesOn, endsAt}
+use Rattle.flags.specs.Sums.{differenceOf}
+use Rattle.block.specs.Block.{moreIn, counted, moved, accumulator, copied, compared, roundOf, goesOn, endsAt}
 use Rattle.exec.specs.Exec.{pastOf, effectOf}
-use Rattle.facts.specs.Touched.{Span, none, bytes, operandSpan, onStack, belowStack, stackRead, stackStored, useRead, useStored, readOf, storedOf, loadTo, readAnswer, storeAnswer, answerBy, KeepsRest}
+use Rattle.facts.specs.Touched.{Span, none, bytes, operandSpan, onStack, belowStack, stackRead, stackStored, useRead, useStored, readOf, storedOf, loadTo, readAnswer, storeAnswer, operandsAnswer, answerBy, conditionIn, storesF, usesMarked, KeepsRest}
+
+-- F alone is the flags with no mark
+unmarked : Flags → Flags
+unmarked f = record { s = f .s; z = f .z; h = f .h; v = f .v; n = f .n; c = f .c; marks = 0 }
+
+byte-packed : (f : Flags) → packedOf (unmarked f) ≡ byteOf f
+unfolding packedOf byteOf unmarked
+byte-packed f = add-zero _
+
+unmarked-fits : (f : Flags) → Fits (unmarked f)
+unfolding unmarked
+unmarked-fits f = record { few = omega arith; h = refl; v = refl }
 
 -- what no change of the state breaks
 pub record Kept (P : State → Type 0) : Type 0 where
   pub registers : (s : State) (z : Size) (r v : ℕ) → P s → P (setRegister s z r v)
   pub counters : (s : State) (c : ℕ) → P s → P (withCounter s c)
   pub banks : (s : State) (b : ℕ) → P s → P (withBank s b)
-  pub flags : (s : State) (f : Flags) → P s → P (flagged s f)
+  pub fitting : (s : State) → P s → Fits (flagsIn s)
+  pub flags : (s : State) (f : Flags) → Fits f → P s → P (flagged s f)
   pub exchanges : (s : State) → P s → P (exchanged s)
 
 module _ (P : State → Type 0) (k : Kept P) where
@@ -67,9 +87,9 @@ module _ (P : State → Type 0) (k : Kept P) where
       go true = k .counters s to ok
       go false = ok
 
-  byte-kept : (s : State) (f : Flags) → P s → P (withFlags s (byteOf f))
+  byte-kept : (s : State) (v : ℕ) → P s → P (withFlags s (byteOf (flagsOf v)))
   unfolding flagged
-  byte-kept s f ok = k .flags s f ok
+  byte-kept s v ok = subst (λ (n : ℕ). P (withFlags s n)) (byte-packed (flagsOf v)) (k .flags s (unmarked (flagsOf v)) (unmarked-fits (flagsOf v)) ok)
 
   moved-kept : (f : Form) (r : ℕ) (s : State) → P s → P (moved f r s)
   unfolding moved
@@ -81,11 +101,17 @@ module _ (P : State → Type 0) (k : Kept P) where
 
   pub copied-kept : (f : Form) (s : State) → P s → P (copied f s)
   unfolding copied
-  copied-kept f s ok = k .flags _ _ (counted-kept _ (moved-kept f (f .to) _ (moved-kept f (f .from) s ok)))
+  copied-kept f s ok =
+      let t = counted (moved f (f .to) (moved f (f .from) s)) in
+      k .flags t _ (copied-fits (flagsIn s) (moreIn t)) (counted-kept _ (moved-kept f (f .to) _ (moved-kept f (f .from) s ok)))
 
   pub compared-kept : (f : Form) (v : ℕ) (s : State) → P s → P (compared f v s)
   unfolding compared
-  compared-kept f v s ok = k .flags _ _ (counted-kept _ (moved-kept f (f .from) s ok))
+  compared-kept f v s ok =
+      let t = counted (moved f (f .from) s) in
+      let d = differenceOf (bitsOf (f .size)) (accumulator s (f .size)) v false in
+      k .flags t _ (compared-fits (flagsIn s) (d .flags) (moreIn t) (difference-fits (bitsOf (f .size)) (accumulator s (f .size)) v false))
+      (counted-kept _ (moved-kept f (f .from) s ok))
 
   pub ends-kept : (f : Form) (at : ℕ) (s : State) → P s → P (endsAt f at s)
   unfolding endsAt
@@ -96,23 +122,27 @@ module _ (P : State → Type 0) (k : Kept P) where
       go false = ok
 
 module _ (P : State → Type 0) (ram rom : List ℕ) where
-  -- what is tried keeps the state's part, spares all but its target, and answers by where what it reads and its target lie
-  unfoldable pub Fair : Span → Span → Try → Type 0
-  Fair r g (did t m) = P t × (KeepsRest g ram m × (answerBy ram rom r g ≡ Done))
-  Fair r g (no w) = answerBy ram rom r g ≡ Refused w
+  -- what is tried keeps the state's part, spares all but its target, and gives this answer
+  unfoldable pub Gives : Answer → Span → Try → Type 0
+  Gives a g (did t m) = P t × (KeepsRest g ram m × (a ≡ Done))
+  Gives a g (no w) = a ≡ Refused w
+
+  -- the answer by where what it reads and its target lie
+  abbrev pub Fair : Span → Span → Try → Type 0
+  Fair r g t = Gives (operandsAnswer ram rom r g) g t
 
   -- what is read is there
   read-first : (r g : Span) (t : Try) → readAnswer ram rom r ≡ Done → Fair none g t → Fair r g t
-  unfolding Fair answerBy
+  unfolding Gives operandsAnswer
   read-first r g (did t m) e (p, (q, a)) = (p, (q, ap (λ (x : Answer). firstRefusal x (storeAnswer ram rom g)) e ∙ a))
   read-first r g (no w) e a = ap (λ (x : Answer). firstRefusal x (storeAnswer ram rom g)) e ∙ a
 
   fair-did : (s : State) → P s → Fair none none (did s ram)
-  unfolding Fair answerBy
+  unfolding Gives operandsAnswer
   fair-did s ok = (ok, (refl, refl))
 
   fair-storing : (t : State) (a : ℕ) (z : Size) (v : ℕ) → P t → Fair none (bytes a (bytesOf z)) (storing t ram rom a z v)
-  unfolding storing Fair answerBy storeOf
+  unfolding storing Gives operandsAnswer storeOf
   fair-storing t a z v ok = go (storeOf ram rom a z) refl
     where
       spared : (i : ℕ) → (i < a) ⊎ (a + bytesOf z ≤ i) → getD (ramAfter ram rom a z v) i 0 ≡ getD ram i 0
@@ -128,7 +158,7 @@ module _ (P : State → Type 0) (ram rom : List ℕ) where
   fair-put s z (Memory m) v k ok = fair-storing s _ z v ok
 
   fair-loaded : (a : ℕ) (z : Size) (g : Span) (f : ℕ → Try) → ((v : ℕ) → Fair none g (f v)) → Fair (bytes a (bytesOf z)) g (withLoaded (loadOf ram rom a z) f)
-  unfolding loadOf Fair answerBy
+  unfolding loadOf Gives operandsAnswer
   fair-loaded a z g f h = go (operandAt ram rom a z) refl
     where
       there : (v : ℕ) → readAnswer ram rom (bytes a (bytesOf z)) ≡ Done → Fair (bytes a (bytesOf z)) g (f v)
@@ -146,7 +176,7 @@ module _ (P : State → Type 0) (ram rom : List ℕ) where
   fair-value s z (Memory m) g f h = fair-loaded _ z g f h
 
   fair-then : (r g : Span) (t : Try) (f : State → State) → Fair r g t → ((s : State) → P s → P (f s)) → Fair r g (andThen t f)
-  unfolding Fair
+  unfolding Gives
   fair-then r g (did s m) f (p, q) h = (h s p, q)
   fair-then r g (no w) f e h = e
 
@@ -174,24 +204,28 @@ module _ (P : State → Type 0) (ram rom : List ℕ) where
   fair-flagged : (s : State) (f : ℕ) (z : Size) (o : Operand) (v : ℕ) → Kept P → P (withFlags s f) → Fair none (operandSpan s z o) (putAt (withFlags s f) ram rom z o v)
   fair-flagged s f z o v k ok = subst (λ (g : Span). Fair none g (putAt (withFlags s f) ram rom z o v)) (span-flags s f z o) (fair-put (withFlags s f) z o v k ok)
 
-  fair-result : (s : State) (z : Size) (o : Operand) (r : Computed) → Kept P → P s → Fair none (operandSpan s z o) (resultIn s ram rom z o r)
+  fair-result :
+      (s : State) (z : Size) (o : Operand) (r : Computed) → Fits (r .flags) → Kept P → P s → Fair none (operandSpan s z o) (resultIn s ram rom z o r)
   unfolding flagged
-  fair-result s z o r k ok = fair-flagged s _ z o _ k (k .flags s (r .flags) ok)
+  fair-result s z o r x k ok = fair-flagged s _ z o _ k (k .flags s (r .flags) x ok)
 
-  fair-answer : (op : Arith) (s : State) (z : Size) (o : Operand) (r : Computed) → Kept P → P s → Fair none (cond (storesOf op) (operandSpan s z o) none) (answerIn op s ram rom z o r)
-  fair-answer op s z o r k ok = go (storesOf op)
+  fair-answer :
+      (op : Arith) (s : State) (z : Size) (o : Operand) (r : Computed) → Fits (r .flags) → Kept P → P s
+      → Fair none (cond (storesOf op) (operandSpan s z o) none) (answerIn op s ram rom z o r)
+  fair-answer op s z o r x k ok = go (storesOf op)
     where
       go : (b : Bool) → Fair none (cond b (operandSpan s z o) none) (cond b (resultIn s ram rom z o r) (did (flagged s (r .flags)) ram))
-      go true = fair-result s z o r k ok
-      go false = fair-did _ (k .flags s (r .flags) ok)
+      go true = fair-result s z o r x k ok
+      go false = fair-did _ (k .flags s (r .flags) x ok)
 
   -- of a register the operation stores nothing to memory, CP or not
-  fair-register : (op : Arith) (s : State) (z : Size) (c : ℕ) (r : Computed) → Kept P → P s → Fair none none (answerIn op s ram rom z (Register c) r)
-  fair-register op s z c r k ok = go (storesOf op)
+  fair-register :
+      (op : Arith) (s : State) (z : Size) (c : ℕ) (r : Computed) → Fits (r .flags) → Kept P → P s → Fair none none (answerIn op s ram rom z (Register c) r)
+  fair-register op s z c r x k ok = go (storesOf op)
     where
       go : (b : Bool) → Fair none none (cond b (resultIn s ram rom z (Register c) r) (did (flagged s (r .flags)) ram))
-      go true = fair-result s z (Register c) r k ok
-      go false = fair-did _ (k .flags s (r .flags) ok)
+      go true = fair-result s z (Register c) r x k ok
+      go false = fair-did _ (k .flags s (r .flags) x ok)
 
   pub fair-round :
       (f : Form) (s : State) → Kept P → P s
@@ -206,30 +240,56 @@ module _ (P : State → Type 0) (ram rom : List ℕ) where
       go v true = fair-storing _ _ (f .size) v (copied-kept P k f s ok)
       go v false = fair-did _ (compared-kept P k f v s ok)
 
-  fair-jump : (s : State) (cc to : ℕ) → Kept P → P s → Fair none none (jumpOf s ram cc to)
-  unfolding jumpOf
-  fair-jump s cc to k ok = fair-did _ (jump-kept P k s cc to ok)
+  -- ---- 8 comes first
+  -- an instruction's answer, by whether it uses a marked flag and by what it reads and its target
+  abbrev pub GivesBy : Bool → Span → Span → Try → Type 0
+  GivesBy marked r g t = Gives (answerBy marked (operandsAnswer ram rom r g)) g t
 
-  fair-control : (what : Control) (n : ℕ) (s : State) → Kept P → P s → Fair none none (controlOf what n s ram)
+  fair-marked : (b : Bool) (r g : Span) (t : Try) → Fair r g t → GivesBy b r g (cond b (no Undefined) t)
+  unfolding Gives
+  fair-marked true r g t h = refl
+  fair-marked false r g t h = h
+
+  fair-jump : (s : State) (cc to : ℕ) → Kept P → P s → GivesBy (readsMarked (flagsIn s) cc) none none (jumpOf s ram cc to)
+  unfolding jumpOf
+  fair-jump s cc to k ok = fair-marked (readsMarked (flagsIn s) cc) none none _ (fair-did _ (jump-kept P k s cc to ok))
+
+  -- the condition that is never met reads nothing
+  fair-never : (s t : State) → P t → GivesBy (readsMarked (flagsIn s) 0) none none (did t ram)
+  unfolding readsMarked readsV
+  fair-never s t ok = fair-did t ok
+
+  -- RCF to ZCF
+  carries-kept : (s : State) (m : ℕ) (c : Bool) → m ≤ 1 → Kept P → P s → P (flagged s (carried (flagsIn s) m c))
+  carries-kept s m c l k ok = k .flags s _ (carried-fits (flagsIn s) m c l (k .fitting s ok)) ok
+
+  fair-control :
+      (what : Control) (n : ℕ) (s : State) → Kept P → P s → GivesBy (readsMarked (flagsIn s) (conditionIn what)) none none (controlOf what n s ram)
   unfolding controlOf
-  fair-control Nop n s k ok = fair-did s ok
-  fair-control Incf n s k ok = fair-did _ (k .banks s _ ok)
-  fair-control Decf n s k ok = fair-did _ (k .banks s _ ok)
-  fair-control Ldf n s k ok = fair-did _ (k .banks s _ ok)
-  fair-control Rcf n s k ok = fair-did _ (k .flags s _ ok)
-  fair-control Scf n s k ok = fair-did _ (k .flags s _ ok)
-  fair-control Ccf n s k ok = fair-did _ (k .flags s _ ok)
-  fair-control Zcf n s k ok = fair-did _ (k .flags s _ ok)
-  fair-control Exf n s k ok = fair-did _ (k .exchanges s ok)
-  fair-control Jp16 n s k ok = fair-did _ (k .counters s _ ok)
-  fair-control Jp24 n s k ok = fair-did _ (k .counters s _ ok)
+  fair-control Nop n s k ok = fair-never s s ok
+  fair-control Incf n s k ok = fair-never s _ (k .banks s _ ok)
+  fair-control Decf n s k ok = fair-never s _ (k .banks s _ ok)
+  fair-control Ldf n s k ok = fair-never s _ (k .banks s _ ok)
+  fair-control Rcf n s k ok = fair-never s _ (carries-kept s 0 _ (omega arith) k ok)
+  fair-control Scf n s k ok = fair-never s _ (carries-kept s 0 _ (omega arith) k ok)
+  fair-control Ccf n s k ok = fair-never s _ (carries-kept s 1 _ (omega arith) k ok)
+  fair-control Zcf n s k ok = fair-never s _ (carries-kept s 1 _ (omega arith) k ok)
+  fair-control Exf n s k ok = fair-never s _ (k .exchanges s ok)
+  fair-control Jp16 n s k ok = fair-never s _ (k .counters s _ ok)
+  fair-control Jp24 n s k ok = fair-never s _ (k .counters s _ ok)
   fair-control (Jr cc) n s k ok = fair-jump s cc _ k ok
   fair-control (Jrl cc) n s k ok = fair-jump s cc _ k ok
 
-  fair-stack : (what : Stack) (z : Size) (o : Operand) (s : State) → Kept P → P s → Fair (stackRead what z s) (stackStored what z s) (stackOf what z o s ram rom)
+  fair-push-f : (s : State) → Kept P → P s → GivesBy (anyMarked (flagsIn s)) none (belowStack s 1) (pushFOf s ram rom)
+  unfolding pushFOf
+  fair-push-f s k ok = fair-marked (anyMarked (flagsIn s)) none (belowStack s 1) _ (fair-push s Byte _ k ok)
+
+  fair-stack :
+      (what : Stack) (z : Size) (o : Operand) (s : State) → Kept P → P s
+      → GivesBy (storesF what && anyMarked (flagsIn s)) (stackRead what z s) (stackStored what z s) (stackOf what z o s ram rom)
   unfolding stackOf
-  fair-stack PushF z o s k ok = fair-push s Byte _ k ok
-  fair-stack PopF z o s k ok = fair-pop s Byte _ (λ t v h. byte-kept P k t _ h) k ok
+  fair-stack PushF z o s k ok = fair-push-f s k ok
+  fair-stack PopF z o s k ok = fair-pop s Byte _ (λ t v h. byte-kept P k t v h) k ok
   fair-stack Push z o s k ok = fair-push s z _ k ok
   fair-stack Pop z o s k ok = fair-pop s z _ (λ t v h. k .registers t z _ v h) k ok
   fair-stack Call16 z o s k ok = fair-call s _ k ok
@@ -242,13 +302,15 @@ module _ (P : State → Type 0) (ram rom : List ℕ) where
   fair-puts (Number n) z o s k ok = fair-put s z o n k ok
   fair-puts (From r) z o s k ok = fair-put s z o _ k ok
   fair-puts (Load r) z o s k ok = fair-value s z o _ _ (λ v. fair-did _ (k .registers s z r v ok))
-  fair-puts (Compute op (First r)) z o s k ok = fair-value s z o _ _ (λ v. fair-register op s z r (computed s op z (getRegister s z r) v) k ok)
-  fair-puts (Compute op (Second r)) z o s k ok = fair-value s z o _ _ (λ v. fair-answer op s z o _ k ok)
-  fair-puts (Compute op (With n)) z o s k ok = fair-value s z o _ _ (λ v. fair-answer op s z o _ k ok)
-  fair-puts (Changed how) z o s k ok = fair-value s z o _ _ (λ v. fair-result s z o _ k ok)
+  fair-puts (Compute op (First r)) z o s k ok = fair-value s z o _ _ (λ v. fair-register op s z r (computed s op z (getRegister s z r) v) (operated-fits op _ _ _ _) k ok)
+  fair-puts (Compute op (Second r)) z o s k ok = fair-value s z o _ _ (λ v. fair-answer op s z o (computed s op z v (getRegister s z r)) (operated-fits op _ _ _ _) k ok)
+  fair-puts (Compute op (With n)) z o s k ok = fair-value s z o _ _ (λ v. fair-answer op s z o (computed s op z v n) (operated-fits op _ _ _ _) k ok)
+  fair-puts (Changed how) z o s k ok = fair-value s z o _ _ (λ v. fair-result s z o (changed how (bitsOf z) v (flagsIn s)) (changed-fits how (bitsOf z) v (flagsIn s) (k .fitting s ok)) k ok)
 
-  pub fair-effect : (op : Op) (z : Size) (o : Operand) (at : ℕ) (s : State) → Kept P → P s → Fair (readOf op z o s) (storedOf op z o s) (effectOf op z o at s ram rom)
-  unfolding effectOf readOf storedOf
+  pub fair-effect :
+      (op : Op) (z : Size) (o : Operand) (at : ℕ) (s : State) → Kept P → P s
+      → GivesBy (usesMarked op s) (readOf op z o s) (storedOf op z o s) (effectOf op z o at s ram rom)
+  unfolding effectOf usesMarked readOf storedOf
   fair-effect (Controls what) z o at s k ok = fair-control what _ s k ok
   fair-effect (Stacks what) z o at s k ok = fair-stack what z o s k ok
   fair-effect (Puts how) z o at s k ok = fair-puts how z o s k ok

@@ -43,7 +43,7 @@ use Rattle.operand.specs.Operand.{addressFrom, addressIn}
 use Rattle.compute.specs.Compute.{storesOf}
 use Rattle.exec.specs.Exec.{pastOf}
 use Rattle.step.specs.Step.{stepOf}
-use Rattle.facts.specs.Touched.{Span, none, bytes, operandSpan, onStack, belowStack, stackRead, stackStored, useRead, useStored, readOf, storedOf, loadTo, readAnswer, storeAnswer, answerBy}
+use Rattle.facts.specs.Touched.{Span, none, bytes, operandSpan, onStack, belowStack, stackRead, stackStored, useRead, useStored, readOf, storedOf, loadTo, readAnswer, storeAnswer, operandsAnswer, answerBy, usesMarked}
 use Rattle.facts.specs.Statements.{Within, Passed}
 use Rattle.facts.specs.Where.{InRom, FirstApart, OneApart, Reads, Stores, FiveTells, SixTells}
 use Rattle.facts.proofs.Statements.{operated, refused-when}
@@ -222,6 +222,11 @@ store-rom (Ram o) a x e = absurd (omega (arith, ap numberOf e))
 store-rom (Rom o) a x e = (o, refl, cc)
 store-rom (Missing y) a x e = absurd (omega (arith, ap numberOf e))
 
+-- 5 and 6 are the operands'
+unmarked : (b : Bool) (a : Answer) (v : Why) → whyNumber v ≤ 6 → answerBy b a ≡ Refused v → a ≡ Refused v
+unmarked true a v l e = absurd (omega (arith, ap numberOf e))
+unmarked false a v l e = e
+
 -- the first refusal of two is one of them
 one-of : (a b : Answer) (v : Why) → firstRefusal a b ≡ Refused v → Either a b v
 one-of Done b v e = inr e
@@ -263,17 +268,17 @@ module _ (s : State) (ram rom : List ℕ) (x : ℕ) where
 
   -- it is refused for one of the two
   refused-for :
-      (v : Why) → 5 ≤ whyNumber v → stepOf s ram rom .answer ≡ Refused v →
+      (v : Why) → 5 ≤ whyNumber v → whyNumber v ≤ 6 → stepOf s ram rom .answer ≡ Refused v →
       (i : Instruction) × Within ram rom × (decodeOf (codeAt ram rom (s .counter)) ≡ Whole i)
       × Either (readAnswer ram rom (reads i)) (storeAnswer ram rom (target i)) v
-  unfolding answerBy
-  refused-for v n e = go (operated s ram rom (Refused v) (inr n) e)
+  unfolding operandsAnswer
+  refused-for v n l e = go (operated s ram rom (Refused v) (inr n) e)
     where
       go :
           (i : Instruction) × (Passed s ram rom × (decodeOf (codeAt ram rom (s .counter)) ≡ Whole i))
           → (i : Instruction) × Within ram rom × (decodeOf (codeAt ram rom (s .counter)) ≡ Whole i)
           × Either (readAnswer ram rom (reads i)) (storeAnswer ram rom (target i)) v
-      go (i, (p, d)) = (i, p .0, d, one-of _ _ v (sym (refused-when s ram rom .operands i p d) ∙ e))
+      go (i, (p, d)) = (i, p .0, d, one-of _ _ v (unmarked (usesMarked (i .op) s) _ v l (sym (refused-when s ram rom .operands i p d) ∙ e)))
 
   five :
       (i : Instruction) → Within ram rom → decodeOf (codeAt ram rom (s .counter)) ≡ Whole i →
@@ -296,7 +301,7 @@ module _ (s : State) (ram rom : List ℕ) (x : ℕ) where
       (o .0, (i, d, o .1), o .2)
 
 pub five-tells : FiveTells
-five-tells s ram rom x e = let r = refused-for s ram rom x (why.Missing x) (omega arith) e in five s ram rom x (r .0) (r .1) (r .2) (r .3)
+five-tells s ram rom x e = let r = refused-for s ram rom x (why.Missing x) (omega arith) (omega arith) e in five s ram rom x (r .0) (r .1) (r .2) (r .3)
 
 pub six-tells : SixTells
-six-tells s ram rom x e = let r = refused-for s ram rom x (why.ToRom x) (omega arith) e in six s ram rom x (r .0) (r .1) (r .2) (r .3)
+six-tells s ram rom x e = let r = refused-for s ram rom x (why.ToRom x) (omega arith) (omega arith) e in six s ram rom x (r .0) (r .1) (r .2) (r .3)

@@ -2,3 +2,4 @@ pub mod Touched
 pub mod Statements
 pub mod Banks
 pub mod Where
+pub mod Marks

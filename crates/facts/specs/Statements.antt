@@ -2,7 +2,7 @@
 use Rattle.little.specs.Words.{ℕ, _<_, _≤_, _^_, _≡_, List, [], _++_, true, false, _⊎_, length}
 use Rattle.answer.specs.{declared.Why.Why, declared.Answer.Answer, declared.Answer.the-variants.Done, declared.Answer.the-variants.Refused}
 use Rattle.answer.specs.{Number.whyNumber}
-use Rattle.answer.specs.declared.Why.the-variants.{TooLong, Invalid, NoCode, Unlisted, Missing}
+use Rattle.answer.specs.declared.Why.the-variants.{TooLong, Invalid, NoCode, Unlisted, Undefined, Missing}
 use Rattle.little.specs.declared.Size.{Size}
 use Rattle.memory.specs.{Access.codeAt, Access.standsAt, Place.placeOf}
 use Rattle.state.specs.{declared.State.State, State.validOf, State.zeroState, Sound.Sound}
@@ -11,7 +11,7 @@ use Rattle.code.specs.{Listed.decodeOf}
 use Rattle.exec.specs.Exec.{pastOf, effectOf}
 use Rattle.step.specs.{declared.Stepped.Stepped, Result.refusedWith, Step.stepOf, Step.StepMeets, Show.shownOf}
 use Rattle.step.specs.{Show.showAnswerOf, Show.shownFrom, Show.ShowMeets, Show.ShowAnswerMeets, Reset.resetOf, Reset.ResetMeets}
-use Rattle.facts.specs.Touched.{readOf, storedOf, answerBy, KeepsRest}
+use Rattle.facts.specs.Touched.{usesMarked, readOf, storedOf, operandsAnswer, answerBy, KeepsRest}
 use Rattle.operand.specs.Try.{andThen}
 use Rattle.block.specs.Block.{roundOf, endsAt}
 use Rattle.code.specs.declared.Decoded.the-variants as decoded
@@ -21,11 +21,11 @@ infix 5 _⇔_
 abbrev pub _⇔_ : Type 0 → Type 0 → Type 0
 a ⇔ b = (a → b) × (b → a)
 
--- a refused step returns the state that it was given, RAM is unchanged, and its number is one of 1 to 6
+-- a refused step returns the state that it was given, RAM is unchanged, and its number is one of 1 to 6, or 8
 abbrev pub RefusedChangesNothing : Type 0
 RefusedChangesNothing =
     (s : State) (ram rom : List ℕ) (w : Why) → stepOf s ram rom .answer ≡ Refused w →
-    (stepOf s ram rom .state ≡ s) × (stepOf s ram rom .ram ≡ ram) × (1 ≤ whyNumber w) × (whyNumber w ≤ 6)
+    (stepOf s ram rom .state ≡ s) × (stepOf s ram rom .ram ≡ ram) × (1 ≤ whyNumber w) × ((whyNumber w ≤ 6) ⊎ (whyNumber w ≡ 8))
 
 -- both memories are within their limits
 abbrev pub Within : List ℕ → List ℕ → Type 0
@@ -35,16 +35,21 @@ Within ram rom = (length ram ≤ 2 ^ 16) × (length rom ≤ 2 ^ 16)
 abbrev pub Passed : State → List ℕ → List ℕ → Type 0
 Passed s ram rom = Within ram rom × (validOf s ≡ true)
 
--- each number is given in its stated case and in no other; 5 and 6, and their addresses, by where the operands of a whole instruction lie
+-- each number is given in its stated case and in no other; 8 by the marks of the flags that a whole instruction uses, 5 and 6, and their
+-- addresses, by where its operands lie
 pub record RefusedWhen (s : State) (ram rom : List ℕ) : Type 0 where
   pub one : (stepOf s ram rom .answer ≡ Refused TooLong) ⇔ ((2 ^ 16 < length ram) ⊎ (2 ^ 16 < length rom))
   pub two : (stepOf s ram rom .answer ≡ Refused Invalid) ⇔ (Within ram rom × (validOf s ≡ false))
   pub three : (stepOf s ram rom .answer ≡ Refused NoCode) ⇔ (Passed s ram rom × (decodeOf (codeAt ram rom (s .counter)) ≡ decoded.Short))
   pub four : (stepOf s ram rom .answer ≡ Refused Unlisted) ⇔ (Passed s ram rom × (decodeOf (codeAt ram rom (s .counter)) ≡ decoded.Unlisted))
+  pub eight :
+      (stepOf s ram rom .answer ≡ Refused Undefined)
+      ⇔ (Passed s ram rom × ((i : Instruction) × (decodeOf (codeAt ram rom (s .counter)) ≡ decoded.Whole i) × (usesMarked (i .op) s ≡ true)))
   pub operands :
       (i : Instruction) → Passed s ram rom → decodeOf (codeAt ram rom (s .counter)) ≡ decoded.Whole i →
       stepOf s ram rom .answer
-      ≡ answerBy ram rom (readOf (i .op) (i .size) (i .operand) (pastOf (i .length) s)) (storedOf (i .op) (i .size) (i .operand) (pastOf (i .length) s))
+      ≡ answerBy (usesMarked (i .op) s)
+      (operandsAnswer ram rom (readOf (i .op) (i .size) (i .operand) (pastOf (i .length) s)) (storedOf (i .op) (i .size) (i .operand) (pastOf (i .length) s)))
 
 -- an accepted step gives a valid state and keeps RAM's length; a state whose numbers fit stays so
 abbrev pub KeepsValid : Type 0

@@ -1,20 +1,59 @@
--- The bytes that an instruction reads and those that it stores to, and what it answers by where they lie.
-use Rattle.little.specs.Words.{ℕ, _+_, _<_, _≤_, _%_, _^_, _≡_, List, cond, _⊎_, length, getD}
+-- The flags that an instruction decides by or stores, the bytes that it reads and those that it stores to, and what it answers by them.
+use Rattle.little.specs.Words.{ℕ, _+_, _<_, _≤_, _%_, _^_, _≡_, List, Bool, true, false, cond, _&&_, _⊎_, length, getD}
 use Rattle.answer.specs.{declared.Answer.Answer, declared.Answer.the-variants.Done, declared.Answer.the-variants.Refused, Number.firstRefusal}
 use Rattle.little.specs.{declared.Size.Size, declared.Size.the-variants.Long, Width.bytesOf}
 use Rattle.memory.specs.{declared.Place.Place, Access.storeTo, Place.placeOf}
 use Rattle.memory.specs.declared.Place.the-variants.{Ram, Rom, Missing}
 use Rattle.state.specs.{declared.State.State, Register.getRegister}
-use Rattle.code.specs.declared.{Operand.Operand, Op.Op, Stack.Stack, Use.Use}
+use Rattle.flags.specs.{Condition.readsMarked, Flag.anyMarked}
+use Rattle.code.specs.declared.{Operand.Operand, Op.Op, Control.Control, Stack.Stack, Use.Use}
 use Rattle.code.specs.declared.Operand.the-variants.{Register, Constant, Memory}
 use Rattle.code.specs.declared.Op.the-variants.{Controls, Stacks, Puts, Sets, Blocks}
+use Rattle.code.specs.declared.Control.the-variants.{Nop, Incf, Decf, Ldf, Rcf, Scf, Ccf, Zcf, Exf, Jp16, Jp24, Jr, Jrl}
 use Rattle.code.specs.declared.Stack.the-variants.{PushF, PopF, Push, Pop, Call16, Call24, Calr, Ret}
 use Rattle.code.specs.declared.Use.the-variants.{Number, From, Load, Compute, Changed}
 use Rattle.code.specs.declared.Side.the-variants.{First, Second, With}
-use Rattle.operand.specs.{Operand.pointerOf, Operand.addressOf, Round.less}
+use Rattle.operand.specs.{Operand.pointerOf, Operand.addressOf, Round.less, Flag.flagsIn}
 use Rattle.compute.specs.Compute.{storesOf}
 use Rattle.answer.specs.declared.Why.the-variants as why
 
+-- ---- flags
+-- the condition that an instruction decides by; 0, never, where it has none
+abbrev pub conditionIn : Control → ℕ
+conditionIn Nop = 0
+conditionIn Incf = 0
+conditionIn Decf = 0
+conditionIn Ldf = 0
+conditionIn Rcf = 0
+conditionIn Scf = 0
+conditionIn Ccf = 0
+conditionIn Zcf = 0
+conditionIn Exf = 0
+conditionIn Jp16 = 0
+conditionIn Jp24 = 0
+conditionIn (Jr cc) = cc
+conditionIn (Jrl cc) = cc
+
+-- PUSH F stores F
+abbrev pub storesF : Stack → Bool
+storesF PushF = true
+storesF PopF = false
+storesF Push = false
+storesF Pop = false
+storesF Call16 = false
+storesF Call24 = false
+storesF Calr = false
+storesF Ret = false
+
+-- it decides by a marked flag, or stores one
+unfoldable pub usesMarked : Op → State → Bool
+usesMarked (Controls what) s = readsMarked (flagsIn s) (conditionIn what)
+usesMarked (Stacks what) s = storesF what && anyMarked (flagsIn s)
+usesMarked (Puts how) s = false
+usesMarked (Sets r) s = false
+usesMarked (Blocks f) s = false
+
+-- ---- bytes
 -- no byte, or so many bytes from an address on
 pub data Span : Type 0 where
   none : Span
@@ -104,8 +143,12 @@ storeAnswer ram rom none = Done
 storeAnswer ram rom (bytes a n) = storeTo (placeOf (length ram) (length rom) a n) a
 
 -- 5 for the read comes first, then 5 for the store, then 6
-unfoldable pub answerBy : List ℕ → List ℕ → Span → Span → Answer
-answerBy ram rom read target = firstRefusal (readAnswer ram rom read) (storeAnswer ram rom target)
+unfoldable pub operandsAnswer : List ℕ → List ℕ → Span → Span → Answer
+operandsAnswer ram rom read target = firstRefusal (readAnswer ram rom read) (storeAnswer ram rom target)
+
+-- 8 for a marked flag comes before these
+abbrev pub answerBy : Bool → Answer → Answer
+answerBy marked operands = cond marked (Refused why.Undefined) operands
 
 -- two memories of one length that differ at most in a span
 abbrev pub KeepsRest : Span → List ℕ → List ℕ → Type 0

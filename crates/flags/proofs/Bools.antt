@@ -20,6 +20,14 @@ pub right : (a b : Bool) → T (a && b) → T b
 right true b t = t
 right false b t = absurd t
 
+pub and-true : (a : Bool) → (a && true) ≡ a
+and-true true = refl
+and-true false = refl
+
+pub and-false : (a : Bool) → (a && false) ≡ false
+and-false true = refl
+and-false false = refl
+
 -- a test of numbers that passes at all of n numbers passes at each below n
 abbrev pub upto : (ℕ → Bool) → ℕ → Bool
 upto p zero = true

@@ -1,6 +1,6 @@
 -- H by bit 4: the bits of two operands and of their result, taken together, tell what was carried into it.
 use mathlib.Core.Path.{_≡_, refl, sym, ap, _∙_}
-use mathlib.Core.Bool.{Bool, true, false, _&&_}
+use mathlib.Core.Bool.{Bool, true, false, not, _&&_}
 use Prim.Native.Nat.{ℕ, _+_, _-_, _*_, _/_, _%_, _^_, _≤_, _<_}
 use native.Mathlib.Nat.{add-assoc, mul-assoc, mod-lt, zero-lt-suc}
 use native.Mathlib.Omega.{arith}
@@ -12,6 +12,7 @@ use Rattle.little.specs.declared.Size.the-variants.{Byte, Word, Long}
 use Rattle.little.specs.Width.{bitsOf}
 use borrow.Author.Tests.{leb-true, leb-false, ltb-true, ltb-false}
 use Rattle.flags.specs.Width.{low}
+use Rattle.flags.specs.Undefined.{bySum, undefinedOf, marksH}
 use Rattle.flags.proofs.Bools.{two-bits}
 
 -- ---- the carry into bit 4
@@ -101,7 +102,7 @@ pub half-sum :
     (z : Size) (a b o : ℕ) → o ≤ 1 →
     let k = bitsOf z in
     (eqb ((32 - k) / 16 % 2) 1 && eqb ((a / 16 + b / 16 + (low k a + low k b + o) % 2 ^ k / 16) % 2) 1)
-    ≡ (ltb k 32 && leb 16 (low k a % 16 + low k b % 16 + o))
+    ≡ (not (marksH (undefinedOf (bySum k))) && leb 16 (low k a % 16 + low k b % 16 + o))
 half-sum Byte a b o h = carried-sum a b (low 8 a) (low 8 b) o _ _ _ _ (above 8 a (omega arith)) (above 8 b (omega arith)) h (above 8 (low 8 a + low 8 b + o) (omega arith))
 half-sum Word a b o h = carried-sum a b (low 16 a) (low 16 b) o _ _ _ _ (above 16 a (omega arith)) (above 16 b (omega arith)) h (above 16 (low 16 a + low 16 b + o) (omega arith))
 half-sum Long a b o h = refl
@@ -119,7 +120,7 @@ pub half-less :
     let k = bitsOf z in
     low k b + o ≤ 2 ^ k + low k a →
     (eqb ((32 - k) / 16 % 2) 1 && eqb ((a / 16 + b / 16 + (2 ^ k + low k a - (low k b + o)) % 2 ^ k / 16) % 2) 1)
-    ≡ (ltb k 32 && ltb (low k a % 16) (low k b % 16 + o))
+    ≡ (not (marksH (undefinedOf (bySum k))) && ltb (low k a % 16) (low k b % 16 + o))
 half-less Byte a b o h i = carried-less a b (low 8 a) (low 8 b) o _ _ _ _ (above 8 a (omega arith)) (above 8 b (omega arith)) h 8 (less-even 8 (low 8 a) (low 8 b) o (omega arith) i)
 half-less Word a b o h i = carried-less a b (low 16 a) (low 16 b) o _ _ _ _ (above 16 a (omega arith)) (above 16 b (omega arith)) h 2048 (less-even 16 (low 16 a) (low 16 b) o (omega arith) i)
 half-less Long a b o h i = refl

@@ -1,5 +1,6 @@
 pub mod Widths
 pub mod Bools
+pub mod Undefined
 pub mod Conditions
 pub mod Half
 pub mod Turned
@@ -7,3 +8,5 @@ pub mod Raised
 pub mod Overflow
 pub mod Meaning
 pub mod Packed
+pub mod Fits
+pub mod Known

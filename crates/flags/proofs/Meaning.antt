@@ -8,8 +8,9 @@ use lib.Dec.{leb, ltb}
 use lib.Pow.{pow-pos, pow-add, mod-mod-pow}
 use borrow.Author.Tests.{lt-ltb, le-ltb, le-leb, lt-leb}
 use Rattle.flags.specs.Width.{low, one}
-use Rattle.flags.specs.Sums.{computedOf, sumOf, differenceOf}
+use Rattle.flags.specs.Sums.{resultOf, sumOf, differenceOf}
 use Rattle.flags.proofs.Widths.{one-le, twice}
+use Rattle.flags.proofs.Undefined.{sum-defines-v}
 use Rattle.flags.proofs.Overflow.{sum-turned-at, difference-turned-at}
 use Rattle.flags.specs.Meaning.{SumIsExact, DifferenceIsExact, SumHalf, DifferenceHalf, SumOverflows, DifferenceOverflows}
 
@@ -36,12 +37,12 @@ module _ (m x y c : ℕ) (hx : x < m) (hy : y < m) (hc : c ≤ 1) where
       simp (lt-ltb x (y + c) l, mod-eq-of-lt {n = m + x - (y + c)} {m = m} (omega arith)) (omega arith)
 
 pub sum-is-exact : SumIsExact
-unfolding sumOf computedOf
+unfolding sumOf resultOf
 sum-is-exact k a b c =
     carry-out (2 ^ k) (low k a) (low k b) (one c) (mod-lt a (pow-pos k)) (mod-lt b (pow-pos k)) (one-le c) (decLe (2 ^ k) (low k a + low k b + one c))
 
 pub difference-is-exact : DifferenceIsExact
-unfolding differenceOf computedOf
+unfolding differenceOf resultOf
 difference-is-exact k a b c =
     borrow-in (2 ^ k) (low k a) (low k b) (one c) (mod-lt a (pow-pos k)) (mod-lt b (pow-pos k)) (one-le c) (decLe (low k b + one c) (low k a))
 
@@ -69,7 +70,7 @@ module _ (x y c : ℕ) (hc : c ≤ 1) where
       rw (lt-ltb (x % 16) (y % 16 + c) l) (omega arith)
 
 pub sum-half : SumHalf
-unfolding sumOf computedOf
+unfolding sumOf resultOf
 sum-half k a b c h l =
     rw (lt-ltb k 32 l, low-four k (low k a + low k b + one c) h)
     (half-carry-out (low k a) (low k b) (one c) (one-le c) (decLe 16 (low k a % 16 + low k b % 16 + one c))
@@ -82,7 +83,7 @@ sixteens k b h =
     rw e at (ap (λ (n : ℕ). n * b) (pow-add 2 4 (k - 4)) ∙ mul-assoc 16 (2 ^ (k - 4)) b)
 
 pub difference-half : DifferenceHalf
-unfolding differenceOf computedOf
+unfolding differenceOf resultOf
 difference-half k a b c h l =
     let borrow = one (ltb (low k a) (low k b + one c)) in
     rw (lt-ltb k 32 l, ← low-four k a h, ← low-four k b h)
@@ -92,11 +93,13 @@ difference-half k a b c h l =
 
 -- ---- overflow
 pub sum-overflows : SumOverflows
-unfolding sumOf computedOf
+unfolding sumOf resultOf
 sum-overflows k a b c p =
-    sum-turned-at (2 ^ k) (2 ^ (k - 1)) (low k a) (low k b) (one c) (twice k p) (mod-lt a (pow-pos k)) (mod-lt b (pow-pos k)) (one-le c)
+    sum-defines-v k _
+    ∙ sum-turned-at (2 ^ k) (2 ^ (k - 1)) (low k a) (low k b) (one c) (twice k p) (mod-lt a (pow-pos k)) (mod-lt b (pow-pos k)) (one-le c)
 
 pub difference-overflows : DifferenceOverflows
-unfolding differenceOf computedOf
+unfolding differenceOf resultOf
 difference-overflows k a b c p =
-    difference-turned-at (2 ^ k) (2 ^ (k - 1)) (low k a) (low k b) (one c) (twice k p) (mod-lt a (pow-pos k)) (mod-lt b (pow-pos k)) (one-le c)
+    sum-defines-v k _
+    ∙ difference-turned-at (2 ^ k) (2 ^ (k - 1)) (low k a) (low k b) (one c) (twice k p) (mod-lt a (pow-pos k)) (mod-lt b (pow-pos k)) (one-le c)

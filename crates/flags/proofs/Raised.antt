@@ -10,10 +10,12 @@ use Rattle.little.specs.declared.Size.{Size}
 use Rattle.little.specs.Width.{bitsOf}
 use borrow.Author.Tests.{le-leb, lt-leb, lt-ltb, le-ltb, eq-eqb, ne-eqb, leb-true, leb-false, ltb-true, ltb-false, eqb-true, eqb-false}
 use Rattle.flags.specs.Width.{low, one, negative}
-use Rattle.flags.specs.Sums.{turned, computedOf, sumOf, differenceOf}
+use Rattle.flags.specs.Sums.{turned, resultOf, sumOf, differenceOf}
+use Rattle.flags.specs.Undefined.{bySum, undefinedOf}
 use Rattle.flags.specs.declared.Computed.{Computed}
 use Rattle.flags.proofs.Widths.{one-le, bits-pos, bits-le, raised-mod}
 use Rattle.flags.proofs.Half.{half-sum, half-less}
+use Rattle.flags.proofs.Undefined.{sum-defines-v}
 
 -- ---- tests of numbers that are raised alike
 module _ (d : ℕ) (p : 0 < d) where
@@ -103,11 +105,11 @@ module _ (k : ℕ) (pos : 0 < k) (most : k ≤ 32) where
 
 -- ---- the results
 same-computed :
-    {r x : ℕ} {s z h v c t w i u d : Bool} (n : Bool) → r ≡ x → s ≡ t → z ≡ w → h ≡ i → v ≡ u → c ≡ d →
+    {r x m q : ℕ} {s z h v c t w i u d : Bool} (n : Bool) → r ≡ x → s ≡ t → z ≡ w → h ≡ i → v ≡ u → c ≡ d → m ≡ q →
     _≡_ {A = Computed}
-    record { value = r; flags = record { s = s; z = z; h = h; v = v; n = n; c = c } }
-    record { value = x; flags = record { s = t; z = w; h = i; v = u; n = n; c = d } }
-same-computed n er es ez eh ev ec = rw (er, es, ez, eh, ev, ec) refl
+    record { value = r; flags = record { s = s; z = z; h = h; v = v; n = n; c = c; marks = m } }
+    record { value = x; flags = record { s = t; z = w; h = i; v = u; n = n; c = d; marks = q } }
+same-computed n er es ez eh ev ec em = rw (er, es, ez, eh, ev, ec, em) refl
 
 module _ (z : Size) (a b : ℕ) (c : Bool) (j o : ℕ) (room : j ≡ 32 - bitsOf z) (carry : o ≡ one c) where
   abbrev k : ℕ
@@ -157,14 +159,15 @@ module _ (z : Size) (a b : ℕ) (c : Bool) (j o : ℕ) (room : j ≡ 32 - bitsOf
   sum-fits = omega (arith, mod-lt (a * 2 ^ j) {m = 4294967296} (lit< tt), mod-lt (b * 2 ^ j) {m = 4294967296} (lit< tt), i-up, carry-le k (bits-pos z) (bits-le z) o carried)
 
   pub sum-raised :
-      (h v : Bool)
+      (h v : Bool) (m : ℕ)
       → h ≡ (eqb (j / 16 % 2) 1 && eqb ((a / 16 + b / 16 + sum % 4294967296 / 2 ^ j / 16) % 2) 1)
       → v ≡ turned (negative 32 x) (negative 32 y) (negative 32 (sum % 4294967296))
+      → m ≡ undefinedOf (bySum k)
       → _≡_ {A = Computed}
-      record { value = sum % 4294967296 / 2 ^ j; flags = record { s = leb 2147483648 (sum % 4294967296); z = eqb (sum % 4294967296) 0; h = h; v = v; n = false; c = leb 4294967296 sum } }
+      record { value = sum % 4294967296 / 2 ^ j; flags = record { s = leb 2147483648 (sum % 4294967296); z = eqb (sum % 4294967296) 0; h = h; v = v; n = false; c = leb 4294967296 sum; marks = m } }
       (sumOf k a b c)
-  unfolding sumOf computedOf
-  sum-raised h v eh ev =
+  unfolding sumOf resultOf
+  sum-raised h v m eh ev em =
       same-computed false
       value
       (sign-of (sum % 4294967296) _ r-up)
@@ -175,8 +178,10 @@ module _ (z : Size) (a b : ℕ) (c : Bool) (j o : ℕ) (room : j ≡ 32 - bitsOf
       ∙ half-sum z a b (one c) (one-le c))
       (ev
       ∙ ap₂ (λ (p q : Bool). turned p q (negative 32 (sum % 4294967296))) (sign-of x _ x-up) (sign-of y _ y-up)
-      ∙ ap (turned (negative k (low k a)) (negative k (low k b))) (sign-of (sum % 4294967296) _ r-up))
+      ∙ ap (turned (negative k (low k a)) (negative k (low k b))) (sign-of (sum % 4294967296) _ r-up)
+      ∙ sym (sum-defines-v k _))
       (ap (leb 4294967296) total ∙ carry-out k (bits-pos z) (bits-le z) (low k a + low k b + one c))
+      em
 
   -- ---- SUB, SBC and CP
   abbrev gap : ℕ
@@ -206,17 +211,18 @@ module _ (z : Size) (a b : ℕ) (c : Bool) (j o : ℕ) (room : j ≡ 32 - bitsOf
       omega (arith, less-raised, x-up, whole-product k (bits-pos z) (bits-le z), add-mul (2 ^ k) (low k a) (2 ^ (32 - k)))
 
   pub difference-raised :
-      (h v : Bool)
+      (h v : Bool) (m : ℕ)
       → h ≡ (eqb (j / 16 % 2) 1 && eqb ((a / 16 + b / 16 + (4294967296 + x - (y + i)) % 4294967296 / 2 ^ j / 16) % 2) 1)
       → v ≡ turned (negative 32 x) (not (negative 32 y)) (negative 32 ((4294967296 + x - (y + i)) % 4294967296))
+      → m ≡ undefinedOf (bySum k)
       → _≡_ {A = Computed}
       record {
         value = (4294967296 + x - (y + i)) % 4294967296 / 2 ^ j;
-        flags = record { s = leb 2147483648 ((4294967296 + x - (y + i)) % 4294967296); z = eqb ((4294967296 + x - (y + i)) % 4294967296) 0; h = h; v = v; n = true; c = ltb x (y + i) };
+        flags = record { s = leb 2147483648 ((4294967296 + x - (y + i)) % 4294967296); z = eqb ((4294967296 + x - (y + i)) % 4294967296) 0; h = h; v = v; n = true; c = ltb x (y + i); marks = m };
       }
       (differenceOf k a b c)
-  unfolding differenceOf computedOf
-  difference-raised h v eh ev =
+  unfolding differenceOf resultOf
+  difference-raised h v m eh ev em =
       same-computed true
       rest
       (sign-of ((4294967296 + x - (y + i)) % 4294967296) _ gap-up)
@@ -227,5 +233,7 @@ module _ (z : Size) (a b : ℕ) (c : Bool) (j o : ℕ) (room : j ≡ 32 - bitsOf
       ∙ half-less z a b (one c) (one-le c) enough)
       (ev
       ∙ ap₂ (λ (p q : Bool). turned p (not q) (negative 32 ((4294967296 + x - (y + i)) % 4294967296))) (sign-of x _ x-up) (sign-of y _ y-up)
-      ∙ ap (turned (negative k (low k a)) (not (negative k (low k b)))) (sign-of ((4294967296 + x - (y + i)) % 4294967296) _ gap-up))
+      ∙ ap (turned (negative k (low k a)) (not (negative k (low k b)))) (sign-of ((4294967296 + x - (y + i)) % 4294967296) _ gap-up)
+      ∙ sym (sum-defines-v k _))
       (ap₂ ltb x-up less-raised ∙ borrow-out k (bits-pos z) (bits-le z) (low k a) (low k b + one c))
+      em

@@ -1,6 +1,6 @@
 -- The sixteen conditions of a jump.
-use Rattle.little.specs.Words.{ℕ, _%_, Bool, false, not, cond, _||_, Bool·beq, [], _∷_, ltb, getD}
-use Rattle.flags.specs.declared.Flags.{Flags}
+use Rattle.little.specs.Words.{ℕ, _%_, Bool, true, false, not, cond, _&&_, _||_, Bool·beq, List, [], _∷_, ltb, getD}
+use Rattle.flags.specs.{declared.Flags.Flags, Undefined.marksV}
 
 -- S differs from V
 abbrev pub lessThan : Flags → Bool
@@ -13,3 +13,14 @@ basic f n = getD (false ∷ lessThan f ∷ (f .z || lessThan f) ∷ (f .c || f .
 -- 8 to 15 are their opposites in the same order; of a larger code the low four bits count
 unfoldable pub holdsOf : Flags → ℕ → Bool
 holdsOf f cc = cond (ltb (cc % 16) 8) (basic f (cc % 8)) (not (basic f (cc % 8)))
+
+-- which of never, LT, LE, ULE, V, S, Z, C, and so of their opposites, read V; no condition reads H
+abbrev pub readers : List Bool
+readers = false ∷ true ∷ true ∷ false ∷ true ∷ false ∷ false ∷ false ∷ []
+
+unfoldable pub readsV : ℕ → Bool
+readsV cc = getD readers (cc % 8) false
+
+-- a condition reads a flag that nobody defined
+unfoldable pub readsMarked : Flags → ℕ → Bool
+readsMarked f cc = readsV cc && marksV (f .marks)

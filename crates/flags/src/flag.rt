@@ -2,7 +2,7 @@
 ghost use mathlib.Core.Path.{_≡_};
 ghost use Prim.Native.Nat.{_*_, _≤_};
 ghost use Rattle.flags.specs.Width.{one};
-ghost use Rattle.flags.specs.Flag.{byteOf, flagsOf, carried, rcfOf, scfOf, ccfOf, zcfOf, copiedOf, comparedOf};
+ghost use Rattle.flags.specs.Flag.{byteOf, packedOf, flagsOf, anyMarked, carried, rcfOf, scfOf, ccfOf, zcfOf, copiedOf, comparedOf};
 use crate::Computed;
 use crate::Flags;
 
@@ -13,7 +13,8 @@ fn weight(b: bool, w: u8) -> u8
     if b { w } else { 0 }
 }
 
-pub fn pack(f: Flags) -> u8
+// The byte F.
+pub fn byte(f: Flags) -> u8
     ensures { λ r. ⌜ r ≡ byteOf f ⌝ }
 {
     weight(f.s, 128)
@@ -24,16 +25,23 @@ pub fn pack(f: Flags) -> u8
         + weight(f.c, 1)
 }
 
+// F, and above it the marks.
+pub fn pack(f: Flags) -> u16
+    ensures { λ r. ⌜ r ≡ packedOf f ⌝ }
+{
+    byte(f) as u16 + 256 * (f.marks as u16)
+}
+
 // The value of a result; its flags go into F.
-pub fn settled(w: Computed, flags: &mut u8) -> u32
-    ensures { λ r. ⌜ (r ≡ w .value) × (now (flags .exit) ≡ byteOf (w .flags)) ⌝ }
+pub fn settled(w: Computed, flags: &mut u16) -> u32
+    ensures { λ r. ⌜ (r ≡ w .value) × (now (flags .exit) ≡ packedOf (w .flags)) ⌝ }
 {
     let after = w.flags;
     *flags = pack(after);
     w.value
 }
 
-pub fn unpack(f: u8) -> Flags
+pub fn unpack(f: u16) -> Flags
     ensures { λ r. ⌜ r ≡ flagsOf f ⌝ }
 {
     Flags {
@@ -43,12 +51,21 @@ pub fn unpack(f: u8) -> Flags
         v: f / 4 % 2 == 1,
         n: f / 2 % 2 == 1,
         c: f % 2 == 1,
+        marks: (f / 256) as u8,
     }
 }
 
-// S, Z and V kept, H and N 0.
-fn carried(f: Flags, c: bool) -> Flags
-    ensures { λ r. ⌜ r ≡ carried f c ⌝ }
+// Whether a flag of them is marked.
+pub fn any_marked(f: Flags) -> bool
+    ensures { λ r. ⌜ r ≡ anyMarked f ⌝ }
+{
+    f.marks != 0
+}
+
+// S, Z and V kept, V with its mark; H and N 0, and H with a mark or none.
+fn carried(f: Flags, mark: u8, c: bool) -> Flags
+    requires { ⌜ mark ≤ 1 ⌝ }
+    ensures { λ r. ⌜ r ≡ carried f mark c ⌝ }
 {
     Flags {
         s: f.s,
@@ -57,31 +74,32 @@ fn carried(f: Flags, c: bool) -> Flags
         v: f.v,
         n: false,
         c,
+        marks: f.marks / 2 * 2 + mark,
     }
 }
 
 pub fn rcf(f: Flags) -> Flags
     ensures { λ r. ⌜ r ≡ rcfOf f ⌝ }
 {
-    carried(f, false)
+    carried(f, 0, false)
 }
 
 pub fn scf(f: Flags) -> Flags
     ensures { λ r. ⌜ r ≡ scfOf f ⌝ }
 {
-    carried(f, true)
+    carried(f, 0, true)
 }
 
 pub fn ccf(f: Flags) -> Flags
     ensures { λ r. ⌜ r ≡ ccfOf f ⌝ }
 {
-    carried(f, !f.c)
+    carried(f, 1, !f.c)
 }
 
 pub fn zcf(f: Flags) -> Flags
     ensures { λ r. ⌜ r ≡ zcfOf f ⌝ }
 {
-    carried(f, !f.z)
+    carried(f, 1, !f.z)
 }
 
 // LDI and LDD, where `more` says that BC is not 0 after the round.
@@ -95,6 +113,7 @@ pub fn copy_flags(old: Flags, more: bool) -> Flags
         v: more,
         n: false,
         c: old.c,
+        marks: 0,
     }
 }
 
@@ -109,5 +128,6 @@ pub fn compare_flags(old: Flags, compared: Flags, more: bool) -> Flags
         v: more,
         n: true,
         c: old.c,
+        marks: compared.marks % 2,
     }
 }

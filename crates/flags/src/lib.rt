@@ -1,5 +1,8 @@
 // The flags: sums and differences, which set them all, and the conditions that read them.
 pub use crate::condition::holds;
+pub use crate::condition::reads_marked;
+pub use crate::flag::any_marked;
+pub use crate::flag::byte;
 pub use crate::flag::ccf;
 pub use crate::flag::compare_flags;
 pub use crate::flag::copy_flags;
@@ -15,7 +18,7 @@ mod flag;
 pub mod sum;
 pub mod width;
 
-// The flags, one by one.
+// The flags, one by one, and the marks of those that nobody defined: 1 for H, 2 for V.
 pub struct Flags {
     pub s: bool,
     pub z: bool,
@@ -23,6 +26,7 @@ pub struct Flags {
     pub v: bool,
     pub n: bool,
     pub c: bool,
+    pub marks: u8,
 }
 
 // A result of some size, and the flags after it.

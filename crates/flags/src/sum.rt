@@ -4,7 +4,9 @@ ghost use mathlib.Core.Path.{_≡_};
 ghost use mathlib.Core.Bool.{not, _&&_};
 ghost use Prim.Native.Nat.{_+_, _-_, _/_, _%_, _≤_};
 ghost use lib.Dec.{eqb};
+ghost use Rattle.little.specs.declared.Size.{Size};
 ghost use Rattle.little.specs.Width.{bitsOf};
+ghost use Rattle.flags.specs.Undefined.{bySum, undefinedOf};
 ghost use Rattle.flags.specs.Width.{negative};
 ghost use Rattle.flags.specs.Sums.{sumOf, differenceOf, turned};
 use crate::Computed;
@@ -45,6 +47,13 @@ fn half(k: u32, a: u32, b: u32, r: u32) -> bool
     ((a ^ b ^ r) & k) / 16 % 2 == 1
 }
 
+// The mark of H, which nobody defined for a long: a long leaves no room.
+fn marks(room: u32) -> u8
+    ensures { λ r. ⌜ ((z : Size) → room ≡ 32 - bitsOf z → r ≡ undefinedOf (bySum (bitsOf z))) ⌝ }
+{
+    if room == 0 { 1 } else { 0 }
+}
+
 // ADD and ADC.
 pub fn add(size: Size, a: u32, b: u32, carry: bool) -> Computed
     ensures { λ r. ⌜ r ≡ sumOf (bitsOf size) a b carry ⌝ }
@@ -63,6 +72,7 @@ pub fn add(size: Size, a: u32, b: u32, carry: bool) -> Computed
             v: turned(x, y, r),
             n: false,
             c: 0x1_0000_0000 <= sum,
+            marks: marks(k),
         },
     }
 }
@@ -85,6 +95,7 @@ pub fn sub(size: Size, a: u32, b: u32, carry: bool) -> Computed
             v: turned_less(x, y, r),
             n: true,
             c: (x as u64) < less,
+            marks: marks(k),
         },
     }
 }

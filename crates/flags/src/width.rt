@@ -3,7 +3,7 @@ ghost use mathlib.Core.Path.{_≡_};
 ghost use Prim.Native.Nat.{_-_, _^_, _≤_, _<_};
 ghost use Rattle.little.specs.Width.{bitsOf};
 ghost use Rattle.flags.specs.Width.{low, one, negative};
-ghost use Rattle.flags.specs.Sums.{computedOf};
+ghost use Rattle.flags.specs.Sums.{resultOf};
 use crate::Computed;
 use crate::Flags;
 use little::Size;
@@ -48,9 +48,9 @@ pub fn one(b: bool) -> u64
     if b { 1 } else { 0 }
 }
 
-// A result with its S and Z, and the other flags as given.
-pub fn judged(size: Size, r: u32, h: bool, v: bool, n: bool, c: bool) -> Computed
-    ensures { λ a. ⌜ a ≡ computedOf (bitsOf size) r h v n c ⌝ }
+// A result with its S and Z, and the other flags and the marks as given.
+pub fn judged(size: Size, r: u32, h: bool, v: bool, n: bool, c: bool, marks: u8) -> Computed
+    ensures { λ a. ⌜ a ≡ resultOf (bitsOf size) r h v n c marks ⌝ }
 {
     Computed {
         value: r,
@@ -61,6 +61,7 @@ pub fn judged(size: Size, r: u32, h: bool, v: bool, n: bool, c: bool) -> Compute
             v,
             n,
             c,
+            marks,
         },
     }
 }

@@ -15,7 +15,7 @@ use Rattle.state.specs.Register.{getBits, setBits, slotIn, setSlot, slotOf, reg
 use Rattle.state.specs.Sound.{Sound}
 use Rattle.state.specs.declared.State.{State}
 use Rattle.state.proofs.Sound.{fits, fits-says}
-use Rattle.saved.specs.Record.{longsBytes, recordOf, restoredOf}
+use Rattle.saved.specs.Record.{longsBytes, oldRecordOf, recordOf, restoredOf}
 use Rattle.saved.proofs.RoundTrip.{saved-reads-back}
 use Rattle.code.specs.declared.Form.{Form}
 use Rattle.turn.specs.Many.{Result, ends}
@@ -39,7 +39,7 @@ module _ (f : Form) (b : List ℕ) (s : State) (ram rom : List ℕ) (o : Opens b
   called steps e = subst (CallLeaves b ram rom steps) e (meets steps b ram rom s o)
 
   call-ends : (n : ℕ) → EndsAfter f s ram rom (RunLeaves s ram rom) n → EndsAfter f s ram rom (CallLeaves b ram rom) n
-  call-ends n (t, m, rounds, e) = (t, m, rounds, called n e)
+  call-ends n (t, m, rounds, e, k) = (t, m, rounds, called n e, k)
 
   call-goes-on : (n : ℕ) → GoesOnAfter f s ram rom (RunLeaves s ram rom) n → GoesOnAfter f s ram rom (CallLeaves b ram rom) n
   call-goes-on n (t, m, rounds, e, c) = (t, m, rounds, called n e, c)
@@ -61,7 +61,7 @@ call-ends-as-told f b s ram rom e h =
 -- ---- records that meet it
 holds : (s : State) (b : List ℕ) → recordOf s ≡ b → T (fits (2 ^ 8) b) → Sound s → validOf s ≡ true → HasState b s
 holds s b e t ok v =
-    (fits-says (2 ^ 8) (omega arith) b t, subst (λ (l : List ℕ). restoredOf l ≡ record { answer = Done; state = s }) e (saved-reads-back s ok v))
+    (fits-says (2 ^ 8) (omega arith) b t, subst (λ (l : List ℕ). restoredOf l ≡ record { answer = Done; state = s }) e (saved-reads-back s ok v .0))
 
 -- a start of run/Evidence, on the record of its state
 met-called : (x : Start) (b : List ℕ) → recordOf (x .state) ≡ b → T (fits (2 ^ 8) b) → StartMet x →
@@ -99,7 +99,7 @@ searches =
     (l .0, l .1 .0, l .1 .1 .1 .1 .1 .0)
 
 pub seek-called : SeekCalled
-unfolding compareRuns refused fits begin bytesFrom longsBytes recordOf resetState longOf withLong withCounter withBothFlags withFlags getBits setBits slotIn setSlot slotOf registerAt setRegister
+unfolding compareRuns refused fits begin bytesFrom longsBytes recordOf oldRecordOf resetState longOf withLong withCounter withBothFlags withFlags getBits setBits slotIn setSlot slotOf registerAt setRegister
 seek-called = (
   met-called found (seekRecord 0x33 3 4 0 0x00) refl tt (searches .0),
   met-left found (seekRecord 0x33 3 4 0 0x00) refl tt (searches .0) 3 3 _ _ _ Done (runs-hold .1 .1 .0) refl,
@@ -110,7 +110,7 @@ seek-called = (
 )
 
 full-bytes : T (fits (2 ^ 8) (recordOf fullCopy))
-unfolding fullCopy fits begin bytesFrom longsBytes recordOf resetState longOf withLong withCounter withBothFlags withFlags getBits setBits slotIn setSlot slotOf registerAt setRegister
+unfolding fullCopy fits begin bytesFrom longsBytes recordOf oldRecordOf resetState longOf withLong withCounter withBothFlags withFlags getBits setBits slotIn setSlot slotOf registerAt setRegister
 full-bytes = tt
 
 pub full-called : FullCalled

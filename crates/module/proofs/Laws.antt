@@ -21,7 +21,7 @@ use Rattle.state.specs.Sound.{Sound}
 use Rattle.state.specs.declared.State.{State}
 use Rattle.state.proofs.Valid.{Valid, valid-says, valid-from, valid-zero, valid-reset, and-true}
 use Rattle.saved.specs.declared.Restored.{Restored}
-use Rattle.saved.specs.Record.{recordLength, recordOf, saveAnswer, saveBytes, stateAt, fixedAt, isRecord, restoredOf, refusedRecord}
+use Rattle.saved.specs.Record.{recordLength, recordOf, saveAnswer, saveBytes, stateAt, fixedAt, isRecord, restoredFrom, restoredOf, refusedRecord}
 use Rattle.step.specs.declared.Stepped.{Stepped}
 use Rattle.operand.specs.Try.{Try, did, no, Outcome, leaves}
 use Rattle.step.specs.Result.{refusedWith}
@@ -82,7 +82,7 @@ run-sound = run-keeps Sound (λ s ram rom t m e ok. try-keeps s ram rom t m e .1
 
 -- ---- a record that is opened
 load-done : (b : List ℕ) → restoredOf b .answer ≡ Done → Valid (restoredOf b .state) × (length b ≡ recordLength)
-unfolding restoredOf
+unfolding restoredFrom
 load-done b h = go (isRecord b) refl h
   where
     go : (x : Bool) → isRecord b ≡ x → cond x (record { answer = Done; state = stateAt b }) (refusedRecord Invalid) .answer ≡ Done →

@@ -19,7 +19,7 @@ use Rattle.state.specs.Sound.{Sound}
 use Rattle.state.specs.declared.State.{State}
 use Rattle.state.proofs.Valid.{Valid, valid-says, valid-from, and-true}
 use Rattle.saved.specs.declared.Restored.{Restored}
-use Rattle.saved.specs.Record.{recordLength, recordOf, stateAt, fixedAt, isRecord, restoredOf, refusedRecord}
+use Rattle.saved.specs.Record.{recordLength, recordOf, stateAt, fixedAt, isRecord, restoredFrom, restoredOf, refusedRecord}
 use Rattle.saved.proofs.RoundTrip.{saved-reads-back, read-saves-back, sound-at}
 use Rattle.operand.specs.Try.{Try, did, no, Outcome, leaves}
 use Rattle.step.specs.Step.{tooLong, tryOf, stepOf}
@@ -45,7 +45,7 @@ pub record Opens (b : List ℕ) (s : State) : Type 0 where
   pub valid : Valid s
 
 opens : (b : List ℕ) → Bytes b → Opens b (stateAt b) ⊎ (restoredOf b ≡ refusedRecord Invalid)
-unfolding restoredOf
+unfolding restoredFrom
 opens b h = go (isRecord b) refl
   where
     go : (x : Bool) → isRecord b ≡ x → Opens b (stateAt b) ⊎ (restoredOf b ≡ refusedRecord Invalid)
@@ -67,7 +67,7 @@ held b s h =
     (opens b (h .0))
 
 pub saved-opens : (s : State) → Sound s → Valid s → Opens (recordOf s) s
-saved-opens s ok v = record { load = saved-reads-back s ok (valid-from s v); back = refl; sound = ok; valid = v }
+saved-opens s ok v = record { load = saved-reads-back s ok (valid-from s v) .0; back = refl; sound = ok; valid = v }
 
 -- ---- a run on it
 run-here :

@@ -9,7 +9,7 @@ use lib.Dec.{ltb}
 use borrow.Author.Tests.{ltb-true, ltb-false}
 use Rattle.answer.specs.declared.Answer.{Answer}
 use Rattle.answer.specs.declared.Answer.the-variants.{Done, Refused}
-use Rattle.answer.specs.declared.Why.the-variants.{TooMany, TooLong, Invalid, NoCode, Unlisted, Missing, ToRom}
+use Rattle.answer.specs.declared.Why.the-variants.{TooMany, TooLong, Invalid, NoCode, Unlisted, Undefined, Missing, ToRom}
 use Rattle.answer.specs.Number.{numberOf, atOf}
 use Rattle.state.specs.declared.State.{State}
 use Rattle.saved.specs.Record.{recordOf}
@@ -42,6 +42,7 @@ none-at (Refused TooLong) f s = refl
 none-at (Refused Invalid) f s = refl
 none-at (Refused NoCode) f s = refl
 none-at (Refused Unlisted) f s = refl
+none-at (Refused Undefined) f s = refl
 none-at (Refused (Missing x)) f s = absurd (f refl)
 none-at (Refused (ToRom x)) f s = absurd (s refl)
 

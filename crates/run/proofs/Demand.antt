@@ -17,6 +17,7 @@ use Rattle.run.specs.Run.{RunLeaves}
 use Rattle.run.specs.Demand.{At, EqualAt, RefusedAt, elementPlace, countOf, EndsAfter, GoesOnAfter, StopsAfter}
 use Rattle.turn.proofs.ManySteps.{many-none}
 use Rattle.run.proofs.Counts.{count-some}
+use Rattle.run.proofs.Known.{rounds-define}
 use Rattle.run.proofs.Repeats.{Clear, NoneEqual, repeat-on, repeat-ends, repeat-refused, refused-at, run-at}
 
 -- a compare writes nothing
@@ -47,6 +48,7 @@ ended-run j f s ram rom a le c none last =
           ∙ ap (λ (n : ℕ). manyOf n 0 s ram rom) (sym (add-zero (suc j)))
           ∙ x .2 .goes
           ∙ many-none (suc j) (pastOf 2 (x .0)) (x .1) rom,
+      rounds-define f s ram rom (suc j) (x .0) (x .1) a (omega arith) (x .2 .rounds),
     )
 
 -- as many as the counter says

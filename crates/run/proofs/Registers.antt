@@ -10,14 +10,11 @@ use borrow.Author.Tests.{ltb-true, ltb-false}
 use Rattle.little.specs.declared.Size.{Size}
 use Rattle.little.specs.declared.Size.the-variants.{Byte, Word, Long}
 use Rattle.little.specs.Width.{bytesOf}
-use Rattle.flags.specs.Flag.{byteOf}
 use Rattle.flags.specs.declared.Flags.{Flags}
-use Rattle.flags.proofs.Packed.{packed-lt}
 use Rattle.state.specs.State.{longOf, withFlags, withBothFlags}
 use Rattle.state.specs.Sound.{Sound}
 use Rattle.state.specs.Register.{indexOf, slotOf, namedIn, slotIn, registerAt, getRegister, setRegister}
 use Rattle.state.specs.declared.State.{State}
-use Rattle.state.proofs.Sound.{sound-lent}
 use Rattle.state.proofs.Laws.{Apart, registers, register-same, register-apart, sound-register}
 use Rattle.code.specs.declared.Form.{Form}
 use Rattle.operand.specs.Round.{less, plus}
@@ -135,11 +132,6 @@ module _ (s : State) (ok : Sound s) where
 
 -- ---- flags set: no register changes
 module _ (s : State) (g : Flags) where
-  pub flagged-sound : Sound s → Sound (flagged s g)
-  unfolding flagged withFlags withBothFlags
-  flagged-sound ok =
-      sound-lent s (s .registers) (s .counter) (s .bank .0) (byteOf g) (s .spare) ok (ok .twenty) (ok .fit) (ok .counter-fit) (ok .bank-fit) (packed-lt g) (ok .spare-fit)
-
   pub flagged-register : (z : Size) (c : ℕ) → getRegister (flagged s g) z c ≡ getRegister s z c
   unfolding flagged withFlags withBothFlags registerAt slotIn longOf
   flagged-register z c = refl

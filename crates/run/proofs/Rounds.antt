@@ -43,10 +43,10 @@ use Rattle.operand.specs.Round.{less}
 use Rattle.operand.specs.Flag.{flagsIn, flagged}
 use Rattle.block.specs.Block.{countIn, moreIn, counted, moved, copied, accumulator, compared, roundOf, equalIn}
 use Rattle.block.proofs.Rounds.{round-copies, round-compares, round-missing}
-use Rattle.facts.proofs.Kept.{copied-valid, compared-valid}
+use Rattle.facts.proofs.Kept.{copied-valid, compared-valid, sound-flagged}
 use Rattle.little.specs.Bytes.{Bytes}
 use Rattle.run.proofs.Bytes.{bytes-after}
-use Rattle.run.proofs.Registers.{once, moved-sound, moved-self, moved-long, moved-bc, moved-acc, counted-sound, counted-bc, counted-long, counted-acc, flagged-sound, flagged-register, flagged-acc}
+use Rattle.run.proofs.Registers.{once, moved-sound, moved-self, moved-long, moved-bc, moved-acc, counted-sound, counted-bc, counted-long, counted-acc, flagged-register, flagged-acc}
 
 -- ---- what is known of a listed form's pointers
 pub record Pointers (f : Form) : Type 0 where
@@ -114,7 +114,7 @@ module _ (f : Form) (p : Pointers f) (s : State) (ok : Sound s) (v : Valid s) wh
   unfolding compared
   compared-rounded x c =
       record {
-        sound = flagged-sound (counted one) _ (counted-sound one one-sound);
+        sound = sound-flagged (counted one) _ (omega arith) (counted-sound one one-sound);
         valid = compared-valid f x s v;
         counter = compared-counter f x s;
         from =
@@ -143,7 +143,7 @@ module _ (f : Form) (p : Pointers f) (s : State) (ok : Sound s) (v : Valid s) wh
   copied-rounded c =
       let apart = p .differ c in
       record {
-        sound = flagged-sound (counted two) _ (counted-sound two two-sound);
+        sound = sound-flagged (counted two) _ (omega arith) (counted-sound two two-sound);
         valid = copied-valid f s v;
         counter = copied-counter f s;
         from =

@@ -9,7 +9,7 @@ use native.Mathlib.Nat.{add-zero}
 use Rattle.answer.specs.declared.Answer.the-variants.{Done}
 use Rattle.little.specs.declared.Size.the-variants.{Long}
 use Rattle.little.specs.Width.{bytesOf}
-use Rattle.state.specs.State.{longOf, withCounter}
+use Rattle.state.specs.State.{longOf, marksOf, withCounter}
 use Rattle.state.specs.Register.{slotIn, registerAt, getRegister}
 use Rattle.state.specs.declared.State.{State}
 use Rattle.code.specs.declared.Form.{Form}
@@ -23,6 +23,7 @@ use Rattle.run.specs.Search.{Over, SearchFinds, SearchFails, CopyEnds}
 use Rattle.turn.proofs.ManySteps.{many-none}
 use Rattle.run.proofs.Counts.{count-some}
 use Rattle.run.proofs.Repeats.{Clear, clear, Ended, repeat-ends, run-at}
+use Rattle.run.proofs.Known.{rounds-define}
 use Rattle.run.proofs.Demand.{compare-clear}
 use Rattle.run.proofs.Endings.{equal-clear}
 
@@ -38,6 +39,10 @@ past-count t = refl
 past-flags : (t : State) → flagsIn (pastOf 2 t) .z ≡ flagsIn t .z
 unfolding pastOf withCounter
 past-flags t = refl
+
+past-known : (t : State) → marksOf (pastOf 2 t .flags) ≡ marksOf (t .flags)
+unfolding pastOf withCounter
+past-known t = refl
 
 past-counter : (t : State) (c : ℕ) → t .counter ≡ c → pastOf 2 t .counter ≡ (c + 2) % 2 ^ 24
 unfolding pastOf withCounter
@@ -74,6 +79,7 @@ over j n f s ram rom t m a k le e =
       from = past-register t (f .from) ∙ e .from ∙ ap (passed f (getRegister s Long (f .from))) k;
       bc = past-count t ∙ omega (arith, bc, k);
       past = past-counter t (s .counter) (e .counter);
+      known = past-known t ∙ rounds-define f s ram rom (suc j) t m a (omega arith) (e .rounds);
     }
 
 pub search-finds : (f : Form) (s : State) (ram rom : List ℕ) → SearchFinds f s ram rom

@@ -33,10 +33,12 @@ use Rattle.state.proofs.Valid.{Valid, valid-says, valid-from}
 use Rattle.code.specs.Listed.{decodeOf}
 use Rattle.code.specs.declared.Form.{Form}
 use Rattle.code.specs.declared.Op.{Op}
+use Rattle.code.specs.declared.Op.the-variants.{Blocks}
 use Rattle.code.specs.declared.Instruction.{Instruction}
 use Rattle.code.specs.declared.Decoded.{Decoded}
 use Rattle.code.specs.declared.Decoded.the-variants.{Whole}
-use Rattle.code.specs.Range.{InRange}
+use Rattle.code.specs.Range.{that, Holds, InRange}
+use Rattle.code.specs.Rows.{noLong}
 use Rattle.code.proofs.Prefix.{same-start}
 use Rattle.code.proofs.Walked.{length-fits, block-length, ranges}
 use Rattle.operand.specs.Try.{Try, did, no, andThen}
@@ -183,10 +185,22 @@ end-is f u c x h =
 
 -- ---- a step at a form
 module _ (f : Form) (s : State) (ram rom : List ℕ) (a : At f s ram rom) where
-  pub at-pointers : Pointers f
-  at-pointers =
+  at-range : InRange (Blocks f) (a .instruction .size) (a .instruction .operand)
+  at-range =
       let r = ranges (codeAt ram rom (s .counter)) (a .instruction) (bytes-code ram rom (s .counter) (a .ramBytes) (a .romBytes)) (a .here) in
-      pointers f (subst (λ (op : Op). InRange op (a .instruction .size) (a .instruction .operand)) (a .form) r .0)
+      subst (λ (op : Op). InRange op (a .instruction .size) (a .instruction .operand)) (a .form) r
+
+  pub at-pointers : Pointers f
+  at-pointers = pointers f (at-range .0)
+
+  -- its elements are bytes or words
+  pub at-short : bytesOf (f .size) ≤ 2
+  at-short = subst (λ (n : ℕ). n ≤ 2) (sym (at-range .1 .1 .0)) (no-long (a .instruction .size) (at-range .1 .0))
+    where
+      no-long : (z : Size) → Holds (that (noLong z)) → bytesOf z ≤ 2
+      no-long Byte e = omega arith
+      no-long Word e = omega arith
+      no-long Long e = absurd e
 
   pub at-valid : Valid s
   at-valid = valid-says s (a .valid)

@@ -1,10 +1,11 @@
--- Demand 3: how a repeating copy or compare ends, told by its start alone. Each statement is proved in proofs/Endings.antt.
+-- Demand 3: how a repeating copy or compare ends, told by its start alone. Each statement is proved in proofs/Endings.antt
+-- or proofs/Known.antt.
 use Rattle.little.specs.Words.{ℕ, zero, suc, _+_, _-_, _*_, _%_, _^_, _<_, _≤_, _≡_, _⊎_, List, true, false, cond, eqb, length}
 use Rattle.answer.specs.declared.{Answer.the-variants.Done, Answer.the-variants.Refused, Why.Why}
 use Rattle.little.specs.{declared.Size.the-variants.Long, Width.bytesOf, Bytes.Bytes}
 use Rattle.memory.specs.{declared.Place.Place, declared.Place.the-variants.Rom, declared.Place.the-variants.Missing}
 use Rattle.memory.specs.{declared.Loaded.the-variants.Value, Place.placeOf, Place.Present, Access.loadOf, Access.codeAt}
-use Rattle.state.specs.{declared.State.State, State.validOf, Sound.Sound, Register.getRegister}
+use Rattle.state.specs.{declared.State.State, State.validOf, State.marksOf, Sound.Sound, Register.getRegister}
 use Rattle.code.specs.{declared.Form.Form, declared.Instruction.Instruction, declared.Op.the-variants.Blocks, declared.Decoded.the-variants.Whole}
 use Rattle.code.specs.{Listed.decodeOf}
 use Rattle.operand.specs.Try.{Try, did, no}
@@ -102,11 +103,17 @@ module _ (f : Form) (s : State) where
     Told (atEqual i) = (i < countOf s) × Passes i × EqualAt i
     Told (atRefusal n w) = (n < countOf s) × Passes n × RefusedAt n w
 
+    -- a round or more defines H and V, whatever their marks were: after them no flag of F is marked
+    abbrev pub RoundsDefine : Type 0
+    RoundsDefine = (n : ℕ) (t : State) (m : List ℕ) → At → 0 < n → roundsOf n f s ram rom ≡ did t m → marksOf (t .flags) ≡ 0
+
     -- ---- what a run of so many steps leaves, by `Leaves`: of states (RunLeaves), and of records as C sees them (module/Demand)
     module _ (Leaves : ℕ → Result → Type 0) where
-      -- n rounds lead to t and m, and n steps end there: registers, flags and memory are those of n rounds, the counter is past it
+      -- n rounds lead to t and m, and n steps end there: registers, flags and memory are those of n rounds, H and V are defined, the counter
+      -- is past it
       abbrev pub EndsAfter : ℕ → Type 0
-      EndsAfter n = (t : State) × (m : List ℕ) × (roundsOf n f s ram rom ≡ did t m) × Leaves n (ends n (pastOf 2 t) m Done)
+      EndsAfter n =
+          (t : State) × (m : List ℕ) × (roundsOf n f s ram rom ≡ did t m) × Leaves n (ends n (pastOf 2 t) m Done) × (marksOf (t .flags) ≡ 0)
 
       -- n rounds are done, and n steps come so far: the counter is at it still
       abbrev pub GoesOnAfter : ℕ → Type 0

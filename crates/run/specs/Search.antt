@@ -3,7 +3,7 @@
 use Rattle.little.specs.Words.{ℕ, _+_, _-_, _*_, _%_, _^_, _≤_, _≡_, _⊎_, List, true, false, length, getD, take, drop, replicate}
 use Rattle.answer.specs.declared.Answer.the-variants.{Done}
 use Rattle.little.specs.{declared.Size.the-variants.Byte, declared.Size.the-variants.Long, Width.bytesOf, Bytes.replaced}
-use Rattle.state.specs.{declared.State.State, Register.getRegister}
+use Rattle.state.specs.{declared.State.State, State.marksOf, Register.getRegister}
 use Rattle.code.specs.declared.Form.{Form}
 use Rattle.operand.specs.{Operand.pointerOf, Flag.flagsIn}
 use Rattle.block.specs.Block.{countIn}
@@ -16,12 +16,14 @@ bytesMoved f s = countOf s * bytesOf (f .size)
 
 -- all below is of any form and any start
 module _ (f : Form) (s : State) (ram rom : List ℕ) where
-  -- n steps end it, with t and m: the source pointer has passed n elements, BC is the count less n, the counter is past the instruction
+  -- n steps end it, with t and m: the source pointer has passed n elements, BC is the count less n, the counter is past the instruction,
+  -- and H and V are defined
   pub record Over (n : ℕ) (t : State) (m : List ℕ) : Type 0 where
     pub ran : runOf n s ram rom ≡ ends n t m Done
     pub from : getRegister t Long (f .from) ≡ passed f (getRegister s Long (f .from)) n
     pub bc : countIn t ≡ countOf s - n
     pub past : t .counter ≡ (s .counter + 2) % 2 ^ 24
+    pub known : marksOf (t .flags) ≡ 0
 
   -- a compare whose match is element i, from 0: i + 1 steps, so that the pointer is past the match and not at it; Z is 1; memory is as it was
   abbrev pub SearchFinds : Type 0

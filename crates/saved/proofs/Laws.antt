@@ -1,80 +1,81 @@
--- What `save` and `load` come to, case by case.
-use Prim.Native.Nat.{ℕ, _^_, _<_}
-use mathlib.Core.Path.{_≡_, ap, sym, _∙_}
+-- What saving leaves, and what loading comes to.
+use Prim.Native.Nat.{ℕ, _+_, _*_, _/_, _%_, _^_, _<_}
+use mathlib.Core.Path.{_≡_, refl, ap, sym, _∙_}
 use mathlib.Core.List.{List, [], _∷_, _++_, append-assoc}
-use mathlib.Core.Bool.{Bool, true, false}
+use mathlib.Core.Bool.{true}
 use native.Mathlib.Omega.{arith}
+use lib.Dec.{ltb}
 use lib.ListN.{length, getD, take, drop}
 use lib.Seq.{take-all}
-use borrow.Author.Tests.{eq-eqb, ne-eqb}
-use Rattle.answer.specs.declared.Answer.the-variants.{Done, Refused}
-use Rattle.answer.specs.declared.Why.the-variants.{Invalid}
+use borrow.Author.Tests.{ltb-true}
+use Rattle.answer.specs.declared.Answer.the-variants.{Done}
 use Rattle.little.specs.Bytes.{valueOf, bytesFrom}
-use Rattle.state.specs.State.{validOf}
+use Rattle.state.specs.State.{clear, flagsValid, marksOf}
 use Rattle.state.specs.declared.State.{State}
 use Rattle.state.specs.Sr.{srOf, fIn, bankIn, levelIn}
-use Rattle.saved.specs.Record.{recordLength, longsBytes, longsAt, recordOf, saveAnswer, saveBytes, srAt, stateAt, fixedAt, restoredOf, refusedRecord}
+use Rattle.state.proofs.Valid.{Valid, and-true}
+use Rattle.saved.specs.Record.{recordLength, oldLength, longsBytes, oldRecordOf, marksByte, recordOf}
+use Rattle.saved.specs.Record.{longsAt, srAt, marksAt, stateAt, isRecordOf, restoredFrom}
 
 -- ---- saving
-one-byte : (x : ℕ) → x < 2 ^ 8 → bytesFrom 1 x ≡ x ∷ []
-unfolding bytesFrom
-one-byte x k = ap (λ (b : ℕ). b ∷ []) (omega arith)
+-- valid flags have two marks at most
+pub marks-lt : (f : ℕ) → flagsValid f ≡ true → marksOf f < 4
+marks-lt f e =
+    let a = and-true (clear 5 f) _ e in
+    let b = and-true (clear 3 f) _ (a .1) in
+    omega (arith, ltb-true f (2 ^ 10) (and-true (ltb f (2 ^ 10)) _ (b .1) .0))
 
--- what each write of `save` leaves, one after the other, is the record
-pub record-filled :
-    (s : State) (l0 l1 l2 l3 l4 : List ℕ) {sr : ℕ} → s .spare < 2 ^ 8 → sr ≡ srOf s → length l4 ≡ recordLength →
+-- what each write of `save_front` leaves, one after the other, is the old record
+pub front-filled :
+    (s : State) (l0 l1 l2 l3 l4 : List ℕ) {sr : ℕ} → sr ≡ srOf s →
     take 80 l0 ≡ longsBytes (s .registers) →
     take 84 l1 ≡ take 80 l0 ++ bytesFrom 4 (s .counter) →
     take 86 l2 ≡ take 84 l1 ++ bytesFrom 2 sr →
     take 87 l3 ≡ take 86 l2 ++ bytesFrom 1 (s .spare) →
     take 88 l4 ≡ take 87 l3 ++ bytesFrom 1 0 →
-    l4 ≡ recordOf s
-unfolding recordOf
-record-filled s l0 l1 l2 l3 l4 h is n e0 e1 e2 e3 e4 =
-    sym (take-all recordLength l4 (omega arith)) ∙ e4 ∙ rw (e3, e2, e1, e0, is, one-byte (s .spare) h, one-byte 0 (omega arith)) (simp append-assoc)
+    take oldLength l4 ≡ oldRecordOf s
+unfolding oldRecordOf bytesFrom
+front-filled s l0 l1 l2 l3 l4 is e0 e1 e2 e3 e4 = e4 ∙ rw (e3, e2, e1, e0, is) (simp append-assoc)
 
-module _ (s : State) (l : List ℕ) where
-  pub save-done : validOf s ≡ true → length l ≡ recordLength → (saveAnswer s (length l) ≡ Done) × (saveBytes s l ≡ recordOf s)
-  unfolding saveAnswer saveBytes
-  save-done v e = (simp (v, eq-eqb (length l) recordLength e), simp (v, eq-eqb (length l) recordLength e))
+-- it is the whole of a buffer that has room for no more
+pub front-whole : (s : State) (l : List ℕ) → length l ≡ oldLength → take oldLength l ≡ oldRecordOf s → l ≡ oldRecordOf s
+front-whole s l n e = sym (take-all oldLength l (omega arith)) ∙ e
 
-  pub save-short : validOf s ≡ true → (length l ≡ recordLength → ⊥) → (saveAnswer s (length l) ≡ Refused Invalid) × (saveBytes s l ≡ l)
-  unfolding saveAnswer saveBytes
-  save-short v e = (simp (v, ne-eqb (length l) recordLength e), simp (v, ne-eqb (length l) recordLength e))
-
-  pub save-invalid : validOf s ≡ false → (saveAnswer s (length l) ≡ Refused Invalid) × (saveBytes s l ≡ l)
-  unfolding saveAnswer saveBytes
-  save-invalid v = (simp v, simp v)
+-- and with what each later write of `save` leaves, of a valid state, it is the record
+pub record-filled :
+    (s : State) (l0 l1 l2 l3 : List ℕ) {m : ℕ} → Valid s → m ≡ marksByte s → length l3 ≡ recordLength →
+    take oldLength l0 ≡ oldRecordOf s →
+    take 90 l1 ≡ take oldLength l0 ++ bytesFrom 2 0 →
+    take 91 l2 ≡ take 90 l1 ++ bytesFrom 1 m →
+    take 92 l3 ≡ take 91 l2 ++ bytesFrom 1 0 →
+    l3 ≡ recordOf s
+unfolding recordOf bytesFrom
+record-filled s l0 l1 l2 l3 v is n e0 e1 e2 e3 =
+    let k : marksByte s % 256 ≡ marksByte s = omega (arith, marks-lt (s .flags) (v .flags), marks-lt (s .spare) (v .spare)) in
+    sym (take-all recordLength l3 (omega arith))
+    ∙ e3
+    ∙ rw (e2, e1, e0, is)
+    (append-assoc (oldRecordOf s ++ bytesFrom 2 0) (bytesFrom 1 (marksByte s)) (bytesFrom 1 0)
+    ∙ append-assoc (oldRecordOf s) (bytesFrom 2 0) (bytesFrom 1 (marksByte s) ++ bytesFrom 1 0))
+    ∙ ap (λ (m : ℕ). oldRecordOf s ++ (0 ∷ 0 ∷ m ∷ 0 ∷ [])) k
 
 -- ---- loading
 pub state-made :
-    (l : List ℕ) {rs : List ℕ} {c sr : ℕ} → rs ≡ longsAt 20 l → c ≡ valueOf (take 4 (drop 80 l)) → sr ≡ srAt l →
+    (l : List ℕ) {rs : List ℕ} {c sr b m : ℕ} → rs ≡ longsAt 20 l → c ≡ valueOf (take 4 (drop 80 l)) → sr ≡ srAt l →
+    b ≡ getD l 86 0 → m ≡ marksAt l →
     _≡_ {A = State}
     (record {
       registers = rs;
       counter = c;
       bank = bankIn sr;
       level = levelIn sr;
-      flags = fIn sr;
-      spare = getD l 86 0;
+      flags = fIn sr + 2 ^ 8 * (m % 4);
+      spare = b + 2 ^ 8 * (m / 4);
     })
     (stateAt l)
 unfolding stateAt
-state-made l e f g = rw (e, f, g)
+state-made l e f g i j = rw (e, f, g, i, j)
 
-module _ (l : List ℕ) where
-  pub load-length : (length l ≡ recordLength → ⊥) → restoredOf l ≡ refusedRecord Invalid
-  unfolding restoredOf
-  load-length e = simp (ne-eqb (length l) recordLength e)
-
-  pub load-invalid : length l ≡ recordLength → validOf (stateAt l) ≡ false → restoredOf l ≡ refusedRecord Invalid
-  unfolding restoredOf
-  load-invalid e v = simp (eq-eqb (length l) recordLength e, v)
-
-  pub load-fixed : length l ≡ recordLength → validOf (stateAt l) ≡ true → fixedAt l ≡ false → restoredOf l ≡ refusedRecord Invalid
-  unfolding restoredOf
-  load-fixed e v m = simp (eq-eqb (length l) recordLength e, v, m)
-
-  pub load-good : length l ≡ recordLength → validOf (stateAt l) ≡ true → fixedAt l ≡ true → restoredOf l ≡ record { answer = Done; state = stateAt l }
-  unfolding restoredOf
-  load-good e v m = simp (eq-eqb (length l) recordLength e, v, m)
+pub load-good : (n : ℕ) (l : List ℕ) → isRecordOf n l ≡ true → restoredFrom n l ≡ record { answer = Done; state = stateAt l }
+unfolding restoredFrom
+load-good n l e = rw e refl

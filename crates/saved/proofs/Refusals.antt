@@ -1,33 +1,52 @@
 -- The all-zero state's record, and what is refused.
+use Prim.Native.Nat.{ℕ}
 use mathlib.Core.Path.{_≡_, refl, sym, _∙_}
-use mathlib.Core.Bool.{Bool, true, false}
+use mathlib.Core.Bool.{and-false}
 use mathlib.Core.Logic.{⊎-elim}
-use lib.ListN.{length}
-use Rattle.answer.specs.declared.Answer.the-variants.{Refused}
-use Rattle.answer.specs.declared.Why.the-variants.{Invalid}
+use mathlib.Core.List.{List}
+use borrow.Author.Tests.{eq-eqb, ne-eqb}
+use Rattle.answer.specs.declared.Answer.{Answer}
 use Rattle.little.specs.Bytes.{bytesFrom}
-use Rattle.state.specs.State.{zeroState, validOf}
-use Rattle.saved.specs.Record.{recordLength, longsBytes, recordOf, saveAnswer, saveBytes, restoredOf}
-use Rattle.saved.specs.Statements.{ZeroRecord, Saves, BadRecords, Settled}
-use Rattle.saved.proofs.Laws.{save-done, save-short, save-invalid}
+use Rattle.state.specs.State.{zeroState}
+use Rattle.saved.specs.Record.{longsBytes, oldRecordOf, recordOf, saveAnswer, saveBytes, oldSaveAnswer, oldSaveBytes, restoredFrom}
+use Rattle.saved.specs.Statements.{ZeroRecord, Saves, OldSaves, BadRecords, Settled}
 
 pub zero-record : ZeroRecord
-unfolding recordOf longsBytes bytesFrom zeroState
+unfolding oldRecordOf recordOf longsBytes bytesFrom zeroState
 zero-record = refl
 
 pub saves : Saves
-saves s b = (save-done s b, ⊎-elim (save-invalid s b) (short (validOf s) refl))
-  where
-    short : (v : Bool) → validOf s ≡ v → (length b ≡ recordLength → ⊥) → (saveAnswer s (length b) ≡ Refused Invalid) × (saveBytes s b ≡ b)
-    short true e n = save-short s b e n
-    short false e n = save-invalid s b e
+unfolding saveAnswer saveBytes
+saves s b = (
+  λ v e. (simp (v, eq-eqb _ _ e), simp (v, eq-eqb _ _ e)),
+  ⊎-elim
+      (λ v. (simp v, simp v))
+      (λ e. (simp (ne-eqb _ _ e, and-false), simp (ne-eqb _ _ e, and-false))),
+)
+
+pub old-saves : OldSaves
+unfolding oldSaveAnswer oldSaveBytes
+old-saves s b = (
+  λ v m e. (simp (v, eq-eqb _ _ m, eq-eqb _ _ e), simp (v, eq-eqb _ _ m, eq-eqb _ _ e)),
+  ⊎-elim
+      (λ v. (simp v, simp v))
+      (⊎-elim
+      (λ m. (simp (ne-eqb _ _ m, and-false), simp (ne-eqb _ _ m, and-false)))
+      (λ e. (simp (ne-eqb _ _ e, and-false), simp (ne-eqb _ _ e, and-false)))),
+)
 
 pub bad-records : BadRecords
-unfolding restoredOf
-bad-records l e = rw e refl
+unfolding restoredFrom
+bad-records n l e = rw e refl
+
+-- two answers, and two buffers, that are what a promise says
+alike : {a e x : Answer} {c d y : List ℕ} → (a ≡ x) × (c ≡ y) → (e ≡ x) × (d ≡ y) → (a ≡ e) × (c ≡ d)
+alike p q = (p .0 ∙ sym (q .0), p .1 ∙ sym (q .1))
 
 pub settled : Settled
 settled = (
-  λ s b c d a e p q. (p .0 ∙ sym (q .0), p .1 ∙ sym (q .1)),
+  λ s b c d a e. alike,
+  λ s b c d a e. alike,
+  λ l r q e f. e ∙ sym f,
   λ l r q e f. e ∙ sym f,
 )

@@ -1,123 +1,199 @@
--- A state that is saved and read is the same, and a record that is read and saved is the same.
-use Prim.Native.Nat.{ℕ}
+-- A state that is saved and read is the same, and a record that is read and saved is the same. Both forms are proved at once: a record is
+-- the old record with a tail, of four bytes or of none, and what the tail lacks reads as 0.
+use Prim.Native.Nat.{ℕ, suc, _+_, _*_, _/_, _%_, _^_, _<_, _≤_}
 use mathlib.Core.Path.{_≡_, refl, ap, sym, _∙_}
 use mathlib.Core.Bool.{true}
-use mathlib.Core.List.{List, [], _∷_, _++_}
+use mathlib.Core.List.{List, [], _∷_, _++_, append-assoc, append-nil}
 use native.Mathlib.Omega.{arith}
-use lib.ListN.{length, getD, take, drop, length-append, length-drop, take-append-drop, drop-of-length-le}
+use lib.ListN.{length, getD, take, drop, length-append, length-drop, take-append-drop, drop-of-length-le, List·getD-eq-default}
 use lib.Dec.{eqb}
 use lib.Seq.{take-at, drop-at, drop-drop, getD-drop, drop-cons}
 use borrow.Author.Tests.{eq-eqb, eqb-true}
 use Rattle.answer.specs.declared.Answer.the-variants.{Done}
 use Rattle.little.specs.Bytes.{Bytes, valueOf, bytesFrom}
 use Rattle.little.proofs.Laws.{length-bytes, value-bytes}
-use Rattle.state.specs.State.{validOf}
+use Rattle.state.specs.State.{validOf, fOf}
 use Rattle.state.specs.Sound.{Sound}
 use Rattle.state.specs.declared.State.{State}
 use Rattle.state.proofs.Valid.{Valid, valid-says, and-true}
-use Rattle.state.specs.Sr.{srOf, onesIn}
+use Rattle.state.specs.Sr.{srOf, fIn, onesIn}
 use Rattle.state.proofs.Sr.{sr-lt, sr-back, sr-ones, sr-whole}
-use Rattle.saved.specs.Record.{recordLength, longsBytes, longsAt, recordOf, srAt, stateAt, fixedAt, isRecord, restoredOf}
-use Rattle.saved.specs.Statements.{SavedReadsBack, RecordsAreOfStates}
+use Rattle.saved.specs.Record.{recordLength, oldLength, longsBytes, oldRecordOf, marksByte, recordOf}
+use Rattle.saved.specs.Record.{longsAt, srAt, marksAt, stateAt, zeroAt, fixedAt, isRecordOf, isRecord, restoredFrom}
+use Rattle.saved.specs.Statements.{SavedReadsBack, RecordsAreOfStates, OldRecordsAreOfStates}
 use Rattle.saved.proofs.Numbers.{longs-length, longs-back, bytes-drop, part-bytes, bytes-longs, value-two, value-four, longs-fit}
-use Rattle.saved.proofs.Laws.{load-good}
+use Rattle.saved.proofs.Laws.{marks-lt, load-good}
+
+-- the parts of an old record with a tail
+parts :
+    (s : State) (t : List ℕ) →
+    oldRecordOf s ++ t ≡ longsBytes (s .registers) ++ (bytesFrom 4 (s .counter) ++ (bytesFrom 2 (srOf s) ++ (fOf (s .spare) ∷ 0 ∷ t)))
+unfolding oldRecordOf
+parts s t = simp append-assoc
 
 -- ---- saved, then read
-module _ (s : State) (ok : Sound s) (v : Valid s) where
-  abbrev tail : List ℕ
-  tail = bytesFrom 4 (s .counter) ++ (bytesFrom 2 (srOf s) ++ (s .spare ∷ 0 ∷ []))
+-- a tail that tells the marks of a state, with a zero everywhere else
+record Tail (s : State) (t : List ℕ) : Type 0 where
+  zeros : (getD t 0 0 ≡ 0) × (getD t 1 0 ≡ 0) × (getD t 3 0 ≡ 0)
+  marks : getD t 2 0 ≡ marksByte s
+
+-- the bytes of a record, and none
+marks-tail : (s : State) → Tail s (0 ∷ 0 ∷ marksByte s ∷ 0 ∷ [])
+marks-tail s = record { zeros = (refl, refl, refl); marks = refl }
+
+no-tail : (s : State) → marksByte s ≡ 0 → Tail s []
+no-tail s e = record { zeros = (refl, refl, refl); marks = sym e }
+
+module _ (s : State) (ok : Sound s) (v : Valid s) (t : List ℕ) where
+  abbrev whole : List ℕ
+  whole = oldRecordOf s ++ t
+
+  abbrev last : List ℕ
+  last = fOf (s .spare) ∷ 0 ∷ t
+
+  abbrev status : List ℕ
+  status = bytesFrom 2 (srOf s) ++ last
 
   longs-80 : length (longsBytes (s .registers)) ≡ 80
   longs-80 = longs-length (s .registers) ∙ omega (arith, ok .twenty)
 
-  at-80 : drop 80 (recordOf s) ≡ tail
-  unfolding recordOf
-  at-80 = drop-at (longsBytes (s .registers)) tail 80 longs-80
+  at-80 : drop 80 whole ≡ bytesFrom 4 (s .counter) ++ status
+  at-80 = rw (parts s t) (drop-at (longsBytes (s .registers)) _ 80 longs-80)
 
-  at-84 : drop 84 (recordOf s) ≡ bytesFrom 2 (srOf s) ++ (s .spare ∷ 0 ∷ [])
-  at-84 = sym (drop-drop 4 80 (recordOf s)) ∙ ap (drop 4) at-80 ∙ drop-at (bytesFrom 4 (s .counter)) _ 4 (length-bytes 4 (s .counter))
+  at-84 : drop 84 whole ≡ status
+  at-84 = sym (drop-drop 4 80 whole) ∙ ap (drop 4) at-80 ∙ drop-at (bytesFrom 4 (s .counter)) _ 4 (length-bytes 4 (s .counter))
 
-  sr-is : srAt (recordOf s) ≡ srOf s
+  at-86 : drop 86 whole ≡ last
+  at-86 = sym (drop-drop 2 84 whole) ∙ ap (drop 2) at-84 ∙ drop-at (bytesFrom 2 (srOf s)) _ 2 (length-bytes 2 (srOf s))
+
+  byte-is : (i : ℕ) → getD whole (86 + i) 0 ≡ getD last i 0
+  byte-is i = sym (getD-drop 86 whole i 0) ∙ ap (λ (l : List ℕ). getD l i 0) at-86
+
+  sr-is : srAt whole ≡ srOf s
   sr-is =
       ap (λ (l : List ℕ). valueOf (take 2 l)) at-84
       ∙ ap valueOf (take-at (bytesFrom 2 (srOf s)) _ 2 (length-bytes 2 (srOf s)))
-      ∙ value-bytes 2 (srOf s) (sr-lt s ok v)
+      ∙ value-bytes 2 (srOf s) (sr-lt s v)
 
-  spare-is : getD (recordOf s) 86 0 ≡ s .spare
-  unfolding bytesFrom
-  spare-is = sym (getD-drop 84 (recordOf s) 2 0) ∙ ap (λ (l : List ℕ). getD l 2 0) at-84
+  registers-are : longsAt 20 whole ≡ s .registers
+  registers-are = rw (← ok .twenty, parts s t) (longs-back (s .registers) _ (ok .fit))
 
-  last-is : getD (recordOf s) 87 0 ≡ 0
-  unfolding bytesFrom
-  last-is = sym (getD-drop 84 (recordOf s) 3 0) ∙ ap (λ (l : List ℕ). getD l 3 0) at-84
-
-  pub record-length : length (recordOf s) ≡ recordLength
-  unfolding recordOf
-  record-length = simp (length-append, longs-80, length-bytes)
-
-  registers-are : longsAt 20 (recordOf s) ≡ s .registers
-  unfolding recordOf
-  registers-are = rw (← ok .twenty) (longs-back (s .registers) tail (ok .fit))
-
-  counter-is : valueOf (take 4 (drop 80 (recordOf s))) ≡ s .counter
+  counter-is : valueOf (take 4 (drop 80 whole)) ≡ s .counter
   counter-is =
       rw (at-80, take-at (bytesFrom 4 (s .counter)) _ 4 (length-bytes 4 (s .counter)))
       (value-bytes 4 (s .counter) (omega (arith, v .counter)))
 
-  pub state-back : stateAt (recordOf s) ≡ s
-  unfolding stateAt
-  state-back =
-      let back = sr-back s ok v in
-      rw (registers-are, counter-is, sr-is, back .0, back .1, back .2, spare-is)
+  whole-length : length whole ≡ oldLength + length t
+  whole-length = rw (parts s t) (simp (length-append, longs-80, length-bytes) (omega arith))
 
-  fixed-are : fixedAt (recordOf s) ≡ true
-  fixed-are = simp (sr-is, last-is, sr-ones s ok v)
+  module _ (k : Tail s t) where
+    marks-are : marksAt whole ≡ marksByte s
+    marks-are = byte-is 4 ∙ k .marks
 
-  valid-again : validOf s ≡ true → isRecord (recordOf s) ≡ true
-  valid-again e = simp (eq-eqb _ _ record-length, ap validOf state-back ∙ e, fixed-are)
+    flags-are : fIn (srOf s) + 2 ^ 8 * (marksByte s % 4) ≡ s .flags
+    flags-are = omega (arith, sr-back s v .2, marks-lt (s .flags) (v .flags))
+
+    spare-is : fOf (s .spare) + 2 ^ 8 * (marksByte s / 4) ≡ s .spare
+    spare-is = omega (arith, marks-lt (s .flags) (v .flags))
+
+    whole-back : stateAt whole ≡ s
+    unfolding stateAt
+    whole-back =
+        let back = sr-back s v in
+        rw (registers-are, counter-is, sr-is, marks-are, byte-is 0, back .0, back .1, flags-are, spare-is)
+
+    whole-good : validOf s ≡ true → isRecordOf (oldLength + length t) whole ≡ true
+    whole-good e =
+        simp (
+          eq-eqb _ _ whole-length,
+          ap validOf whole-back ∙ e,
+          sr-is,
+          sr-ones s v,
+          byte-is 1,
+          byte-is 2 ∙ k .zeros .0,
+          byte-is 3 ∙ k .zeros .1,
+          byte-is 5 ∙ k .zeros .2,
+        )
+
+    reads-back : validOf s ≡ true → restoredFrom (oldLength + length t) whole ≡ record { answer = Done; state = s }
+    reads-back e = load-good _ whole (whole-good e) ∙ ap (λ (r : State). record { answer = Done; state = r }) whole-back
 
 pub saved-reads-back : SavedReadsBack
+unfolding recordOf
 saved-reads-back s ok e =
-    let v = valid-says s e in
-    load-good (recordOf s) (record-length s ok v) (ap validOf (state-back s ok v) ∙ e) (fixed-are s ok v)
-    ∙ ap (λ (t : State). record { answer = Done; state = t }) (state-back s ok v)
+    let v = valid-says s e in (
+      reads-back s ok v _ (marks-tail s) e,
+      λ m. rw (append-nil (oldRecordOf s)) at (reads-back s ok v [] (no-tail s m) e),
+    )
 
 -- ---- read, then saved
-module _ (l : List ℕ) (h : Bytes l) (n : length l ≡ recordLength) (m : fixedAt l ≡ true) where
-  ones : onesIn (srAt l) ≡ true
-  ones = and-true (onesIn (srAt l)) _ m .0
+drop-byte : (l : List ℕ) (i b : ℕ) → i < length l → getD l i 0 ≡ b → drop i l ≡ b ∷ drop (suc i) l
+drop-byte l i b h e = drop-cons l i 0 h ∙ ap (λ (x : ℕ). x ∷ drop (suc i) l) e
 
-  sr-same : srOf (stateAt l) ≡ srAt l
+module _ (l : List ℕ) (h : Bytes l) where
+  marks-same : marksByte (stateAt l) ≡ marksAt l
   unfolding stateAt
-  sr-same = sr-whole (srAt l) (value-two (drop 84 l) (bytes-drop 84 l h)) ones
+  marks-same = omega (arith, h 86)
 
-  last-two : getD l 86 0 ∷ 0 ∷ [] ≡ drop 86 l
-  last-two =
-      let last : getD l 87 0 ≡ 0 = eqb-true _ _ (and-true (onesIn (srAt l)) _ m .1) in
-      sym
-      (drop-cons l 86 0 (omega arith)
-      ∙ ap (λ (t : List ℕ). getD l 86 0 ∷ t)
-      (drop-cons l 87 0 (omega arith) ∙ rw (last, drop-of-length-le l {i = recordLength} (omega arith))))
+  module _ (n : oldLength ≤ length l) (m : fixedAt l ≡ true) where
+    fixed : (onesIn (srAt l) ≡ true) × (getD l 87 0 ≡ 0) × (getD l 88 0 ≡ 0) × (getD l 89 0 ≡ 0) × (getD l 91 0 ≡ 0)
+    fixed =
+        let a = and-true (onesIn (srAt l)) _ m in
+        let b = and-true (zeroAt 87 l) _ (a .1) in
+        let c = and-true (zeroAt 88 l) _ (b .1) in
+        let d = and-true (zeroAt 89 l) _ (c .1) in
+        (a .0, eqb-true _ _ (b .0), eqb-true _ _ (c .0), eqb-true _ _ (d .0), eqb-true _ _ (d .1))
 
-  pub record-back : recordOf (stateAt l) ≡ l
-  unfolding recordOf stateAt
-  record-back =
-      let longs : longsBytes (longsAt 20 l) ≡ take 80 l = bytes-longs 20 l (omega arith) h in
-      let counter : bytesFrom 4 (valueOf (take 4 (drop 80 l))) ≡ take 4 (drop 80 l) =
-      part-bytes 4 (drop 80 l) (simp length-drop (omega arith)) (bytes-drop 80 l h) in
-      let sr : bytesFrom 2 (srOf (stateAt l)) ≡ take 2 (drop 84 l) =
-      ap (bytesFrom 2) sr-same ∙ part-bytes 2 (drop 84 l) (simp length-drop (omega arith)) (bytes-drop 84 l h) in
-      rw (
-        longs,
-        counter,
-        sr,
-        last-two,
-        ← drop-drop 2 84 l,
-        take-append-drop 2 (drop 84 l),
-        ← drop-drop 4 80 l,
-        take-append-drop 4 (drop 80 l),
-      )
-      (take-append-drop 80 l)
+    sr-same : srOf (stateAt l) ≡ srAt l
+    unfolding stateAt
+    sr-same =
+        let f : (fIn (srAt l) + 2 ^ 8 * (marksAt l % 4)) % 2 ^ 8 ≡ fIn (srAt l) = omega arith in
+        rw f (sr-whole (srAt l) (value-two (drop 84 l) (bytes-drop 84 l h)) (fixed .0))
+
+    last-same : fOf (stateAt l .spare) ∷ 0 ∷ drop 88 l ≡ drop 86 l
+    unfolding stateAt
+    last-same =
+        let f : fOf (getD l 86 0 + 2 ^ 8 * (marksAt l / 4)) ≡ getD l 86 0 = omega (arith, h 86) in
+        rw (f, drop-byte l 86 (getD l 86 0) (omega arith) refl, drop-byte l 87 0 (omega arith) (fixed .1))
+
+    front-same : oldRecordOf (stateAt l) ++ drop 88 l ≡ l
+    unfolding stateAt
+    front-same =
+        let longs : longsBytes (longsAt 20 l) ≡ take 80 l = bytes-longs 20 l (omega arith) h in
+        let counter : bytesFrom 4 (valueOf (take 4 (drop 80 l))) ≡ take 4 (drop 80 l) =
+        part-bytes 4 (drop 80 l) (simp length-drop (omega arith)) (bytes-drop 80 l h) in
+        let sr : bytesFrom 2 (srOf (stateAt l)) ≡ take 2 (drop 84 l) =
+        ap (bytesFrom 2) sr-same ∙ part-bytes 2 (drop 84 l) (simp length-drop (omega arith)) (bytes-drop 84 l h) in
+        rw (
+          parts (stateAt l) (drop 88 l),
+          longs,
+          counter,
+          sr,
+          last-same,
+          ← drop-drop 2 84 l,
+          take-append-drop 2 (drop 84 l),
+          ← drop-drop 4 80 l,
+          take-append-drop 4 (drop 80 l),
+        )
+        (take-append-drop 80 l)
+
+    -- what follows the front of a record
+    tail-same : length l ≡ recordLength → drop 88 l ≡ 0 ∷ 0 ∷ marksByte (stateAt l) ∷ 0 ∷ []
+    tail-same e =
+        rw (
+          drop-byte l 88 0 (omega arith) (fixed .2),
+          drop-byte l 89 0 (omega arith) (fixed .3),
+          drop-byte l 90 (marksByte (stateAt l)) (omega arith) (sym marks-same),
+          drop-byte l 91 0 (omega arith) (fixed .4),
+          drop-of-length-le l {i = recordLength} (omega arith),
+        )
+
+    record-same : length l ≡ recordLength → recordOf (stateAt l) ≡ l
+    unfolding recordOf
+    record-same e = rw (← tail-same e) front-same
+
+    old-same : length l ≡ oldLength → oldRecordOf (stateAt l) ≡ l
+    old-same e = sym (append-nil (oldRecordOf (stateAt l))) ∙ rw (← drop-of-length-le l {i = oldLength} (omega arith)) front-same
 
 -- what is read is sound
 pub sound-at : (l : List ℕ) → Bytes l → Sound (stateAt l)
@@ -130,19 +206,35 @@ sound-at l h =
       bank-fit = omega arith;
       level-fit = omega arith;
       flags-fit = omega arith;
-      spare-fit = h 86;
+      spare-fit = omega (arith, h 86, h 90);
     }
+
+-- what a good record is
+good-says : (n : ℕ) (l : List ℕ) → isRecordOf n l ≡ true → (length l ≡ n) × (validOf (stateAt l) ≡ true) × (fixedAt l ≡ true)
+good-says n l e =
+    let a = and-true (eqb (length l) n) _ e in
+    let b = and-true (validOf (stateAt l)) _ (a .1) in
+    (eqb-true _ _ (a .0), b .0, b .1)
 
 pub read-saves-back : (l : List ℕ) → Bytes l → isRecord l ≡ true → recordOf (stateAt l) ≡ l
 read-saves-back l h e =
-    let a = and-true (eqb (length l) recordLength) _ e in
-    let b = and-true (validOf (stateAt l)) _ (a .1) in
-    record-back l h (eqb-true _ _ (a .0)) (b .1)
+    let g = good-says recordLength l e in
+    record-same l h (omega (arith, g .0)) (g .2) (g .0)
 
 pub records-are-of-states : RecordsAreOfStates
+unfolding recordOf
 records-are-of-states = (
-  λ s ok e. valid-again s ok (valid-says s e) e,
+  λ s ok e. whole-good s ok (valid-says s e) _ (marks-tail s) e,
+  λ l h e. (good-says recordLength l e .1, read-saves-back l h e),
+)
+
+pub old-records-are-of-states : OldRecordsAreOfStates
+old-records-are-of-states = (
+  λ s ok e m. rw (append-nil (oldRecordOf s)) at (whole-good s ok (valid-says s e) [] (no-tail s m) e),
   λ l h e.
-      let a = and-true (eqb (length l) recordLength) _ e in
-      (and-true (validOf (stateAt l)) _ (a .1) .0, read-saves-back l h e),
+      let g = good-says oldLength l e in (
+        g .1,
+        marks-same l h ∙ List·getD-eq-default l 0 (omega (arith, g .0)),
+        old-same l h (omega (arith, g .0)) (g .2) (g .0),
+      ),
 )

@@ -1,22 +1,34 @@
--- A saved state: one record of bytes with no header.
-use Rattle.little.specs.Words.{ℕ, zero, suc, _≡_, List, [], _∷_, _++_, Bool, cond, _&&_, length, getD, take, drop, eqb}
+-- A saved state: one record of bytes with no header. The old record is the first 88 bytes of it, and has no room for marks.
+use Rattle.little.specs.Words.{ℕ, zero, suc, _+_, _*_, _/_, _%_, _^_, _≡_, List, [], _∷_, _++_, Bool, cond, _&&_, length, getD, take, drop, eqb}
 use Rattle.answer.specs.declared.{Answer.Answer, Answer.the-variants.Done, Answer.the-variants.Refused, Why.Why, Why.the-variants.Invalid}
 use Rattle.little.specs.Bytes.{valueOf, bytesFrom}
-use Rattle.state.specs.{declared.State.State, State.validOf, State.zeroState, Sr.srOf, Sr.fIn, Sr.bankIn, Sr.levelIn, Sr.onesIn}
+use Rattle.state.specs.{declared.State.State, State.validOf, State.zeroState, State.fOf, State.marksOf}
+use Rattle.state.specs.Sr.{srOf, fIn, bankIn, levelIn, onesIn}
 use Rattle.saved.specs.declared.Restored.{Restored}
 
--- how many bytes it has
+-- how many bytes it has, and the old one
 abbrev pub recordLength : ℕ
-recordLength = 88
+recordLength = 92
+
+abbrev pub oldLength : ℕ
+oldLength = 88
 
 -- numbers of four bytes, one after the other
 unfoldable pub longsBytes : List ℕ → List ℕ
 longsBytes [] = []
 longsBytes (x ∷ xs) = bytesFrom 4 x ++ longsBytes xs
 
--- banks 0 to 3 (XWA, XBC, XDE, XHL each), XIX, XIY, XIZ, XSP, the counter in four bytes, SR in two, F' in one, a zero byte
+-- the old record: banks 0 to 3 (XWA, XBC, XDE, XHL each), XIX, XIY, XIZ, XSP, the counter in four bytes, SR in two, F' in one, a zero byte
+unfoldable pub oldRecordOf : State → List ℕ
+oldRecordOf s = longsBytes (s .registers) ++ (bytesFrom 4 (s .counter) ++ (bytesFrom 2 (srOf s) ++ (fOf (s .spare) ∷ 0 ∷ [])))
+
+-- the marks in one byte: H and V of F in bits 0 and 1, those of F' in bits 2 and 3
+abbrev pub marksByte : State → ℕ
+marksByte s = marksOf (s .flags) + 4 * marksOf (s .spare)
+
+-- the record: the old one, two zero bytes, the marks, a zero byte
 unfoldable pub recordOf : State → List ℕ
-recordOf s = longsBytes (s .registers) ++ (bytesFrom 4 (s .counter) ++ (bytesFrom 2 (srOf s) ++ (s .spare ∷ 0 ∷ [])))
+recordOf s = oldRecordOf s ++ (0 ∷ 0 ∷ marksByte s ∷ 0 ∷ [])
 
 -- ---- saving: an invalid state, or a buffer of another length, is refused and leaves the buffer
 -- whether a state can be saved in n bytes
@@ -35,7 +47,20 @@ saveBytes s buffer = cond (canSave s (length buffer)) (recordOf s) buffer
 abbrev pub SaveMeets : State → List ℕ → Answer → List ℕ → Type 0
 SaveMeets s buffer a c = (a ≡ saveAnswer s (length buffer)) × (c ≡ saveBytes s buffer)
 
--- ---- loading
+-- ---- saving in the old form: a marked state is refused too
+abbrev pub canSaveOld : State → ℕ → Bool
+canSaveOld s n = validOf s && (eqb (marksByte s) 0 && eqb n oldLength)
+
+unfoldable pub oldSaveAnswer : State → ℕ → Answer
+oldSaveAnswer s n = cond (canSaveOld s n) Done (Refused Invalid)
+
+unfoldable pub oldSaveBytes : State → List ℕ → List ℕ
+oldSaveBytes s buffer = cond (canSaveOld s (length buffer)) (oldRecordOf s) buffer
+
+abbrev pub OldSaveMeets : State → List ℕ → Answer → List ℕ → Type 0
+OldSaveMeets s buffer a c = (a ≡ oldSaveAnswer s (length buffer)) × (c ≡ oldSaveBytes s buffer)
+
+-- ---- loading, of both forms: what an old record lacks reads as 0, so that it has no marks
 -- the first n numbers of four bytes
 unfoldable pub longsAt : ℕ → List ℕ → List ℕ
 longsAt zero l = []
@@ -45,6 +70,10 @@ longsAt (suc n) l = valueOf (take 4 l) ∷ longsAt n (drop 4 l)
 abbrev pub srAt : List ℕ → ℕ
 srAt l = valueOf (take 2 (drop 84 l))
 
+-- the marks of a record
+abbrev pub marksAt : List ℕ → ℕ
+marksAt l = getD l 90 0
+
 -- what stands in a record
 unfoldable pub stateAt : List ℕ → State
 stateAt l = record {
@@ -52,26 +81,46 @@ stateAt l = record {
   counter = valueOf (take 4 (drop 80 l));
   bank = bankIn (srAt l);
   level = levelIn (srAt l);
-  flags = fIn (srAt l);
-  spare = getD l 86 0;
+  flags = fIn (srAt l) + 2 ^ 8 * (marksAt l % 4);
+  spare = getD l 86 0 + 2 ^ 8 * (marksAt l / 4);
 }
 
--- the ones of SR, and the zero byte
-abbrev pub fixedAt : List ℕ → Bool
-fixedAt l = onesIn (srAt l) && eqb (getD l 87 0) 0
+-- byte i is zero, or is not there
+abbrev pub zeroAt : ℕ → List ℕ → Bool
+zeroAt i l = eqb (getD l i 0) 0
 
--- of that length, and with no bit that no valid state has
-abbrev pub isRecord : List ℕ → Bool
-isRecord l = eqb (length l) recordLength && (validOf (stateAt l) && fixedAt l)
+-- the ones of SR, and the zero bytes
+abbrev pub fixedAt : List ℕ → Bool
+fixedAt l = onesIn (srAt l) && (zeroAt 87 l && (zeroAt 88 l && (zeroAt 89 l && zeroAt 91 l)))
+
+-- of n bytes, and with no bit that no valid state has
+abbrev pub isRecordOf : ℕ → List ℕ → Bool
+isRecordOf n l = eqb (length l) n && (validOf (stateAt l) && fixedAt l)
 
 -- a refusal, with the all-zero state in the place of one; of a bad record it is 2
 abbrev pub refusedRecord : Why → Restored
 refusedRecord w = record { answer = Refused w; state = zeroState }
 
--- what a load gives
-unfoldable pub restoredOf : List ℕ → Restored
-restoredOf l = cond (isRecord l) (record { answer = Done; state = stateAt l }) (refusedRecord Invalid)
+-- what a load of a record of n bytes gives
+unfoldable pub restoredFrom : ℕ → List ℕ → Restored
+restoredFrom n l = cond (isRecordOf n l) (record { answer = Done; state = stateAt l }) (refusedRecord Invalid)
+
+-- of a record, and of an old one
+abbrev pub isRecord : List ℕ → Bool
+isRecord l = isRecordOf recordLength l
+
+abbrev pub restoredOf : List ℕ → Restored
+restoredOf l = restoredFrom recordLength l
+
+abbrev pub isOldRecord : List ℕ → Bool
+isOldRecord l = isRecordOf oldLength l
+
+abbrev pub oldRestoredOf : List ℕ → Restored
+oldRestoredOf l = restoredFrom oldLength l
 
 -- what a load promises of its result r
 abbrev pub LoadMeets : List ℕ → Restored → Type 0
 LoadMeets l r = r ≡ restoredOf l
+
+abbrev pub OldLoadMeets : List ℕ → Restored → Type 0
+OldLoadMeets l r = r ≡ oldRestoredOf l

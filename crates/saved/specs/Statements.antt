@@ -3,18 +3,30 @@ use Rattle.little.specs.Words.{ℕ, _≡_, true, false, _⊎_, List, length, se
 use Rattle.answer.specs.declared.{Answer.Answer, Answer.the-variants.Done, Answer.the-variants.Refused, Why.the-variants.Invalid}
 use Rattle.little.specs.Bytes.{Bytes}
 use Rattle.state.specs.{declared.State.State, State.zeroState, State.validOf, Sound.Sound}
-use Rattle.saved.specs.Record.{recordLength, recordOf, saveAnswer, saveBytes, SaveMeets, stateAt, isRecord, restoredOf, LoadMeets}
+use Rattle.saved.specs.Record.{recordLength, oldLength, recordOf, oldRecordOf, marksByte, saveAnswer, saveBytes, SaveMeets}
+use Rattle.saved.specs.Record.{oldSaveAnswer, oldSaveBytes, OldSaveMeets, stateAt, isRecordOf, isRecord, isOldRecord}
+use Rattle.saved.specs.Record.{restoredFrom, restoredOf, oldRestoredOf, LoadMeets, OldLoadMeets}
 use Rattle.saved.specs.declared.Restored.{Restored}
 
--- a saved state reads back as itself
+-- a saved state reads back as itself; in the old form, one with no marks
 abbrev pub SavedReadsBack : Type 0
-SavedReadsBack = (s : State) → Sound s → validOf s ≡ true → restoredOf (recordOf s) ≡ record { answer = Done; state = s }
+SavedReadsBack =
+    (s : State) → Sound s → validOf s ≡ true →
+    (restoredOf (recordOf s) ≡ record { answer = Done; state = s })
+    × (marksByte s ≡ 0 → oldRestoredOf (oldRecordOf s) ≡ record { answer = Done; state = s })
 
 -- the good records are those of valid states, and no others: each is written again as itself
 abbrev pub RecordsAreOfStates : Type 0
 RecordsAreOfStates =
     ((s : State) → Sound s → validOf s ≡ true → isRecord (recordOf s) ≡ true)
     × ((l : List ℕ) → Bytes l → isRecord l ≡ true → (validOf (stateAt l) ≡ true) × (recordOf (stateAt l) ≡ l))
+
+-- the good old records are those of valid states with no marks, and no others
+abbrev pub OldRecordsAreOfStates : Type 0
+OldRecordsAreOfStates =
+    ((s : State) → Sound s → validOf s ≡ true → marksByte s ≡ 0 → isOldRecord (oldRecordOf s) ≡ true)
+    × ((l : List ℕ) → Bytes l → isOldRecord l ≡ true →
+    (validOf (stateAt l) ≡ true) × (marksByte (stateAt l) ≡ 0) × (oldRecordOf (stateAt l) ≡ l))
 
 -- the record of the all-zero state has no bit but the two ones of SR
 abbrev pub ZeroRecord : Type 0
@@ -27,12 +39,23 @@ Saves =
     ((validOf s ≡ true) → (length b ≡ recordLength) → (saveAnswer s (length b) ≡ Done) × (saveBytes s b ≡ recordOf s))
     × (((validOf s ≡ false) ⊎ (length b ≡ recordLength → ⊥)) → (saveAnswer s (length b) ≡ Refused Invalid) × (saveBytes s b ≡ b))
 
--- what is no good record is 2, and gives the all-zero state
+-- in the old form the same, and a marked state is 2 and leaves the buffer
+abbrev pub OldSaves : Type 0
+OldSaves =
+    (s : State) (b : List ℕ) →
+    ((validOf s ≡ true) → (marksByte s ≡ 0) → (length b ≡ oldLength) →
+    (oldSaveAnswer s (length b) ≡ Done) × (oldSaveBytes s b ≡ oldRecordOf s))
+    × ((validOf s ≡ false) ⊎ ((marksByte s ≡ 0 → ⊥) ⊎ (length b ≡ oldLength → ⊥)) →
+    (oldSaveAnswer s (length b) ≡ Refused Invalid) × (oldSaveBytes s b ≡ b))
+
+-- what is no good record, of either length, is 2, and gives the all-zero state
 abbrev pub BadRecords : Type 0
-BadRecords = (l : List ℕ) → isRecord l ≡ false → restoredOf l ≡ record { answer = Refused Invalid; state = zeroState }
+BadRecords = (n : ℕ) (l : List ℕ) → isRecordOf n l ≡ false → restoredFrom n l ≡ record { answer = Refused Invalid; state = zeroState }
 
 -- two outcomes of a save, or of a load, that meet what it promises are the same
 abbrev pub Settled : Type 0
 Settled =
     ((s : State) (b c d : List ℕ) (a e : Answer) → SaveMeets s b a c → SaveMeets s b e d → (a ≡ e) × (c ≡ d))
+    × ((s : State) (b c d : List ℕ) (a e : Answer) → OldSaveMeets s b a c → OldSaveMeets s b e d → (a ≡ e) × (c ≡ d))
     × ((l : List ℕ) (r q : Restored) → LoadMeets l r → LoadMeets l q → r ≡ q)
+    × ((l : List ℕ) (r q : Restored) → OldLoadMeets l r → OldLoadMeets l q → r ≡ q)

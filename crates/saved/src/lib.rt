@@ -1,10 +1,11 @@
 // A state as a record of bytes.
 ghost use mathlib.Core.Path.{_≡_};
 ghost use mathlib.Core.List.{_++_};
-ghost use lib.ListN.{length, take, drop};
+ghost use lib.ListN.{length, getD, take, drop};
 ghost use Prim.Native.Nat.{_+_, _≤_};
 ghost use Rattle.little.specs.Bytes.{valueOf, bytesFrom};
-ghost use Rattle.saved.specs.Record.{recordLength, longsBytes, longsAt, SaveMeets, stateAt, fixedAt, LoadMeets, refusedRecord};
+ghost use Rattle.saved.specs.Record.{oldLength, longsBytes, oldRecordOf, marksByte, SaveMeets, OldSaveMeets};
+ghost use Rattle.saved.specs.Record.{longsAt, stateAt, zeroAt, fixedAt, refusedRecord, restoredFrom, LoadMeets, OldLoadMeets};
 use answer::Answer;
 use answer::Why;
 use state::State;
@@ -21,7 +22,10 @@ pub struct Restored {
 }
 
 // How many bytes a record has.
-const LENGTH: usize = 88;
+const LENGTH: usize = 92;
+
+// The same of the old record, which is the front of the new one and has no marks.
+const OLD_LENGTH: usize = 88;
 
 // Writes a number of n bytes from a place on; what stands before it stays.
 fn write_at(out: &mut [u8], at: usize, n: usize, v: u32)
@@ -43,7 +47,7 @@ fn read_at(bytes: &[u8], at: usize, n: usize) -> u32
 
 // The twenty registers, at the front of a record.
 fn save_longs(s: State, out: &mut [u8])
-    requires { ⌜ length (now out) ≡ recordLength ⌝ }
+    requires { ⌜ oldLength ≤ length (now out) ⌝ }
     ensures { λ _. ⌜ take 80 (now (out .exit)) ≡ longsBytes (s .registers) ⌝ }
 {
     let mut i: usize = 0;
@@ -53,18 +57,51 @@ fn save_longs(s: State, out: &mut [u8])
     }
 }
 
+// The front of a record, which is all that an old one has: of F' the low byte goes here, without its marks.
+fn save_front(s: State, out: &mut [u8])
+    requires { ⌜ oldLength ≤ length (now out) ⌝ }
+    ensures { λ _. ⌜ take oldLength (now (out .exit)) ≡ oldRecordOf s ⌝ }
+{
+    save_longs(s, out);
+    write_at(out, 80, 4, s.counter);
+    write_at(out, 84, 2, sr(s));
+    write_at(out, 86, 1, s.spare as u32);
+    write_at(out, 87, 1, 0);
+}
+
+// The marks of F and above them those of F': a byte, where the state is valid.
+fn marks_byte(s: State) -> u32
+    ensures { λ r. ⌜ r ≡ marksByte s ⌝ }
+{
+    (s.flags / 256) as u32 + 4 * ((s.spare / 256) as u32)
+}
+
 // Saves a valid state into a buffer of a record's length; any other state or buffer is refused, and the buffer stays.
 pub fn save(s: State, out: &mut [u8]) -> Answer
     ensures { λ r. ⌜ SaveMeets s (now (out .entry)) r (now (out .exit)) ⌝ }
 {
     if s.valid() {
         if out.len() == LENGTH {
-            save_longs(s, out);
-            write_at(out, 80, 4, s.counter);
-            write_at(out, 84, 2, sr(s));
-            write_at(out, 86, 1, s.spare as u32);
-            write_at(out, 87, 1, 0);
+            save_front(s, out);
+            write_at(out, 88, 2, 0);
+            write_at(out, 90, 1, marks_byte(s));
+            write_at(out, 91, 1, 0);
             return Answer::Done;
+        }
+    }
+    Answer::Refused(Why::Invalid)
+}
+
+// The same in the old form: a state with a mark is refused too, since there is no room for it.
+pub fn save_old(s: State, out: &mut [u8]) -> Answer
+    ensures { λ r. ⌜ OldSaveMeets s (now (out .entry)) r (now (out .exit)) ⌝ }
+{
+    if s.valid() {
+        if marks_byte(s) == 0 {
+            if out.len() == OLD_LENGTH {
+                save_front(s, out);
+                return Answer::Done;
+            }
         }
     }
     Answer::Refused(Why::Invalid)
@@ -83,33 +120,46 @@ fn longs(bytes: &[u8]) -> [u32; 20]
     registers
 }
 
+// The byte at an index; 0 past the end, so that an old record reads as one with no marks.
+fn byte_at(bytes: &[u8], i: usize) -> u8
+    ensures { λ r. ⌜ r ≡ getD (now (bytes .entry)) i 0 ⌝ }
+{
+    if i < bytes.len() { bytes[i] } else { 0 }
+}
+
 fn state_at(bytes: &[u8]) -> State
-    requires { ⌜ length (now bytes) ≡ recordLength ⌝ }
+    requires { ⌜ oldLength ≤ length (now bytes) ⌝ }
     ensures { λ r. ⌜ r ≡ stateAt (now (bytes .entry)) ⌝ }
 {
     let registers = longs(bytes);
     let counter = read_at(bytes, 80, 4);
     let sr = read_at(bytes, 84, 2);
-    let spare = bytes[86];
+    let marks = byte_at(bytes, 90) as u16;
+    let flags = flags_in(sr) as u16 + 256 * (marks % 4);
+    let spare = byte_at(bytes, 86) as u16 + 256 * (marks / 4);
     State {
         registers: registers,
         counter: counter,
         bank: bank_in(sr),
         level: level_in(sr),
-        flags: flags_in(sr),
+        flags: flags,
         spare: spare,
     }
 }
 
+fn zero_at(bytes: &[u8], i: usize) -> bool
+    ensures { λ r. ⌜ r ≡ zeroAt i (now (bytes .entry)) ⌝ }
+{
+    byte_at(bytes, i) == 0
+}
+
 // Whether the bits that every record has the same are there.
 fn fixed_at(bytes: &[u8]) -> bool
-    requires { ⌜ length (now bytes) ≡ recordLength ⌝ }
+    requires { ⌜ oldLength ≤ length (now bytes) ⌝ }
     ensures { λ r. ⌜ r ≡ fixedAt (now (bytes .entry)) ⌝ }
 {
-    if ones_in(read_at(bytes, 84, 2)) {
-        return bytes[87] == 0;
-    }
-    false
+    let ones = ones_in(read_at(bytes, 84, 2));
+    ones & (zero_at(bytes, 87) & (zero_at(bytes, 88) & (zero_at(bytes, 89) & zero_at(bytes, 91))))
 }
 
 fn refuse() -> Restored
@@ -121,22 +171,34 @@ fn refuse() -> Restored
     }
 }
 
+// Loading in both forms, which differ in the length alone.
+fn load_of(bytes: &[u8], n: usize) -> Restored
+    requires { ⌜ oldLength ≤ n ⌝ }
+    ensures { λ r. ⌜ r ≡ restoredFrom n (now (bytes .entry)) ⌝ }
+{
+    if bytes.len() != n {
+        return refuse();
+    }
+    let s = state_at(bytes);
+    if s.valid() & fixed_at(bytes) {
+        return Restored {
+            answer: Answer::Done,
+            state: s,
+        };
+    }
+    refuse()
+}
+
 // The state of a record; where the record breaks its rules, the refusal and the all-zero state.
 pub fn load(bytes: &[u8]) -> Restored
     ensures { λ r. ⌜ LoadMeets (now (bytes .entry)) r ⌝ }
 {
-    if bytes.len() != LENGTH {
-        return refuse();
-    }
-    let s = state_at(bytes);
-    if s.valid() {
-        if fixed_at(bytes) {
-            return Restored {
-                answer: Answer::Done,
-                state: s,
-            };
-        }
-        return refuse();
-    }
-    refuse()
+    load_of(bytes, LENGTH)
+}
+
+// The same of an old record: its state has no marks.
+pub fn load_old(bytes: &[u8]) -> Restored
+    ensures { λ r. ⌜ OldLoadMeets (now (bytes .entry)) r ⌝ }
+{
+    load_of(bytes, OLD_LENGTH)
 }

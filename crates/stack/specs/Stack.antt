@@ -1,12 +1,12 @@
 -- Pushes, pops, calls and returns.
-use Rattle.little.specs.Words.{ℕ, _%_, _^_, List}
+use Rattle.little.specs.Words.{ℕ, _%_, _^_, List, cond}
 use Rattle.little.specs.{declared.Size.Size, declared.Size.the-variants.Byte, declared.Size.the-variants.Long, Width.bytesOf}
-use Rattle.flags.specs.Flag.{byteOf, flagsOf}
+use Rattle.flags.specs.Flag.{byteOf, flagsOf, anyMarked}
 use Rattle.memory.specs.Access.{loadOf}
 use Rattle.state.specs.{declared.State.State, State.withCounter, State.withFlags, Register.getRegister, Register.setRegister}
-use Rattle.operand.specs.{Try.Try, Try.did, Try.andThen, Try.withLoaded, Operand.displaced, Operand.pointerOf, Operand.storing, Flag.flagsIn}
+use Rattle.operand.specs.{Try.Try, Try.did, Try.no, Try.andThen, Try.withLoaded, Operand.displaced, Operand.pointerOf, Operand.storing, Flag.flagsIn}
 use Rattle.operand.specs.{Round.less, Round.plus}
-use Rattle.answer.specs.declared.{Answer.Answer, Answer.the-variants.Done, Answer.the-variants.Refused}
+use Rattle.answer.specs.declared.{Answer.Answer, Answer.the-variants.Done, Answer.the-variants.Refused, Why.the-variants.Undefined}
 use Rattle.code.specs.{declared.Operand.Operand, declared.Stack.Stack, Written.constantIn, Written.registerIn}
 use Rattle.code.specs.declared.Stack.the-variants.{PushF, PopF, Push, Pop, Call16, Call24, Calr, Ret}
 
@@ -19,6 +19,10 @@ unfoldable pub pushOf : State → List ℕ → List ℕ → Size → ℕ → Try
 pushOf s ram rom z v =
     let x = less 32 (getRegister s Long 7) (bytesOf z) in
     storing (withStack s x) ram rom (x % 2 ^ 24) z v
+
+-- PUSH F: 8 where a flag of F is marked, before the store is looked at
+unfoldable pub pushFOf : State → List ℕ → List ℕ → Try
+pushFOf s ram rom = cond (anyMarked (flagsIn s)) (no Undefined) (pushOf s ram rom Byte (byteOf (flagsIn s)))
 
 -- pop the other way: load, then XSP plus the size; what is done with the value is the rest
 unfoldable pub popOf : State → List ℕ → List ℕ → Size → (State → ℕ → State) → Try
@@ -35,9 +39,10 @@ abbrev pub endAfter : Answer → State → ℕ → State
 endAfter Done s x = withStack s x
 endAfter (Refused w) s x = s
 
--- what each does, of a size and with its operand; the state is past the instruction. POP F writes bits 5 and 3 as 0, RET keeps 24 bits
+-- what each does, of a size and with its operand; the state is past the instruction. POP F writes bits 5 and 3 as 0 and leaves no mark,
+-- RET keeps 24 bits
 unfoldable pub stackOf : Stack → Size → Operand → State → List ℕ → List ℕ → Try
-stackOf PushF z o s ram rom = pushOf s ram rom Byte (byteOf (flagsIn s))
+stackOf PushF z o s ram rom = pushFOf s ram rom
 stackOf PopF z o s ram rom = popOf s ram rom Byte (λ t v. withFlags t (byteOf (flagsOf v)))
 stackOf Push z o s ram rom = pushOf s ram rom z (getRegister s z (registerIn o))
 stackOf Pop z o s ram rom = popOf s ram rom z (λ t v. setRegister t z (registerIn o) v)

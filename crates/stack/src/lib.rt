@@ -9,7 +9,7 @@ ghost use Rattle.state.specs.inner.Lent.{bankedWith, bankedAt, bankedAtWith};
 ghost use Rattle.state.specs.Register.{registerAt, setRegister};
 ghost use Rattle.operand.specs.inner.Does.{Does};
 ghost use Rattle.operand.specs.Round.{plus};
-ghost use Rattle.stack.specs.Stack.{withStack, pushOf, popOf, callOf, endAfter, stackOf};
+ghost use Rattle.stack.specs.Stack.{withStack, pushOf, pushFOf, popOf, callOf, endAfter, stackOf};
 use answer::Answer;
 use answer::Why;
 use code::Operand;
@@ -109,16 +109,29 @@ fn ret(bank: Bank, regs: &mut [u32; 20], counter: &mut u32, ram: &[u8], rom: &[u
     }
 }
 
-fn pop_f(bank: Bank, regs: &mut [u32; 20], flags: &mut u8, ram: &[u8], rom: &[u8]) -> Answer
+// A push of F: where one of its flags is marked it is refused, before the store is looked at.
+fn push_f(bank: Bank, regs: &mut [u32; 20], flags: u16, ram: &mut [u8], rom: &[u8]) -> Answer
+    ensures { λ a. ⌜ ((s : State) → Does (λ t m. pushFOf t m (now (rom .entry)))
+        (bankedWith s (now (regs .entry)) bank flags) (now (ram .entry))
+        a (bankedWith s (now (regs .exit)) bank flags) (now (ram .exit))) ⌝ }
+{
+    let f = flags::unpack(flags);
+    if flags::any_marked(f) {
+        return Answer::Refused(Why::Undefined);
+    }
+    push(bank, regs, ram, rom, Size::Byte, flags::byte(f) as u32)
+}
+
+fn pop_f(bank: Bank, regs: &mut [u32; 20], flags: &mut u16, ram: &[u8], rom: &[u8]) -> Answer
     ensures { λ a. ⌜ ((s : State) → Does (λ t m. popOf t m (now (rom .entry)) Byte (λ u v. withFlags u (byteOf (flagsOf v))))
         (bankedWith s (now (regs .entry)) bank (now (flags .entry))) (now (ram .entry))
         a (bankedWith s (now (regs .exit)) bank (now (flags .exit))) (now (ram .entry))) ⌝ }
 {
     match memory::load(ram, rom, pointer(bank, &*regs, 7), Size::Byte) {
         Loaded::Value(v) => {
-            let f = (v % 256) as u8;
+            let f = (v % 256) as u16;
             popped(bank, regs, Size::Byte);
-            *flags = flags::pack(flags::unpack(f));
+            *flags = flags::byte(flags::unpack(f)) as u16;
             Answer::Done
         }
         Loaded::Missing(a) => Answer::Refused(Why::Missing(a)),
@@ -130,7 +143,7 @@ pub fn stack(
     size: Size,
     operand: Operand,
     bank: Bank,
-    flags: &mut u8,
+    flags: &mut u16,
     regs: &mut [u32; 20],
     counter: &mut u32,
     ram: &mut [u8],
@@ -141,10 +154,7 @@ pub fn stack(
         a (bankedAtWith s (now (regs .exit)) bank (now (counter .exit)) (now (flags .exit))) (now (ram .exit))) ⌝ }
 {
     match what {
-        Stack::PushF => {
-            let f = flags::pack(flags::unpack(*flags));
-            push(bank, regs, ram, rom, Size::Byte, f as u32)
-        }
+        Stack::PushF => push_f(bank, regs, *flags, ram, rom),
         Stack::PopF => pop_f(bank, regs, flags, &*ram, rom),
         Stack::Push => {
             let v = state::read(&*regs, bank, size, register_in(operand));

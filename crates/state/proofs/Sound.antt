@@ -41,7 +41,7 @@ sound s p =
 -- a sound state with parts laid over it that fit
 pub sound-lent :
     (s : State) (registers : List ℕ) (counter bank flags spare : ℕ) → Sound s → length registers ≡ 20 → ((i : ℕ) → getD registers i 0 < 2 ^ 32)
-    → counter < 2 ^ 32 → bank < 2 ^ 8 → flags < 2 ^ 8 → spare < 2 ^ 8 → Sound (lent s registers counter bank flags spare)
+    → counter < 2 ^ 32 → bank < 2 ^ 8 → flags < 2 ^ 16 → spare < 2 ^ 16 → Sound (lent s registers counter bank flags spare)
 sound-lent s registers counter bank flags spare ok t r c b f g =
     record { twenty = t; fit = r; counter-fit = c; bank-fit = b; level-fit = ok .level-fit; flags-fit = f; spare-fit = g }
 
@@ -72,7 +72,7 @@ soundTest s =
     && (ltb (s .counter) (2 ^ 32)
     && (ltb (s .bank .0) (2 ^ 8)
     && (ltb (s .level .0) (2 ^ 8)
-    && (ltb (s .flags) (2 ^ 8) && ltb (s .spare) (2 ^ 8))))))
+    && (ltb (s .flags) (2 ^ 16) && ltb (s .spare) (2 ^ 16))))))
 
 pub sound-by : (s : State) → T (soundTest s) → Sound s
 sound-by s t =
@@ -87,6 +87,6 @@ sound-by s t =
       counter-fit = ltb→lt _ _ (and-left (ltb (s .counter) (2 ^ 32)) _ b);
       bank-fit = ltb→lt _ _ (and-left (ltb (s .bank .0) (2 ^ 8)) _ c);
       level-fit = ltb→lt _ _ (and-left (ltb (s .level .0) (2 ^ 8)) _ d);
-      flags-fit = ltb→lt _ _ (and-left (ltb (s .flags) (2 ^ 8)) _ e);
-      spare-fit = ltb→lt _ _ (and-right (ltb (s .flags) (2 ^ 8)) _ e);
+      flags-fit = ltb→lt _ _ (and-left (ltb (s .flags) (2 ^ 16)) _ e);
+      spare-fit = ltb→lt _ _ (and-right (ltb (s .flags) (2 ^ 16)) _ e);
     }

@@ -8,28 +8,28 @@ use lib.Dec.{eqb}
 use lib.Pow.{shr-shr}
 use borrow.Author.Tests.{eq-eqb, eqb-true}
 use Rattle.state.specs.declared.State.{State}
-use Rattle.state.specs.Sound.{Sound}
+use Rattle.state.specs.State.{fOf}
 use Rattle.state.specs.Sr.{srOf, fIn, bankIn, levelIn, onesIn}
 use Rattle.state.proofs.Valid.{Valid, and-true}
 
 -- ---- made, then read
-module _ (s : State) (ok : Sound s) (v : Valid s) where
+module _ (s : State) (v : Valid s) where
   pub sr-lt : srOf s < 2 ^ 16
-  sr-lt = omega (arith, ok .flags-fit, v .bank, v .level)
+  sr-lt = omega (arith, v .bank, v .level)
 
-  pub sr-back : (bankIn (srOf s) ≡ s .bank) × (levelIn (srOf s) ≡ s .level) × (fIn (srOf s) ≡ s .flags)
+  pub sr-back : (bankIn (srOf s) ≡ s .bank) × (levelIn (srOf s) ≡ s .level) × (fIn (srOf s) ≡ fOf (s .flags))
   sr-back =
-      let b : srOf s / 0x100 ≡ s .bank .0 + 8 * (17 + 2 * s .level .0) = omega (arith, ok .flags-fit) in
-      let l : srOf s / 0x1000 ≡ s .level .0 + 8 = omega (arith, ok .flags-fit, v .bank) in
+      let b : srOf s / 0x100 ≡ s .bank .0 + 8 * (17 + 2 * s .level .0) = omega arith in
+      let l : srOf s / 0x1000 ≡ s .level .0 + 8 = omega (arith, v .bank) in
       let bank : srOf s / 0x100 % 8 ≡ s .bank .0 = rw b (omega (arith, v .bank)) in
       let level : srOf s / 0x1000 % 8 ≡ s .level .0 = rw l (omega (arith, v .level)) in
-      (rw bank refl, rw level refl, omega (arith, ok .flags-fit))
+      (rw bank refl, rw level refl, omega arith)
 
   pub sr-ones : onesIn (srOf s) ≡ true
   sr-ones =
-      let a1 : srOf s / 0x800 ≡ 1 + 2 * (s .level .0 + 8) = omega (arith, ok .flags-fit, v .bank) in
+      let a1 : srOf s / 0x800 ≡ 1 + 2 * (s .level .0 + 8) = omega (arith, v .bank) in
       let a : srOf s / 0x800 % 2 ≡ 1 = rw a1 (omega arith) in
-      let b1 : srOf s / 0x8000 ≡ 1 = omega (arith, ok .flags-fit, v .bank, v .level) in
+      let b1 : srOf s / 0x8000 ≡ 1 = omega (arith, v .bank, v .level) in
       let b : srOf s / 0x8000 % 2 ≡ 1 = rw b1 in
       simp (eq-eqb (srOf s / 0x800 % 2) 1 a, eq-eqb (srOf s / 0x8000 % 2) 1 b)
 

@@ -9,5 +9,5 @@ pub record Sound (s : State) : Type 0 where
   pub counter-fit : s .counter < 2 ^ 32
   pub bank-fit : s .bank .0 < 2 ^ 8
   pub level-fit : s .level .0 < 2 ^ 8
-  pub flags-fit : s .flags < 2 ^ 8
-  pub spare-fit : s .spare < 2 ^ 8
+  pub flags-fit : s .flags < 2 ^ 16
+  pub spare-fit : s .spare < 2 ^ 16

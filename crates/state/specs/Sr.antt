@@ -1,10 +1,11 @@
 -- The status register SR.
 use Rattle.little.specs.Words.{ℕ, _+_, _*_, _/_, _%_, _^_, Bool, _&&_, eqb}
 use Rattle.state.specs.declared.{Bank.Bank, Level.Level, State.State}
+use Rattle.state.specs.State.{fOf}
 
--- F below, the bank in bits 8 to 10, bit 11 one, the level in bits 12 to 14, bit 15 one
+-- F below, without its marks, the bank in bits 8 to 10, bit 11 one, the level in bits 12 to 14, bit 15 one
 abbrev pub srOf : State → ℕ
-srOf s = s .flags + 2 ^ 8 * s .bank .0 + 2 ^ 11 + 2 ^ 12 * s .level .0 + 2 ^ 15
+srOf s = fOf (s .flags) + 2 ^ 8 * s .bank .0 + 2 ^ 11 + 2 ^ 12 * s .level .0 + 2 ^ 15
 
 -- and back
 abbrev pub fIn : ℕ → ℕ

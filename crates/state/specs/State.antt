@@ -1,23 +1,35 @@
 -- The machine's state.
-use Rattle.little.specs.Words.{ℕ, _/_, _%_, _^_, List, Bool, _&&_, getD, set, replicate, ltb, eqb}
+use Rattle.little.specs.Words.{ℕ, _/_, _%_, _^_, List, Bool, _&&_, _||_, getD, set, replicate, ltb, eqb}
 use Rattle.state.specs.declared.{Bank.Bank, State.State}
 
 -- all zero
 unfoldable pub zeroState : State
 zeroState = record { registers = replicate 20 0; counter = 0; bank = record { 0 = 0 }; level = record { 0 = 0 }; flags = 0; spare = 0 }
 
--- after reset: XSP, the last of the twenty, 100H; bank 0; level 7; other registers and both F zero;
+-- after reset: XSP, the last of the twenty, 100H; bank 0; level 7; other registers and both F zero, with no mark;
 -- the counter from the low 24 bits of the vector
 unfoldable pub resetState : ℕ → State
 resetState vector =
     let registers : List ℕ = set (replicate 20 0) 19 0x100 in
     record { registers = registers; counter = vector % 2 ^ 24; bank = record { 0 = 0 }; level = record { 0 = 7 }; flags = 0; spare = 0 }
 
--- bits 5 and 3 zero
-abbrev pub flagsValid : ℕ → Bool
-flagsValid f = eqb (f / 2 ^ 5 % 2) 0 && eqb (f / 2 ^ 3 % 2) 0
+-- A set of flags is one number: F, and above it the marks of those that nobody defined, bit 8 for H, whose own bit is 4, and bit 9
+-- for V, whose own bit is 2
+abbrev pub fOf : ℕ → ℕ
+fOf flags = flags % 2 ^ 8
 
--- counter below 2^24, bank 0 to 3, level 0 to 7, bits 5 and 3 of F and F' zero
+abbrev pub marksOf : ℕ → ℕ
+marksOf flags = flags / 2 ^ 8
+
+-- bit i is zero
+abbrev pub clear : ℕ → ℕ → Bool
+clear i x = eqb (x / 2 ^ i % 2) 0
+
+-- bits 5 and 3 zero; no mark but these two; and a marked flag's own bit zero
+abbrev pub flagsValid : ℕ → Bool
+flagsValid f = clear 5 f && (clear 3 f && (ltb f (2 ^ 10) && ((clear 8 f || clear 4 f) && (clear 9 f || clear 2 f))))
+
+-- counter below 2^24, bank 0 to 3, level 0 to 7, both sets of flags as above
 unfoldable pub validOf : State → Bool
 validOf s = ltb (s .counter) (2 ^ 24) && (ltb (s .bank .0) 4 && (ltb (s .level .0) 8 && (flagsValid (s .flags) && flagsValid (s .spare))))
 
@@ -47,11 +59,11 @@ withCounter s c = lent s (s .registers) (c % 2 ^ 24) (s .bank .0) (s .flags) (s 
 unfoldable pub withBank : State → ℕ → State
 withBank s b = banked s (s .registers) (record { 0 = b % 4 })
 
--- F and F'
+-- F and F', each with its marks
 unfoldable pub withBothFlags : State → ℕ → ℕ → State
 withBothFlags s f f' = lent s (s .registers) (s .counter) (s .bank .0) f f'
 
--- F alone
+-- F alone, with its marks
 unfoldable pub withFlags : State → ℕ → State
 unfolding withBothFlags
 withFlags s f = withBothFlags s f (s .spare)

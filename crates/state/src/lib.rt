@@ -21,9 +21,9 @@ pub struct State {
     pub counter: u32,
     pub bank: Bank,
     pub level: Level,
-    // F, and F', which waits until it is exchanged.
-    pub flags: u8,
-    pub spare: u8,
+    // F, and F', which waits until it is exchanged. Above each stand the marks of its flags that nobody defined: 256 for H, 512 for V.
+    pub flags: u16,
+    pub spare: u16,
 }
 
 // A part of a long register.
@@ -109,11 +109,13 @@ impl State {
     }
 }
 
-// Whether bits 5 and 3 are zero.
-fn flags_valid(f: u8) -> bool
+// Whether bits 5 and 3 of F are zero, no mark but H's and V's is set, and a marked flag's bit is zero.
+fn flags_valid(f: u16) -> bool
     ensures { λ r. ⌜ r ≡ flagsValid f ⌝ }
 {
-    f / 32 % 2 == 0 && f / 8 % 2 == 0
+    let h = (f / 256 % 2 == 0) | (f / 16 % 2 == 0);
+    let v = (f / 512 % 2 == 0) | (f / 4 % 2 == 0);
+    (f / 32 % 2 == 0) & ((f / 8 % 2 == 0) & ((f < 1024) & (h & v)))
 }
 
 // The bits of a part of a long register.
@@ -216,8 +218,8 @@ pub fn whole(
     registers: [u32; 20],
     counter: u32,
     bank: Bank,
-    flags: u8,
-    spare: u8,
+    flags: u16,
+    spare: u16,
 ) -> State
     ensures { λ r. ⌜ r ≡ lent s registers counter (bank .0) flags spare ⌝ }
 {

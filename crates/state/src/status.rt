@@ -10,7 +10,7 @@ pub fn sr(s: State) -> u32
 {
     let b = s.bank.0;
     let l = s.level.0;
-    s.flags as u32 + 256 * (b as u32) + 2048 + 4096 * (l as u32) + 32768
+    (s.flags % 256) as u32 + 256 * (b as u32) + 2048 + 4096 * (l as u32) + 32768
 }
 
 pub fn flags_in(sr: u32) -> u8

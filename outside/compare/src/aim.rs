@@ -3,7 +3,7 @@
 use crate::chance::Chance;
 use crate::image::Image;
 use forms::{Form, Slot};
-use second::record::{self, BANK, COUNTER, F, F_PRIME, LENGTH};
+use second::record::{self, BANK, COUNTER, F, F_PRIME, LENGTH, MARKS, ZEROS};
 use second::Width;
 
 /// The values at which arithmetic of some width turns.
@@ -144,9 +144,64 @@ pub fn record(chance: &mut Chance, layout: Layout) -> Vec<u8> {
     }
     let counter = address(chance, layout) & 0xFF_FFFF;
     put_long(&mut record, COUNTER, counter);
-    record[F] = chance.byte() & FLAGS;
     record[BANK] = 0x88 | chance.below(4) as u8 | (chance.below(8) as u8) << 4;
+    draw_flags(chance, &mut record);
+    record
+}
+
+/// Draws F and F' anew, and their marks.
+pub fn draw_flags(chance: &mut Chance, record: &mut [u8]) {
+    record[F] = chance.byte() & FLAGS;
     record[F_PRIME] = chance.byte() & FLAGS;
+    draw_marks(chance, record);
+}
+
+/// Each mark's bit in its byte, with the byte and the bit of its flag.
+const MARKED: [(u8, usize, u8); 4] = [
+    (0x01, F, 0x10),
+    (0x02, F, 0x04),
+    (0x04, F_PRIME, 0x10),
+    (0x08, F_PRIME, 0x04),
+];
+
+/// Draws marks for the flags that are 0, every other time. F and F' stay.
+pub fn draw_marks(chance: &mut Chance, record: &mut [u8]) {
+    let drawn = if chance.once_in(2) { chance.byte() } else { 0 };
+    let may_be = |&&(_, place, flag): &&(u8, usize, u8)| record[place] & flag == 0;
+    let marks = MARKED.iter().filter(may_be).map(|(mark, _, _)| mark);
+    record[MARKS] = drawn & marks.sum::<u8>();
+}
+
+/// Puts these marks; what they mark becomes 0.
+pub fn put_marks(record: &mut [u8], marks: u8) {
+    record[MARKS] = marks;
+    for (mark, place, flag) in MARKED {
+        if marks & mark != 0 {
+            record[place] &= !flag;
+        }
+    }
+}
+
+/// Breaks one of the rules on marks: a marked flag is 1, there is a mark for
+/// nothing, or a byte beside them is not zero.
+pub fn spoil(chance: &mut Chance, record: &mut [u8]) {
+    match chance.below(3) {
+        0 => {
+            let (mark, place, flag) = chance.pick(&MARKED);
+            record[MARKS] |= mark;
+            record[place] |= flag;
+        }
+        1 => record[MARKS] |= 0x10 << chance.below(4),
+        _ => record[chance.pick(&ZEROS)] = 1 + chance.below(255) as u8,
+    }
+}
+
+/// The record of a valid state; now and then one that is nearly one.
+pub fn any_record(chance: &mut Chance, layout: Layout) -> Vec<u8> {
+    let mut record = record(chance, layout);
+    if chance.once_in(50) {
+        spoil(chance, &mut record);
+    }
     record
 }
 
@@ -167,6 +222,12 @@ pub fn place_of_long(record: &[u8], code: u8) -> usize {
 /// Sets the long register of this code, in the current bank.
 pub fn set_long(record: &mut [u8], code: u8, value: u32) {
     put_long(record, place_of_long(record, code), value);
+}
+
+/// Sets the word register of this code, in the current bank.
+pub fn set_word(record: &mut [u8], code: u8, value: u16) {
+    let place = record::register(Width::Word, code, record[BANK] & 3);
+    record[place].copy_from_slice(&value.to_le_bytes());
 }
 
 /// Noise that a case can name.

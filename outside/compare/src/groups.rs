@@ -6,6 +6,7 @@ mod codes;
 mod ends;
 mod examples;
 mod flow;
+mod marks;
 mod memories;
 mod misuse;
 mod records;
@@ -49,6 +50,10 @@ pub const GROUPS: &[Group] = &[
     Group("without-ram", straddles::no_ram),
     Group("without-rom", straddles::no_rom),
     Group("without-any-memory", straddles::no_memory),
+    Group("marks-and-jumps", marks::jumps),
+    Group("marks-and-push-f", marks::pushes),
+    Group("marks-exchanged", marks::exchanges),
+    Group("marks-in-runs", marks::runs),
     Group("block-rounds", blocks::rounds),
     Group("overlapping-copies", blocks::overlapping_copies),
     Group("repeats-by-hand", blocks::repeats_by_hand),

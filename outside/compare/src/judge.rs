@@ -4,7 +4,7 @@ use crate::case::{Call, Case};
 use crate::image::hex;
 use crate::reference;
 use library::{Empty, Library};
-use second::record::{self, BANK, BANK_SIZE, COUNTER, F, F_PRIME, LONGS, SHARED, SR};
+use second::record::{self, BANK, BANK_SIZE, COUNTER, F, F_PRIME, LONGS, MARKS, SHARED, SR};
 use second::Width;
 
 /// Bytes on each side of what is lent to the library, which it must not
@@ -89,7 +89,7 @@ pub struct Tally {
     /// Steps that the library did, by either call.
     pub done: u64,
     /// How often each number was answered.
-    pub met: [u64; 8],
+    pub met: [u64; 9],
 }
 
 impl Tally {
@@ -330,6 +330,7 @@ fn field(place: usize) -> String {
         F => "F".to_string(),
         BANK => "bank and level".to_string(),
         F_PRIME => "F'".to_string(),
+        MARKS => "marks".to_string(),
         _ if place < COUNTER => register_at(place),
         _ if place < SR => format!("byte {} of the counter", place - COUNTER),
         _ => format!("byte {place} of the record"),

@@ -106,7 +106,7 @@ fn compare(wish: &Wish) -> bool {
         "compare: {} steps done by the library; {} single steps, {} runs and {} other calls compared",
         all.done, all.single, all.runs, all.others
     );
-    println!("compare: numbers 0 to 7 answered {:?} times", all.met);
+    println!("compare: numbers 0 to 8 answered {:?} times", all.met);
     if wish.group.is_none() {
         let enough = enough(&all);
         passed += usize::from(enough);

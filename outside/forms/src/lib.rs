@@ -7,6 +7,8 @@
 
 #![forbid(unsafe_code)]
 
+pub mod marks;
+
 /// One line for each form, in hex: bytes or ranges of bytes; `n` for a byte of
 /// a constant, `a` of an address, `d` of a displacement. Where forms differ
 /// only in what they do they may share a line; the comparison draws equally
@@ -105,6 +107,58 @@ impl Slot {
 pub struct Form {
     pub name: &'static str,
     pub slots: Vec<Slot>,
+}
+
+/// Forms in which every byte of the first place, or of the second, is another
+/// instruction; elsewhere its lowest three bits name a register or a number.
+const WHOLE_FIRST: [&str; 3] = ["RCF SCF CCF ZCF", "JR cc,d8", "JRL cc,d16"];
+const WHOLE_SECOND: [&str; 6] = [
+    "ADD to CP r,n8",
+    "ADD to CP r,n16",
+    "ADD to CP r,n32",
+    "SLA SRA SLL SRL n,r",
+    "LDI LDIR LDD LDDR",
+    "CPI CPIR CPD CPDR",
+];
+
+impl Form {
+    /// The form taken apart: each part does one thing in one size, whatever
+    /// registers and numbers it names.
+    pub fn kinds(&self) -> Vec<Form> {
+        let mut kinds = vec![self.clone()];
+        for place in 0..self.slots.len() {
+            kinds = kinds.iter().flat_map(|kind| kind.apart(place)).collect();
+        }
+        kinds
+    }
+
+    /// What tells the bytes of a place apart. The high half of the first byte
+    /// has the size.
+    fn telling(&self, place: usize) -> u8 {
+        match place {
+            0 if WHOLE_FIRST.contains(&self.name) => 0xFF,
+            0 => 0xF0,
+            1 if WHOLE_SECOND.contains(&self.name) => 0xFF,
+            _ => 0xF8,
+        }
+    }
+
+    fn apart(&self, place: usize) -> Vec<Form> {
+        let Slot::One(bytes) = &self.slots[place] else {
+            return vec![self.clone()];
+        };
+        let telling = self.telling(place);
+        let mut told: Vec<u8> = bytes.iter().map(|byte| byte & telling).collect();
+        told.dedup();
+        told.into_iter()
+            .map(|one| {
+                let mut part = self.clone();
+                let ones = bytes.iter().filter(|&byte| byte & telling == one);
+                part.slots[place] = Slot::One(ones.copied().collect());
+                part
+            })
+            .collect()
+    }
 }
 
 /// Every listed form.

@@ -58,7 +58,7 @@ pub(crate) fn add(width: Width, left: u32, right: u32, carry: bool) -> (u32, Fla
     let result = width.round(unsigned);
     let flags = Flags {
         h: half(width, nibbles),
-        v: !width.holds_signed(signed),
+        v: Some(!width.holds_signed(signed)),
         n: false,
         c: !width.holds_unsigned(unsigned),
         ..of_result(width, result)
@@ -75,7 +75,7 @@ pub(crate) fn subtract(width: Width, left: u32, right: u32, borrow: bool) -> (u3
     let result = width.round(unsigned);
     let flags = Flags {
         h: half(width, nibbles),
-        v: !width.holds_signed(signed),
+        v: Some(!width.holds_signed(signed)),
         n: true,
         c: !width.holds_unsigned(unsigned),
         ..of_result(width, result)
@@ -86,7 +86,7 @@ pub(crate) fn subtract(width: Width, left: u32, right: u32, borrow: bool) -> (u3
 /// The flags of AND, OR and XOR, which differ in H alone.
 fn logical(width: Width, result: u32, h: bool) -> (u32, Flags) {
     let flags = Flags {
-        h,
+        h: Some(h),
         v: parity(width, result),
         ..of_result(width, result)
     };
@@ -142,20 +142,31 @@ fn of_result(width: Width, result: u32) -> Flags {
     Flags {
         s: width.signed(result) < 0,
         z: result == 0,
-        ..Flags::default()
+        h: Some(false),
+        v: Some(false),
+        n: false,
+        c: false,
     }
 }
 
 /// Whether the lowest four bits carried or borrowed. The book leaves this
-/// undefined for longs, where 0 is written.
-fn half(width: Width, nibbles: i64) -> bool {
-    width != Width::Long && !(0..16).contains(&nibbles)
+/// undefined for longs.
+fn half(width: Width, nibbles: i64) -> Option<bool> {
+    defined(width, !(0..16).contains(&nibbles))
 }
 
 /// Whether the number of ones is even. The book leaves this undefined for
-/// longs, where 0 is written.
-fn parity(width: Width, result: u32) -> bool {
-    width != Width::Long && result.count_ones() & 1 == 0
+/// longs.
+fn parity(width: Width, result: u32) -> Option<bool> {
+    defined(width, result.count_ones() & 1 == 0)
+}
+
+/// A flag that only bytes and words have.
+fn defined(width: Width, flag: bool) -> Option<bool> {
+    match width {
+        Width::Byte | Width::Word => Some(flag),
+        Width::Long => None,
+    }
 }
 
 #[cfg(test)]
@@ -198,16 +209,19 @@ mod tests {
         let flags = Flags {
             s: bit(result, top - 1),
             z: result == 0,
-            h: width != Width::Long && carries[4] != less,
-            v: carries[top] != carries[top - 1],
+            h: (top < 32).then_some(carries[4] != less),
+            v: Some(carries[top] != carries[top - 1]),
             n: less,
             c: carries[top] != less,
         };
         (result, flags)
     }
 
-    fn even_ones(width: Width, value: u32) -> bool {
-        (0..bits(width)).fold(true, |even, place| even != bit(value, place))
+    /// V as parity: nothing for longs, by the flag lines of 000.
+    fn even_ones(width: Width, value: u32) -> Option<bool> {
+        let places = 0..bits(width);
+        let even = places.fold(true, |even, place| even != bit(value, place));
+        (bits(width) < 32).then_some(even)
     }
 
     fn check_sums(width: Width, left: u32, right: u32) {
@@ -285,8 +299,8 @@ mod tests {
                         let flags = Flags {
                             s: bit(result, bits(width) - 1),
                             z: result == 0,
-                            h,
-                            v: width != Width::Long && even_ones(width, result),
+                            h: Some(h),
+                            v: even_ones(width, result),
                             n: false,
                             c: false,
                         };
@@ -333,8 +347,8 @@ mod tests {
                         let flags = Flags {
                             s: bit(result, bits(width) - 1),
                             z: result == 0,
-                            h: false,
-                            v: width != Width::Long && even_ones(width, result),
+                            h: Some(false),
+                            v: even_ones(width, result),
                             n: false,
                             c: out,
                         };

@@ -1,27 +1,31 @@
 //! Worked examples as data: the books' execution examples ([`book`]), the
 //! cases P1 to P12 of document 01 ([`cases`]), and more of our own, worked by
 //! hand from document 01 and the requests that have landed, for the codes that
-//! those leave out ([`hand`]). They stand in three tables of plain text, to be
-//! held beside the books.
+//! those leave out ([`hand`]); those for the marks of K6 have a table to
+//! themselves ([`marks`]). They stand in four tables of plain text, to be held
+//! beside the books.
 //!
 //! They are public so that any implementation that speaks in records and
 //! memories can be run over them: [`Example::start`] gives what to begin
 //! with, [`Example::end`] all that must be found after [`Example::steps`]
-//! steps, each of them done. An example names everything that changes, so
-//! both are complete, byte for byte.
+//! steps. Each of these is done, but for the last where the example says that
+//! it is refused ([`Example::refused`]). An example names everything that
+//! changes, so both are complete, byte for byte.
 //!
 //! What an example does not give is zero. RAM has its full 65,536 bytes and
-//! holds the code at [`Example::at`]; ROM is empty. Addresses that the book
-//! puts beyond RAM are cut to 16 bits. F after an execution example is worked
-//! out by hand from the flag lines of the same page, where the example itself
-//! does not state it; the counter likewise is the address after the code.
+//! holds the code at [`Example::at`]; ROM is empty, or of zeros where an example
+//! gives it a length. Addresses that the book puts beyond RAM are cut to 16
+//! bits. F after an execution example is worked out by hand from the flag lines
+//! of the same page, where the example itself does not state it; the counter
+//! likewise is the address after the code.
 //!
 //! Nothing here uses the interpreter; where things stand in a record
 //! ([`crate::record`]) is all that they share.
 
 mod table;
 
-use crate::record::{self, BANK, COUNTER, F, F_PRIME, LENGTH, SR};
+use crate::flags::Marks;
+use crate::record::{self, BANK, COUNTER, F, F_PRIME, LENGTH, MARKS, SR};
 
 /// The books' execution examples.
 pub fn book() -> Vec<Example> {
@@ -38,9 +42,15 @@ pub fn hand() -> Vec<Example> {
     table::read("hand.txt", include_str!("examples/hand.txt"))
 }
 
-/// Every example: the books', then the cases, then those worked by hand.
+/// Examples for the marks of K6, worked by hand.
+pub fn marks() -> Vec<Example> {
+    table::read("marks.txt", include_str!("examples/marks.txt"))
+}
+
+/// Every example: the books', then the cases, then those worked by hand, the
+/// marks last.
 pub fn all() -> Vec<Example> {
-    [book(), cases(), hand()].concat()
+    [book(), cases(), hand(), marks()].concat()
 }
 
 /// One thing that a state or RAM holds.
@@ -52,12 +62,27 @@ pub enum Part {
     F(u8),
     /// The whole flag register F'.
     SpareF(u8),
+    /// Both marks of F.
+    Marks(Marks),
+    /// Both marks of F'.
+    SpareMarks(Marks),
     /// The current bank's number.
     Bank(u8),
     /// The program counter.
     Counter(u32),
     /// The byte of RAM at an address.
     Memory(u16, u8),
+    /// How many zero bytes ROM has.
+    Rom(u16),
+}
+
+/// How a refused step ends.
+#[derive(Clone, Copy, Debug, PartialEq, Eq)]
+pub struct Refused {
+    /// Its number.
+    pub number: u8,
+    /// The address that goes with it, or 0.
+    pub at: u32,
 }
 
 /// A worked example.
@@ -73,8 +98,10 @@ pub struct Example {
     pub code: Vec<u8>,
     /// What is given before.
     pub before: Vec<Part>,
-    /// How many steps are done.
+    /// How many steps are asked for.
     pub steps: u32,
+    /// How the last of them is refused, if it is.
+    pub refused: Option<Refused>,
     /// What is different or stated after.
     pub after: Vec<Part>,
 }
@@ -86,7 +113,7 @@ pub struct Scene {
     pub record: [u8; LENGTH],
     /// RAM, 65,536 bytes.
     pub ram: Vec<u8>,
-    /// ROM, empty in every example.
+    /// ROM, empty in most examples.
     pub rom: Vec<u8>,
 }
 
@@ -113,6 +140,15 @@ impl Example {
         scene.put_all(&self.after);
         scene
     }
+
+    /// What a run of the steps answers: how many were done, the number and
+    /// the address.
+    pub fn answer(&self) -> (u32, u8, u32) {
+        match self.refused {
+            Some(Refused { number, at }) => (self.steps - 1, number, at),
+            None => (self.steps, 0, 0),
+        }
+    }
 }
 
 impl Scene {
@@ -134,7 +170,12 @@ impl Scene {
             Part::F(value) => self.record[F] = value,
             Part::Bank(value) => self.record[BANK] = self.record[BANK] & 0xFC | value,
             Part::SpareF(value) => self.record[F_PRIME] = value,
+            Part::Marks(marks) => self.record[MARKS] = self.record[MARKS] & 0xFC | marks.to_bits(),
+            Part::SpareMarks(marks) => {
+                self.record[MARKS] = self.record[MARKS] & 0xF3 | marks.to_bits() << 2
+            }
             Part::Memory(address, value) => self.ram[usize::from(address)] = value,
+            Part::Rom(length) => self.rom = vec![0; usize::from(length)],
         }
     }
 }

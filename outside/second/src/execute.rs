@@ -2,7 +2,7 @@
 
 use crate::arithmetic::{add, combine, extend, shift, subtract, Operation};
 use crate::decode::{decode, Carry, Instruction, Operand, Place, Round, Target};
-use crate::flags::{condition, Flags};
+use crate::flags::{condition, Flags, Marks};
 use crate::machine::{address, Machine, BC, XSP};
 use crate::memory::{check_lengths, code_from, Memories};
 use crate::number;
@@ -86,13 +86,13 @@ impl Work<'_> {
             // RFP2 stays 0 whatever is tried, so the low two bits select.
             Instruction::SetBank(num) => self.machine.bank = num % 4,
             Instruction::Carry(carry) => self.set_carry(carry),
-            Instruction::ExchangeFlags => {
-                std::mem::swap(&mut self.machine.f, &mut self.machine.f_prime)
-            }
-            Instruction::PushFlags => self.push(Width::Byte, u32::from(self.machine.f))?,
+            Instruction::ExchangeFlags => self.exchange_flags(),
+            Instruction::PushFlags => self.push_flags()?,
             Instruction::PopFlags => {
                 let byte = self.pop(Width::Byte)? as u8;
-                self.machine.set_flags(Flags::from_byte(byte));
+                // Whatever was pushed counts as known.
+                let flags = Flags::from_byte(byte, Marks::default());
+                self.machine.set_flags(flags);
             }
             Instruction::Load { width, to, from } => {
                 let value = self.value(width, from)?;
@@ -106,7 +106,8 @@ impl Work<'_> {
                 self.machine.set(width, register, value);
             }
             Instruction::Jump(cc, target) => {
-                if condition(cc, self.machine.flags()) {
+                let met = condition(cc, self.machine.flags());
+                if met.ok_or(number::UNDEFINED)? {
                     self.go(target);
                 }
             }
@@ -207,17 +208,34 @@ impl Work<'_> {
         };
     }
 
-    /// S, Z and V stay; H and N become 0.
+    /// The marks go along with their flags.
+    fn exchange_flags(&mut self) {
+        let machine = &mut *self.machine;
+        std::mem::swap(&mut machine.f, &mut machine.f_prime);
+        std::mem::swap(&mut machine.marks, &mut machine.marks_prime);
+    }
+
+    /// A push reads all of F, so it is refused for either mark, before the
+    /// stack is looked at.
+    fn push_flags(&mut self) -> Outcome {
+        if self.machine.marks.any() {
+            return Err(number::UNDEFINED.into());
+        }
+        self.push(Width::Byte, u32::from(self.machine.f))
+    }
+
+    /// S, Z and V stay, V's mark too; N becomes 0. So does H after RCF and
+    /// SCF; the book leaves it undefined after CCF and ZCF.
     fn set_carry(&mut self, carry: Carry) {
         let flags = self.machine.flags();
-        let c = match carry {
-            Carry::Zero => false,
-            Carry::One => true,
-            Carry::Opposite => !flags.c,
-            Carry::NotZ => !flags.z,
+        let (c, h) = match carry {
+            Carry::Zero => (false, Some(false)),
+            Carry::One => (true, Some(false)),
+            Carry::Opposite => (!flags.c, None),
+            Carry::NotZ => (!flags.z, None),
         };
         self.machine.set_flags(Flags {
-            h: false,
+            h,
             n: false,
             c,
             ..flags
@@ -242,7 +260,8 @@ impl Work<'_> {
         Ok(())
     }
 
-    /// INC and DEC. Only bytes set flags, and they leave C as it was.
+    /// INC and DEC. Only bytes set flags, and they leave C as it was. Words
+    /// and longs leave all flags, and all marks with them.
     fn count(&mut self, width: Width, register: u8, by: i64) {
         let value = self.machine.get(width, register);
         let amount = by.unsigned_abs() as u32;
@@ -269,8 +288,8 @@ impl Work<'_> {
         let more = self.count_down();
         let flags = self.machine.flags();
         self.machine.set_flags(Flags {
-            h: false,
-            v: more,
+            h: Some(false),
+            v: Some(more),
             n: false,
             ..flags
         });
@@ -288,7 +307,7 @@ impl Work<'_> {
         let more = self.count_down();
         let c = self.machine.flags().c;
         self.machine.set_flags(Flags {
-            v: more,
+            v: Some(more),
             c,
             ..compared
         });

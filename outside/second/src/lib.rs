@@ -11,15 +11,17 @@
 //!
 //! * the registers are 80 plain bytes seen through windows ([`Machine`]);
 //! * codes are told apart by matching their octal digits, with no table;
-//! * flags come from what they mean, by sums too wide to overflow;
+//! * flags come from what they mean, by sums too wide to overflow, and H and V
+//!   are nothing at all where 000 leaves them undefined;
 //! * a step works on a copy of the state and stores to RAM as its last act,
 //!   so that a refusal has nothing to undo.
 //!
 //! The numbers are document 01's: 0 done, 7 too many steps, 1 a memory too
 //! long, 2 a state, address or record that breaks its rules, 3 code bytes
-//! missing, 4 a code not listed, 5 an operand missing, 6 a store to ROM. To 5
-//! and 6 a step or a run adds the address that K3 names; with any other number
-//! it adds 0.
+//! missing, 4 a code not listed, 5 an operand missing, 6 a store to ROM. K6
+//! adds 8, for a flag that is read and that 000 leaves undefined; it comes
+//! after 4 and before 5. To 5 and 6 a step or a run adds the address that K3
+//! names; with any other number it adds 0.
 
 #![forbid(unsafe_code)]
 
@@ -53,9 +55,12 @@ pub mod number {
     pub const INTO_ROM: u8 = 6;
     /// A run was asked for more than 1,000,000 steps.
     pub const TOO_MANY: u8 = 7;
+    /// A flag is read that 000 leaves undefined.
+    pub const UNDEFINED: u8 = 8;
 }
 
 pub use execute::{run, step, MOST_STEPS};
+pub use flags::Marks;
 pub use machine::Machine;
 pub use memory::{show, MOST_BYTES};
 pub use program::{line, reset};

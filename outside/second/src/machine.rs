@@ -1,8 +1,8 @@
 //! The state: 80 bytes of registers and the few values beside them.
 
-use crate::flags::Flags;
+use crate::flags::{Flags, Marks};
 use crate::number;
-use crate::record::{self, COUNTER, F_PRIME, LENGTH, SR, ZERO};
+use crate::record::{self, COUNTER, F_PRIME, LENGTH, MARKS, SR, ZEROS};
 use crate::width::{gather, scatter, Width};
 
 /// How many addresses there are: every address is taken modulo this.
@@ -21,6 +21,8 @@ const NO_FLAG: u8 = 0b0010_1000;
 /// The bits of SR above the flags that are always 1, and the one always 0.
 const STATUS_ONES: u32 = 0x8800;
 const STATUS_ZERO: u32 = 0x0400;
+/// All four marks, in a record's byte.
+const MOST_MARKS: u8 = 15;
 
 /// The state of the processor.
 ///
@@ -44,11 +46,15 @@ pub struct Machine {
     pub f: u8,
     /// The spare flags F'.
     pub f_prime: u8,
+    /// Which flags of F are undefined. Their bits are 0.
+    pub marks: Marks,
+    /// Which flags of F' are undefined. Their bits are 0.
+    pub marks_prime: Marks,
 }
 
 impl Machine {
     /// The state with every register, the counter, the bank, the level and
-    /// both flag registers zero.
+    /// both flag registers zero, and no mark.
     pub fn zero() -> Machine {
         Machine {
             file: [0; FILE],
@@ -57,6 +63,8 @@ impl Machine {
             level: 0,
             f: 0,
             f_prime: 0,
+            marks: Marks::default(),
+            marks_prime: Marks::default(),
         }
     }
 
@@ -65,15 +73,19 @@ impl Machine {
         i64::from(self.counter) < ADDRESSES
             && self.bank <= 3
             && self.level <= 7
-            && self.f & NO_FLAG == 0
-            && self.f_prime & NO_FLAG == 0
+            && self.f & (NO_FLAG | self.marks.flags()) == 0
+            && self.f_prime & (NO_FLAG | self.marks_prime.flags()) == 0
     }
 
-    /// The state saved in a record: banks 0 to 3, the shared registers, the
-    /// counter in four bytes, SR in two, F' in one and a zero byte. Any other
-    /// length, or any bit that no valid state has, is refused with 2.
+    /// The state saved in a record ([`crate::record`] says where everything
+    /// stands). Any other length, or any bit that no valid state has, is
+    /// refused with 2.
     pub fn from_record(record: &[u8]) -> Result<Machine, u8> {
-        if record.len() != LENGTH || record[ZERO] != 0 {
+        if record.len() != LENGTH || ZEROS.iter().any(|&zero| record[zero] != 0) {
+            return Err(number::NOT_VALID);
+        }
+        let marks = record[MARKS];
+        if marks > MOST_MARKS {
             return Err(number::NOT_VALID);
         }
         let status = gather(&record[SR..F_PRIME]);
@@ -87,6 +99,8 @@ impl Machine {
         machine.bank = (status / 256 % 4) as u8;
         machine.level = (status / 4096 % 8) as u8;
         machine.f_prime = record[F_PRIME];
+        machine.marks = Marks::from_bits(marks % 4);
+        machine.marks_prime = Marks::from_bits(marks / 4);
         if machine.valid() {
             Ok(machine)
         } else {
@@ -104,6 +118,7 @@ impl Machine {
         scatter(self.counter, &mut record[COUNTER..SR]);
         scatter(self.status(), &mut record[SR..F_PRIME]);
         record[F_PRIME] = self.f_prime;
+        record[MARKS] = self.marks.to_bits() + 4 * self.marks_prime.to_bits();
         Ok(record)
     }
 
@@ -137,12 +152,16 @@ impl Machine {
         self.set(width, code, width.round(moved));
     }
 
+    /// F with its marks.
     pub(crate) fn flags(&self) -> Flags {
-        Flags::from_byte(self.f)
+        Flags::from_byte(self.f, self.marks)
     }
 
+    /// Writes F and its marks: whoever gives all six flags says of H and V
+    /// whether they are defined.
     pub(crate) fn set_flags(&mut self, flags: Flags) {
         self.f = flags.to_byte();
+        self.marks = flags.marks();
     }
 }
 

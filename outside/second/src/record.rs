@@ -1,6 +1,7 @@
-//! Where everything stands in a saved state's record, as document 01 has it:
-//! banks 0 to 3 (XWA, XBC, XDE, XHL each), XIX, XIY, XIZ, XSP, the counter in
-//! four bytes, SR in two, F' in one, a zero byte.
+//! Where everything stands in a state's record. It begins as document 01 has
+//! it: banks 0 to 3 (XWA, XBC, XDE, XHL each), XIX, XIY, XIZ, XSP, the counter
+//! in four bytes, SR in two, F' in one, a zero byte. For K6 there are four
+//! more: two zero bytes, the marks in one, a zero byte.
 //!
 //! Whoever looks into a record goes by this. One test states the offsets as
 //! numbers (`where_everything_lies` in `tests/records.rs`).
@@ -23,10 +24,19 @@ pub const F: usize = SR;
 pub const BANK: usize = SR + 1;
 /// The spare flags F'.
 pub const F_PRIME: usize = SR + 2;
-/// The byte that is always zero.
+/// The byte behind F', which is always zero.
 pub const ZERO: usize = F_PRIME + 1;
+/// Two bytes kept for a later request. Until then they are always zero.
+pub const LATER: usize = ZERO + 1;
+/// The marks: bit 0 for H of F, bit 1 for V of F, bit 2 for H of F', bit 3 for
+/// V of F'. Bits 4 to 7 are always zero.
+pub const MARKS: usize = LATER + 2;
+/// The last byte, which is always zero.
+pub const LAST: usize = MARKS + 1;
 /// The length of a record.
-pub const LENGTH: usize = ZERO + 1;
+pub const LENGTH: usize = LAST + 1;
+/// Every byte that is always zero.
+pub const ZEROS: [usize; 4] = [ZERO, LATER, LATER + 1, LAST];
 
 /// The byte registers by their codes.
 pub const BYTES: [&str; 8] = ["W", "A", "B", "C", "D", "E", "H", "L"];

@@ -3,7 +3,7 @@
 mod common;
 
 use common::{rom_start, step_at, step_once, Chance};
-use second::{run, show, Machine, Width};
+use second::{run, show, Machine, Marks, Width};
 
 /// Pointers that mostly point at something.
 fn pointer(chance: &mut Chance, ram: usize, rom: usize) -> u32 {
@@ -20,8 +20,13 @@ fn any_machine(chance: &mut Chance, ram: &[u8], rom: &[u8]) -> Machine {
     let mut machine = Machine::zero();
     machine.bank = chance.below(4) as u8;
     machine.level = chance.below(8) as u8;
-    machine.f = chance.byte() & 0xD7;
-    machine.f_prime = chance.byte() & 0xD7;
+    // One in four has marks, and a marked flag is 0.
+    if chance.below(4) == 0 {
+        machine.marks = Marks::from_bits(chance.byte());
+        machine.marks_prime = Marks::from_bits(chance.byte());
+    }
+    machine.f = chance.byte() & 0xD7 & !machine.marks.flags();
+    machine.f_prime = chance.byte() & 0xD7 & !machine.marks_prime.flags();
     for code in 0..8 {
         let value = pointer(chance, ram.len(), rom.len());
         machine.set(Width::Long, code, value);
@@ -37,7 +42,7 @@ fn any_machine(chance: &mut Chance, ram: &[u8], rom: &[u8]) -> Machine {
 #[test]
 fn any_step_answers_and_refuses_cleanly() {
     let mut chance = Chance(42);
-    let mut met = [0u32; 8];
+    let mut met = [0u32; 9];
     for _ in 0..150_000 {
         let ram_length = chance.below(40) as usize;
         let rom_length = chance.below(40) as usize;
@@ -48,15 +53,15 @@ fn any_step_answers_and_refuses_cleanly() {
         assert!(bytes.len() <= 6);
         assert_eq!(bytes.is_empty(), shown != 0);
         let number = step_once(&mut machine, &mut ram, &rom);
-        // The code is judged alike by both; a step may go on to 5 or 6.
-        assert!(number == shown || shown == 0 && (number == 5 || number == 6));
+        // The code is judged alike by both; a step may go on to 8, 5 or 6.
+        assert!(number == shown || shown == 0 && matches!(number, 5 | 6 | 8));
         assert_eq!(
             Machine::from_record(&machine.to_record().unwrap()),
             Ok(machine)
         );
         met[usize::from(number)] += 1;
     }
-    for number in [0, 3, 4, 5, 6] {
+    for number in [0, 3, 4, 5, 6, 8] {
         assert!(met[number] > 100, "number {number} was met {met:?}");
     }
 }

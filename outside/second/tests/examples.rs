@@ -1,15 +1,25 @@
 //! Runs every worked example through records and memories alone.
 
-use second::examples::{all, book, cases, hand, Example};
+use second::examples::{all, book, cases, hand, marks, Example};
 use second::{run, show, step, Machine};
+
+/// Whether the example is of a state that is not valid.
+fn is_invalid(example: &Example) -> bool {
+    example.answer() == (0, 2, 0)
+}
 
 fn check(example: &Example) {
     let label = format!("{} ({})", example.name, example.source);
     let mut scene = example.start();
     let wanted = example.end();
+    if is_invalid(example) {
+        assert_eq!(Machine::from_record(&scene.record), Err(2), "{label}");
+        assert_eq!(scene, wanted, "{label}");
+        return;
+    }
     let mut machine = Machine::from_record(&scene.record).expect(&label);
     let ended = run(&mut machine, &mut scene.ram, &scene.rom, example.steps);
-    assert_eq!(ended, (example.steps, 0, 0), "{label}");
+    assert_eq!(ended, example.answer(), "{label}");
     assert_eq!(
         Machine::from_record(&wanted.record).as_ref(),
         Ok(&machine),
@@ -43,11 +53,34 @@ fn our_own_examples() {
     hand().iter().for_each(check);
 }
 
-/// An example of one step has exactly one instruction as its code.
+#[test]
+fn the_marks() {
+    assert_eq!(marks().len(), 263);
+    marks().iter().for_each(check);
+}
+
+/// The books' examples, the cases and those for all codes are done; 8 is what
+/// the table of the marks is there for.
+#[test]
+fn what_is_refused() {
+    let refused_in = |examples: Vec<Example>| {
+        let numbers = examples.iter().map(|example| example.answer().1);
+        numbers.filter(|&number| number != 0).collect::<Vec<u8>>()
+    };
+    assert_eq!(refused_in([book(), cases(), hand()].concat()), []);
+    let mut met = [0; 9];
+    for number in refused_in(marks()) {
+        met[usize::from(number)] += 1;
+    }
+    assert_eq!(met, [0, 0, 9, 2, 1, 2, 2, 0, 33]);
+}
+
+/// An example of one step has exactly one instruction as its code, but for
+/// those that are refused for their code.
 #[test]
 fn the_code_is_shown_whole() {
     for example in all() {
-        if example.steps == 1 {
+        if example.steps == 1 && !matches!(example.answer().1, 3 | 4) {
             let scene = example.start();
             let at = u32::from(example.at);
             let (bytes, number) = show(&scene.ram, &scene.rom, at);
@@ -57,10 +90,15 @@ fn the_code_is_shown_whole() {
 }
 
 /// The same in ROM: the code moves there, its operands stay in RAM, and
-/// nothing else differs but the counter.
+/// nothing else differs but the counter. What is refused for its code or its
+/// operand is left out: a ROM so long changes where these end.
 #[test]
 fn the_code_may_lie_in_rom() {
     for example in all() {
+        let (done, number, _) = example.answer();
+        if is_invalid(&example) || matches!(number, 3 | 5 | 6) {
+            continue;
+        }
         let mut scene = example.start();
         let mut in_ram = Machine::from_record(&scene.record).unwrap();
         let mut in_rom = in_ram.clone();
@@ -69,11 +107,12 @@ fn the_code_may_lie_in_rom() {
         let first = usize::from(example.at);
         rom[first..first + example.code.len()].copy_from_slice(&example.code);
         in_rom.counter += 0xFF_0000;
-        for _ in 0..example.steps {
-            let done = step(&mut in_ram, &mut scene.ram, &scene.rom);
-            assert_eq!(done, (0, 0), "{}", example.name);
-            let done = step(&mut in_rom, &mut ram, &rom);
-            assert_eq!(done, (0, 0), "{}", example.name);
+        for place in 0..example.steps {
+            let wanted = (if place < done { 0 } else { number }, 0);
+            let ended = step(&mut in_ram, &mut scene.ram, &scene.rom);
+            assert_eq!(ended, wanted, "{}", example.name);
+            let ended = step(&mut in_rom, &mut ram, &rom);
+            assert_eq!(ended, wanted, "{}", example.name);
         }
         let jumps = matches!(example.code[0], 0x0E | 0x1A..=0x1D);
         let calls = matches!(example.code[0], 0x1C..=0x1E);

@@ -3,8 +3,11 @@
 mod common;
 
 use common::{Chance, XSP, XWA};
-use second::record::{self, BANK, COUNTER, F, F_PRIME, LENGTH, SR, ZERO};
-use second::{Machine, Width};
+use second::record::{self, BANK, COUNTER, F, F_PRIME, LAST, LATER, LENGTH, MARKS, SR, ZERO};
+use second::{run, Machine, Marks, Width};
+
+/// Each mark's bit in its byte, with the byte and the bit of its flag.
+const MARKED: [(usize, usize, usize); 4] = [(0, F, 4), (1, F, 2), (2, F_PRIME, 4), (3, F_PRIME, 2)];
 
 /// Whether a bit of a record may be either, and if not which it must be.
 fn fixed_bit(byte: usize, bit: usize) -> Option<bool> {
@@ -12,23 +15,38 @@ fn fixed_bit(byte: usize, bit: usize) -> Option<bool> {
         (F | F_PRIME, 3 | 5) => Some(false),
         (BANK, 2) => Some(false),    // SR bit 10
         (BANK, 3 | 7) => Some(true), // SR bits 11 and 15
-        (ZERO, _) => Some(false),
+        (ZERO | LAST, _) => Some(false),
+        (MARKS, 4..) => Some(false),
+        _ if byte == LATER || byte == LATER + 1 => Some(false),
         _ if byte == COUNTER + 3 => Some(false), // the counter has 24 bits
         _ => None,
     }
 }
 
+fn is_set(bytes: &[u8], byte: usize, bit: usize) -> bool {
+    bytes[byte] >> bit & 1 == 1
+}
+
+/// Whether every marked flag is 0.
+fn marks_fit(bytes: &[u8]) -> bool {
+    MARKED.iter().all(|&(mark, flags, bit)| {
+        let marked = is_set(bytes, MARKS, mark);
+        !(marked && is_set(bytes, flags, bit))
+    })
+}
+
 fn is_record(bytes: &[u8]) -> bool {
     bytes.len() == LENGTH
+        && marks_fit(bytes)
         && (0..LENGTH).all(|byte| {
             (0..8).all(|bit| {
-                let set = bytes[byte] >> bit & 1 == 1;
+                let set = is_set(bytes, byte, bit);
                 fixed_bit(byte, bit).is_none_or(|wanted| wanted == set)
             })
         })
 }
 
-/// The record with the free bits as given.
+/// The record with the free bits as given; but a flag that is 1 is not marked.
 fn record_of(free: impl Fn(usize, usize) -> bool) -> [u8; LENGTH] {
     let mut record = [0; LENGTH];
     for (byte, value) in record.iter_mut().enumerate() {
@@ -36,6 +54,11 @@ fn record_of(free: impl Fn(usize, usize) -> bool) -> [u8; LENGTH] {
             if fixed_bit(byte, bit).unwrap_or_else(|| free(byte, bit)) {
                 *value |= 1 << bit;
             }
+        }
+    }
+    for (mark, flags, bit) in MARKED {
+        if is_set(&record, flags, bit) {
+            record[MARKS] &= !(1 << mark);
         }
     }
     record
@@ -46,7 +69,9 @@ fn every_single_bit() {
     let empty = record_of(|_, _| false);
     let full = record_of(|_, _| true);
     let striped = record_of(|byte, bit| (byte + bit) % 3 == 0);
-    for record in [empty, full, striped] {
+    let marked = record_of(|byte, bit| byte == MARKS || bit % 2 == 1);
+    assert_eq!((full[MARKS], marked[MARKS]), (0, 0x0F));
+    for record in [empty, full, striped, marked] {
         assert_eq!(
             Machine::from_record(&record).unwrap().to_record(),
             Ok(record)
@@ -56,7 +81,7 @@ fn every_single_bit() {
                 let mut flipped = record;
                 flipped[byte] ^= 1 << bit;
                 let read = Machine::from_record(&flipped);
-                if fixed_bit(byte, bit).is_some() {
+                if !is_record(&flipped) {
                     assert_eq!(read, Err(2), "byte {byte} bit {bit}");
                 } else {
                     let machine = read.unwrap();
@@ -78,6 +103,7 @@ fn any_bytes_read_back_or_are_refused() {
         for byte in record.iter_mut().take(ZERO) {
             *byte |= chance.byte();
         }
+        record[MARKS] = chance.byte() & 0x0F;
         // Most such records are wrong somewhere: bring half of them right.
         if round % 2 == 0 {
             let wild = record;
@@ -98,10 +124,49 @@ fn any_bytes_read_back_or_are_refused() {
     assert!(taken >= 10_000);
 }
 
+/// Whether a record with these marks, and these flags in one of the two places,
+/// is taken. It is held to the rule.
+fn is_taken(marks: u8, place: usize, flags: u8) -> bool {
+    let mut record = record_of(|_, _| false);
+    record[MARKS] = marks;
+    record[F] = 0;
+    record[F_PRIME] = 0;
+    record[place] = flags;
+    let right = marks < 16 && flags & 0x28 == 0 && marks_fit(&record);
+    let label = format!("marks {marks:02X}, flags {flags:02X}");
+    match Machine::from_record(&record) {
+        Ok(machine) => {
+            assert_eq!(machine.marks, Marks::from_bits(marks & 3));
+            assert_eq!(machine.marks_prime, Marks::from_bits(marks >> 2));
+            assert_eq!(machine.to_record(), Ok(record), "{label}");
+        }
+        Err(number) => assert_eq!(number, 2, "{label}"),
+    }
+    assert_eq!(Machine::from_record(&record).is_ok(), right, "{label}");
+    right
+}
+
+/// Every value of the byte with the marks, with every F and every F'.
 #[test]
-fn only_88_bytes_are_a_record() {
+fn marks_with_every_flag() {
+    let mut taken = 0;
+    for marks in 0..=255 {
+        for flags in 0..=255 {
+            taken += [F, F_PRIME]
+                .iter()
+                .filter(|&&place| is_taken(marks, place, flags))
+                .count();
+        }
+    }
+    // A flag register has 64 values with no mark, 32 with one and 16 with two;
+    // with each of these the other has any of its four pairs of marks.
+    assert_eq!(taken, 2 * 4 * (64 + 32 + 32 + 16));
+}
+
+#[test]
+fn only_92_bytes_are_a_record() {
     let good = record_of(|_, _| false);
-    for length in [0, 1, 79, 80, 87, 89, 176, 1000] {
+    for length in [0, 1, 79, 80, 87, 88, 89, 90, 91, 93, 176, 184, 1000] {
         let mut bytes = good.to_vec();
         bytes.resize(length, 0);
         assert_eq!(Machine::from_record(&bytes), Err(2), "{length} bytes");
@@ -111,7 +176,8 @@ fn only_88_bytes_are_a_record() {
 /// The offsets as numbers, by document 01: banks 0 to 3 (XWA, XBC, XDE, XHL
 /// each), XIX, XIY, XIZ, XSP, the counter in four bytes, SR in two, F' in one,
 /// a zero byte. A word is the low half of its long; W, B, D, H are the high
-/// bytes of that word.
+/// bytes of that word. Behind these 88 bytes: two zero bytes, the marks, a zero
+/// byte.
 #[test]
 fn where_everything_lies() {
     let longs = [
@@ -137,7 +203,8 @@ fn where_everything_lies() {
         }
     }
     assert_eq!((COUNTER, SR, F, BANK, F_PRIME), (80, 84, 84, 85, 86));
-    assert_eq!((ZERO, LENGTH), (87, 88));
+    assert_eq!((ZERO, LATER, MARKS, LAST, LENGTH), (87, 88, 90, 91, 92));
+    assert_eq!(record::ZEROS, [87, 88, 89, 91]);
 }
 
 /// The registers by code 0 to 7, as document 01 names them.
@@ -167,6 +234,8 @@ fn a_state_in_its_record() {
     machine.level = 5;
     machine.f = 0xD3;
     machine.f_prime = 0x44;
+    machine.marks.v = true;
+    machine.marks_prime.h = true;
     machine.set(Width::Long, XWA, 0x0403_0201);
     machine.set(Width::Long, XSP, 0x0807_0605);
     let record = machine.to_record().unwrap();
@@ -174,7 +243,7 @@ fn a_state_in_its_record() {
     assert_eq!(record[record::register(Width::Long, XSP, 2)], [5, 6, 7, 8]);
     assert_eq!(
         record[COUNTER..],
-        [0x56, 0x34, 0x12, 0x00, 0xD3, 0xDA, 0x44, 0x00]
+        [0x56, 0x34, 0x12, 0x00, 0xD3, 0xDA, 0x44, 0x00, 0x00, 0x00, 0x06, 0x00]
     );
     let others = record[..COUNTER].iter().filter(|&&byte| byte != 0).count();
     assert_eq!(others, 8);
@@ -183,7 +252,7 @@ fn a_state_in_its_record() {
 
 #[test]
 fn an_invalid_state_is_not_saved() {
-    let changes: [fn(&mut Machine); 10] = [
+    let changes: [fn(&mut Machine); 14] = [
         |m| m.counter = 0x100_0000,
         |m| m.counter = 0xFFFF_FFFF,
         |m| m.bank = 4,
@@ -194,12 +263,17 @@ fn an_invalid_state_is_not_saved() {
         |m| m.f = 0x20,
         |m| m.f_prime = 0x08,
         |m| m.f_prime = 0x20,
+        |m| (m.f, m.marks.h) = (0x10, true),
+        |m| (m.f, m.marks.v) = (0x04, true),
+        |m| (m.f_prime, m.marks_prime.h) = (0x10, true),
+        |m| (m.f_prime, m.marks_prime.v) = (0x04, true),
     ];
     for change in changes {
         let mut machine = Machine::zero();
         change(&mut machine);
         assert!(!machine.valid());
         assert_eq!(machine.to_record(), Err(2));
+        assert_eq!(run(&mut machine, &mut [], &[], 0), (0, 2, 0));
     }
 }
 
@@ -219,6 +293,15 @@ fn validity_is_exactly_the_stated_rules() {
         let mut machine = Machine::zero();
         machine.f_prime = value;
         assert_eq!(machine.valid(), value & 0x28 == 0);
+        for (bits, never) in [(0, 0x28), (1, 0x38), (2, 0x2C), (3, 0x3C)] {
+            let mut machine = Machine::zero();
+            machine.f = value;
+            machine.marks = Marks::from_bits(bits);
+            assert_eq!(machine.valid(), value & never == 0);
+            std::mem::swap(&mut machine.f, &mut machine.f_prime);
+            std::mem::swap(&mut machine.marks, &mut machine.marks_prime);
+            assert_eq!(machine.valid(), value & never == 0);
+        }
     }
     let mut machine = Machine::zero();
     machine.counter = 0xFF_FFFF;

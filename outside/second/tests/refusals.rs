@@ -28,6 +28,10 @@ fn invalid_states() -> Vec<Machine> {
     add(&|m| m.f_prime = 0x08);
     add(&|m| m.f_prime = 0x20);
     add(&|m| m.f_prime = 0xFF);
+    add(&|m| (m.f, m.marks.h) = (0x10, true));
+    add(&|m| (m.f, m.marks.v) = (0x04, true));
+    add(&|m| (m.f_prime, m.marks_prime.h) = (0x10, true));
+    add(&|m| (m.f_prime, m.marks_prime.v) = (0x04, true));
     states
 }
 

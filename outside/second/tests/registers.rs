@@ -4,7 +4,7 @@
 mod common;
 
 use common::{memory, step_once, XSP};
-use second::record::{register, BANK, COUNTER, F, F_PRIME, LENGTH};
+use second::record::{register, BANK, COUNTER, F, F_PRIME, LENGTH, MARKS};
 use second::{Machine, Width};
 
 /// The first code byte of the register forms, by width.
@@ -78,7 +78,9 @@ fn every_pair_of_registers_is_subtracted() {
                     wanted[other].copy_from_slice(&less.to_le_bytes()[..width.bytes()]);
                     wanted[COUNTER] = 2;
                     assert_eq!(got[F] & 0x02, 2, "N");
-                    got[F] = 0; // the other flags are looked at elsewhere
+                    // The other flags, and their marks, are looked at elsewhere.
+                    got[F] = 0;
+                    got[MARKS] = 0;
                     assert_eq!(got, wanted);
                 }
             }

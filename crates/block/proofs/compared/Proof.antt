@@ -2,7 +2,7 @@ use mathlib.Core.Path.{ap, _∙_}
 use mathlib.Core.Bool.{false}
 use Rattle.little.specs.Width.{bitsOf}
 use Rattle.flags.specs.Sums.{differenceOf}
-use Rattle.flags.specs.Flag.{byteOf, flagsOf, comparedOf}
+use Rattle.flags.specs.Flag.{packedOf, flagsOf, comparedOf}
 use Rattle.state.specs.State.{withFlags, withBothFlags}
 use Rattle.state.specs.inner.Lent.{bankedWith}
 use Rattle.state.specs.declared.State.{State}
@@ -47,7 +47,7 @@ returns c rest =
       c .before .before .before .before .unpack .ensures,
       c .before .before .before .before .before .before .before .before .before .before .before .difference .ensures,
     )
-    (ap (λ (t : State). withFlags t (byteOf (comparedOf (flagsOf f) (differenceOf (bitsOf (a .f .size)) (accumulator s (a .f .size)) (a .v) false .flags) (moreIn t)))) e)
+    (ap (λ (t : State). withFlags t (packedOf (comparedOf (flagsOf f) (differenceOf (bitsOf (a .f .size)) (accumulator s (a .f .size)) (a .v) false .flags) (moreIn t)))) e)
 
 pub compared-spec : {M : Type 1} → statement M
 compared-spec =

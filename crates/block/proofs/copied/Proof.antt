@@ -1,5 +1,5 @@
 use mathlib.Core.Path.{ap, _∙_}
-use Rattle.flags.specs.Flag.{byteOf, flagsOf, copiedOf}
+use Rattle.flags.specs.Flag.{packedOf, flagsOf, copiedOf}
 use Rattle.state.specs.State.{withFlags, withBothFlags}
 use Rattle.state.specs.inner.Lent.{bankedWith}
 use Rattle.state.specs.declared.State.{State}
@@ -40,7 +40,7 @@ returns c rest =
     c .before .before .before .before .before .before .counted .ensures s
     ∙ ap counted (c .before .before .before .before .before .before .before .before .moved2 .ensures s ∙ ap (moved (a .f) (a .f .to)) (c .before .before .before .before .before .before .before .before .before .before .moved .ensures s)) in
     rw (c .pack .ensures, c .before .copy-flags .ensures, c .before .before .more .ensures, c .before .before .before .before .unpack .ensures)
-    (ap (λ (t : State). withFlags t (byteOf (copiedOf (flagsOf f) (moreIn t)))) e)
+    (ap (λ (t : State). withFlags t (packedOf (copiedOf (flagsOf f) (moreIn t)))) e)
 
 pub copied-spec : {M : Type 1} → statement M
 copied-spec =

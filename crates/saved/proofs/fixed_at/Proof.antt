@@ -1,4 +1,3 @@
-use mathlib.Core.Path.{sym, _∙_}
 use borrow.Author.Needs.{needs}
 use Rattle.saved.proofs.fixed_at.Statement.{statement}
 use Rattle.saved.proofs.fixed_at.Tie as tie
@@ -9,15 +8,37 @@ read-at-requires c κs = search needs
 ones-in-requires : tie.Need-ones-in-requires
 ones-in-requires c κs = search needs
 
-shared-slice-read-result : tie.Need-shared-slice-read-result
-shared-slice-read-result c = search needs
+zero-at-requires : tie.Need-zero-at-requires
+zero-at-requires c κs = search needs
+
+zero-at-requires-2 : tie.Need-zero-at-requires-2
+zero-at-requires-2 c κs = search needs
+
+zero-at-requires-3 : tie.Need-zero-at-requires-3
+zero-at-requires-3 c κs = search needs
+
+zero-at-requires-4 : tie.Need-zero-at-requires-4
+zero-at-requires-4 c κs = search needs
 
 returns : tie.Need-returns
-returns c = simp (← c .before .before .before .read-at .ensures, sym (c .before .before .ones-in .ensures) ∙ c .before .if1 .taken)
-
-returns-2 : tie.Need-returns-2
-returns-2 c = simp (← c .before .before .read-at .ensures, sym (c .before .ones-in .ensures) ∙ c .if1 .left)
+returns c =
+    rw (
+      c .before .before .before .before .ones-in .ensures,
+      c .before .before .before .before .before .read-at .ensures,
+      c .before .before .before .zero-at .ensures,
+      c .before .before .zero-at2 .ensures,
+      c .before .zero-at3 .ensures,
+      c .zero-at4 .ensures,
+    )
 
 pub fixed-at-spec : {M : Type 1} → statement M
 fixed-at-spec =
-    tie.close (tie.spec read-at-requires ones-in-requires shared-slice-read-result returns returns-2)
+    tie.close
+    (tie.spec
+    read-at-requires
+    ones-in-requires
+    zero-at-requires
+    zero-at-requires-2
+    zero-at-requires-3
+    zero-at-requires-4
+    returns)

@@ -8,20 +8,20 @@ use lib.Seq.{take-all}
 use Rattle.state.proofs.Sound.{sound}
 use Rattle.state.specs.State.{longOf}
 use Rattle.little.specs.Bytes.{bytesFrom}
-use Rattle.saved.specs.Record.{recordLength, longsBytes}
+use Rattle.saved.specs.Record.{longsBytes}
 use Rattle.saved.proofs.Numbers.{longs-step}
 use Rattle.saved.proofs.save_longs.Statement.{statement}
 use Rattle.saved.proofs.save_longs.Tie as tie
 
 abbrev Inv-loop : tie.InvT-loop
-Inv-loop s out₀ i₀ out i = (i ≤ 20) × ((length out ≡ recordLength) × (take (4 * i) out ≡ longsBytes (take i (s .registers))))
+Inv-loop s out₀ i₀ out i = (i ≤ 20) × ((length out ≡ length out₀) × (take (4 * i) out ≡ longsBytes (take i (s .registers))))
 
 abbrev μ-loop : tie.MeasureT-loop
 μ-loop s out₀ i₀ out i = 20 - i
 
 loop-holds : tie.Need-loop-holds Inv-loop μ-loop
 unfolding longsBytes
-loop-holds c = (omega arith, (c .before .pre, refl))
+loop-holds c = (omega arith, (refl, refl))
 
 mul-write-at : tie.Need-mul-write-at Inv-loop μ-loop
 mul-write-at c = omega arith

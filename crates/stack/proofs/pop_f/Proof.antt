@@ -3,7 +3,8 @@ use Rattle.little.specs.declared.Size.the-variants.{Byte}
 use Rattle.flags.specs.Flag.{byteOf, flagsOf}
 use Rattle.state.specs.State.{withFlags, withBothFlags}
 use Rattle.state.specs.inner.Lent.{bankedWith}
-use Rattle.stack.proofs.Laws.{popped-by, not-popped, flags-low}
+use Rattle.flags.proofs.Packed.{byte-low}
+use Rattle.stack.proofs.Laws.{popped-by, not-popped}
 use Rattle.answer.specs.declared.Answer.the-variants.{Done}
 use Rattle.state.specs.declared.State.{State}
 use borrow.Author.Needs.{needs}
@@ -29,8 +30,11 @@ popped-requires c κs = search needs
 unpack-requires : tie.Need-unpack-requires
 unpack-requires c κs = search needs
 
-pack-requires : tie.Need-pack-requires
-pack-requires c κs = search needs
+byte-requires : tie.Need-byte-requires
+byte-requires c κs = search needs
+
+cast-flags : tie.Need-cast-flags
+cast-flags c = search needs
 
 enum-known-a : tie.Need-enum-known-a
 enum-known-a c = search needs
@@ -43,7 +47,7 @@ returns c rest =
     let s = bankedWith rest (a .regs .now) (a .bank) f in
     let v = c .before .before .before .before .before .v .given .0 .0 in
     let e = rw (c .before .before .before .before .before .before .before .before .pointer .ensures) at (c .before .before .before .before .before .before .before .load .ensures) in
-    rw (c .pack .ensures, c .before .unpack .ensures, flags-low v)
+    rw (c .byte .ensures, c .before .unpack .ensures, byte-low v)
     (ap (λ (t : State). after Done (withFlags t (byteOf (flagsOf v))) (a .ram .now)) (c .before .before .popped .ensures s)
     ∙ sym (popped-by s (a .ram .now) (a .rom .now) Byte (λ t x. withFlags t (byteOf (flagsOf x))) v (sym e ∙ c .before .before .before .before .before .v .given .1)))
 
@@ -65,7 +69,8 @@ pop-f-spec =
     cast-f
     popped-requires
     unpack-requires
-    pack-requires
+    byte-requires
+    cast-flags
     enum-known-a
     returns
     returns-2)

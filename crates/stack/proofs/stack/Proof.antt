@@ -8,17 +8,8 @@ use Rattle.stack.proofs.stack.Tie as tie
 enum-told : tie.Need-enum-told
 enum-told c = search needs
 
-unpack-requires : tie.Need-unpack-requires
-unpack-requires c κs = search needs
-
-pack-requires : tie.Need-pack-requires
-pack-requires c κs = search needs
-
-cast-push : tie.Need-cast-push
-cast-push c = search needs
-
-push-requires : tie.Need-push-requires
-push-requires c κs = search needs
+push-f-requires : tie.Need-push-f-requires
+push-f-requires c κs = search needs
 
 enum-told-2 : tie.Need-enum-told-2
 enum-told-2 c = search needs
@@ -35,8 +26,8 @@ register-in-requires c κs = search needs
 read-requires : tie.Need-read-requires
 read-requires c κs = search needs
 
-push-requires-2 : tie.Need-push-requires-2
-push-requires-2 c κs = search needs
+push-requires : tie.Need-push-requires
+push-requires c κs = search needs
 
 enum-told-4 : tie.Need-enum-told-4
 enum-told-4 c = search needs
@@ -89,8 +80,8 @@ same-length c = search needs
 returns : tie.Need-returns
 unfolding stackOf
 returns c rest =
-    let a = c .before .before .before .before .before .before .before .before .before .before .before .before .args in let s = bankedAtWith rest (a .regs .now) (a .bank) (a .counter .now) (a .flags .now) in
-    rw (c .before .before .before .before .before .before .before .before .enum-told .given .1) (c .before .before .push .ensures s ∙ rw (c .before .before .before .before .before .pack .ensures, c .before .before .before .before .before .before .unpack .ensures) refl)
+    let a = c .before .before .before .before .before .before .before .before .before .before .args in let s = bankedAtWith rest (a .regs .now) (a .bank) (a .counter .now) (a .flags .now) in
+    rw (c .before .before .before .before .before .before .enum-told .given .1) (c .before .before .push-f .ensures s)
 
 same-length-2 : tie.Need-same-length-2
 same-length-2 c = search needs
@@ -108,7 +99,7 @@ returns-3 : tie.Need-returns-3
 unfolding stackOf
 returns-3 c rest =
     let a = c .before .before .before .before .before .before .before .before .before .before .before .before .args in let s = bankedAtWith rest (a .regs .now) (a .bank) (a .counter .now) (a .flags .now) in
-    rw (c .before .before .before .before .before .before .before .before .enum-told3 .given .1) (c .before .before .push2 .ensures s ∙ rw (c .before .before .before .before .before .read .ensures, c .before .before .before .before .before .before .register-in .ensures) refl)
+    rw (c .before .before .before .before .before .before .before .before .enum-told3 .given .1) (c .before .before .push .ensures s ∙ rw (c .before .before .before .before .before .read .ensures, c .before .before .before .before .before .before .register-in .ensures) refl)
 
 same-length-4 : tie.Need-same-length-4
 same-length-4 c = search needs
@@ -156,4 +147,4 @@ returns-8 c rest =
     rw (c .before .before .before .before .enum-told8 .given .1) (c .ret .ensures s)
 
 pub stack-spec : {M : Type 1} → statement M
-stack-spec = tie.close (tie.spec enum-told unpack-requires pack-requires cast-push push-requires enum-told-2 pop-f-requires enum-told-3 register-in-requires read-requires push-requires-2 enum-told-4 register-in-requires-2 pop-requires enum-told-5 number-in-requires call-requires enum-told-6 number-in-requires-2 call-requires-2 enum-told-7 number-in-requires-3 displace-requires call-requires-3 enum-told-8 ret-requires same-length returns same-length-2 returns-2 same-length-3 returns-3 same-length-4 returns-4 same-length-5 returns-5 same-length-6 returns-6 same-length-7 returns-7 same-length-8 returns-8)
+stack-spec = tie.close (tie.spec enum-told push-f-requires enum-told-2 pop-f-requires enum-told-3 register-in-requires read-requires push-requires enum-told-4 register-in-requires-2 pop-requires enum-told-5 number-in-requires call-requires enum-told-6 number-in-requires-2 call-requires-2 enum-told-7 number-in-requires-3 displace-requires call-requires-3 enum-told-8 ret-requires same-length returns same-length-2 returns-2 same-length-3 returns-3 same-length-4 returns-4 same-length-5 returns-5 same-length-6 returns-6 same-length-7 returns-7 same-length-8 returns-8)

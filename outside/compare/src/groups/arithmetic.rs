@@ -33,7 +33,13 @@ fn memory_form(width: Width) -> u8 {
     }
 }
 
-/// A step at the start of RAM.
+/// A step at the start of RAM; which flags are marked is drawn.
+fn hold_step(bench: &mut Bench, machine: &Machine, code: &[u8], operand: u32) {
+    let mut case = step_of(machine, code, operand);
+    aim::draw_marks(&mut bench.chance, &mut case.record);
+    bench.judge.hold(&case);
+}
+
 fn step_of(machine: &Machine, code: &[u8], operand: u32) -> Case {
     let mut ram = Image::zeros(0x40);
     ram.put(0, code);
@@ -58,6 +64,7 @@ pub fn all_byte_pairs(bench: &mut Bench) {
             for pair in 0..=0xFFFF_u16 {
                 case.record[both.clone()].copy_from_slice(&pair.to_le_bytes());
                 case.record[F] = carry | bench.chance.byte() & FLAGS & 0xFE;
+                aim::draw_marks(&mut bench.chance, &mut case.record);
                 bench.judge.hold(&case);
             }
         }
@@ -105,10 +112,10 @@ fn pair(bench: &mut Bench, width: Width, operation: u8, (left, right): (u32, u32
     let itself = [first + r, 0x80 + along + r];
 
     for code in [&with_register[..], &with_constant, &itself] {
-        bench.judge.hold(&step_of(&machine, code, 0));
+        hold_step(bench, &machine, code, 0);
     }
-    bench.judge.hold(&step_of(&machine, &with_memory, right));
-    bench.judge.hold(&step_of(&machine, &to_memory, left));
+    hold_step(bench, &machine, &with_memory, right);
+    hold_step(bench, &machine, &to_memory, left);
 }
 
 /// INC, DEC, shifts, extensions and loads: all byte values, turning values
@@ -146,6 +153,6 @@ fn one_value(bench: &mut Bench, width: Width, value: u32) {
     codes.extend((0..8).flat_map(|other| [vec![first, 0x88 + other], vec![first, 0x98 + other]]));
     for code in codes {
         machine.f = bench.chance.byte() & FLAGS;
-        bench.judge.hold(&step_of(&machine, &code, 0));
+        hold_step(bench, &machine, &code, 0);
     }
 }

@@ -47,16 +47,19 @@ fn repeating_code(chance: &mut Chance, forms: &[Form; 2]) -> [u8; 2] {
 }
 
 /// A case whose code stands at the start of a short ROM. Behind it stands
-/// FF, which is listed nowhere, so that a run ends with 4 right there.
-fn in_rom(machine: &Machine, code: &[u8], ram: Image, call: Call) -> Case {
+/// FF, which is listed nowhere, so that a run ends with 4 right there. The
+/// flags are drawn.
+fn in_rom(chance: &mut Chance, machine: &Machine, code: &[u8], ram: Image, call: Call) -> Case {
     let mut machine = machine.clone();
     machine.counter = ROM_START;
-    Case {
+    let mut case = Case {
         call,
         record: machine.to_record().expect("a valid state").to_vec(),
         ram,
         rom: rom_with(code),
-    }
+    };
+    aim::draw_flags(chance, &mut case.record);
+    case
 }
 
 fn rom_with(code: &[u8]) -> Image {
@@ -89,13 +92,12 @@ fn copy_apart(bench: &mut Bench, code: [u8; 2], to: u8, from: u8, apart: u32) {
     const RAM_LENGTH: u32 = 64;
     let chance = &mut bench.chance;
     let mut machine = Machine::zero();
-    machine.f = chance.byte() & aim::FLAGS;
     let start = chance.below(RAM_LENGTH);
     machine.set(Width::Long, from, start);
     machine.set(Width::Long, to, (start + apart).wrapping_sub(8));
     machine.set(Width::Word, BC, 1 + chance.below(30));
     let ram = aim::noise(chance, RAM_LENGTH as usize);
-    let mut case = in_rom(&machine, &code, ram, Call::Run(40));
+    let mut case = in_rom(chance, &machine, &code, ram, Call::Run(40));
     if chance.once_in(4) {
         // The code lies in RAM, where the copy may run over it.
         let place = chance.below(RAM_LENGTH - 2);
@@ -139,7 +141,6 @@ fn repeat_case(chance: &mut Chance, code: [u8; 2]) -> Case {
         *byte = chance.below(3) as u8;
     }
     let mut machine = Machine::zero();
-    machine.f = chance.byte() & aim::FLAGS;
     machine.bank = chance.below(4) as u8;
     for register in 2..8 {
         machine.set(Width::Long, register, chance.below(length as u32));
@@ -149,7 +150,7 @@ fn repeat_case(chance: &mut Chance, code: [u8; 2]) -> Case {
     // before they reach the code there, whose bytes are not the single form's.
     let fewest = u32::from(code[1] & 2 != 0);
     machine.set(Width::Word, BC, fewest + chance.below(60));
-    in_rom(&machine, &code, ram, Call::Run(200))
+    in_rom(chance, &machine, &code, ram, Call::Run(200))
 }
 
 fn repeat_by_hand(bench: &mut Bench, code: [u8; 2], case: Case) {
@@ -249,7 +250,6 @@ fn large_repeat(bench: &mut Bench, count: u32, code: [u8; 2]) {
     let downward = code[1] & 2 != 0;
     let start = if downward { 0xFFFF } else { 0 } & if code[0] >= 0x90 { 0xFFFE } else { 0xFFFF };
     let mut machine = Machine::zero();
-    machine.f = bench.chance.byte() & aim::FLAGS;
     for register in 2..8 {
         machine.set(Width::Long, register, start);
     }
@@ -264,7 +264,8 @@ fn large_repeat(bench: &mut Bench, count: u32, code: [u8; 2]) {
     if bench.chance.once_in(2) {
         ram.put(if downward { 0x10 } else { 0xFFE0 }, &[0, 0]);
     }
-    let mut repeat = in_rom(&machine, &code, ram, Call::Run(70_000));
+    let chance = &mut bench.chance;
+    let mut repeat = in_rom(chance, &machine, &code, ram, Call::Run(70_000));
     // The single form, and back to it while BC is not 0 (V) and, for a
     // compare, nothing was found (Z).
     let single = [code[0], code[1] & !1];

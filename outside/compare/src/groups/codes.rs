@@ -152,7 +152,7 @@ pub fn full_memories(bench: &mut Bench) {
             rom: aim::noise(&mut bench.chance, layout.rom),
         };
         for form in &forms {
-            case.record = aim::record(&mut bench.chance, layout);
+            case.record = aim::any_record(&mut bench.chance, layout);
             let code = aim::code(&mut bench.chance, form, layout);
             place_code(&mut bench.chance, layout, &mut case, &code);
             bench.judge.hold(&case);
@@ -170,7 +170,7 @@ pub fn aimed_case(chance: &mut Chance, form: &Form) -> Case {
     let code = aim::code(chance, form, layout);
     let mut case = Case {
         call: Call::Step,
-        record: aim::record(chance, layout),
+        record: aim::any_record(chance, layout),
         ram: aim::noise(chance, layout.ram),
         rom: aim::noise(chance, layout.rom),
     };

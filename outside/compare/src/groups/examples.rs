@@ -1,5 +1,5 @@
 //! The worked examples, run on the library: the books', document 01's cases
-//! and those worked by hand.
+//! and those worked by hand, with the marks and without.
 
 use super::Bench;
 use crate::case::{Call, Case};
@@ -23,19 +23,21 @@ fn example_holds(bench: &mut Bench, example: &Example) {
         ram: Image::of(&start.ram),
         rom: Image::of(&start.rom),
     };
+    let (done, number, at) = example.answer();
     let answer = bench.judge.hold(&case);
-    let done = answer == Answer::counted((example.steps, 0));
+    let answered = answer == Answer::run(example.answer());
     let (record, ram) = bench.judge.left();
-    let right = done && record == end.record && ram == end.ram;
+    let right = answered && record == end.record && ram == end.ram;
     bench.judge.expect(right, || told(example, &case));
 
     case.call = Call::Step;
     let whole = case.clone();
-    let done = (0..example.steps).all(|_| {
+    let answered = (0..example.steps).all(|before| {
         let answer = bench.judge.hold_and_carry(&mut case);
-        answer == Answer::number(0)
+        let wanted = if before < done { (0, 0) } else { (number, at) };
+        answer == Answer::step(wanted)
     });
-    let right = done && case.record == end.record && case.ram.bytes == end.ram;
+    let right = answered && case.record == end.record && case.ram.bytes == end.ram;
     bench.judge.expect(right, || told(example, &whole));
 }
 

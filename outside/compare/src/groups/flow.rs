@@ -35,10 +35,12 @@ pub fn conditions(bench: &mut Bench) {
             for distance in [0, 1, 0x7F, 0x80, 0xFE, 0xFF] {
                 let mut case = near_the_top(bench, &[0x60 + condition, distance], 2);
                 case.record[F] = f;
+                aim::draw_marks(&mut bench.chance, &mut case.record);
                 bench.judge.hold(&case);
                 let high = bench.chance.pick(&[0x00, 0x7F, 0x80, 0xFF]);
                 let mut case = near_the_top(bench, &[0x70 + condition, distance, high], 3);
                 case.record[F] = f;
+                aim::draw_marks(&mut bench.chance, &mut case.record);
                 bench.judge.hold(&case);
             }
         }
@@ -50,7 +52,7 @@ pub fn conditions(bench: &mut Bench) {
 
 /// The codes that touch only the flags or the bank: every F, several F' and
 /// every bank; POP F of every byte; and LDF with every second byte, from every
-/// bank. The level is drawn; for POP F and LDF so are F and F'.
+/// bank. The level and the marks are drawn; for POP F and LDF so are F and F'.
 pub fn flag_codes(bench: &mut Bench) {
     for f in all_flags() {
         for spare in [0, f ^ FLAGS, bench.chance.byte() & FLAGS] {
@@ -61,6 +63,7 @@ pub fn flag_codes(bench: &mut Bench) {
                     case.record[F] = f;
                     case.record[BANK] = 0x88 | bank | level << 4;
                     case.record[F_PRIME] = spare;
+                    aim::draw_marks(&mut bench.chance, &mut case.record);
                     bench.judge.hold(&case);
                 }
             }

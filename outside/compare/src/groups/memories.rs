@@ -28,6 +28,9 @@ pub fn lengths(bench: &mut Bench) {
             each_call(bench, &mut case);
             case.record[F] |= 0x08;
             each_call(bench, &mut case);
+            case.record[F] &= !0x08;
+            aim::spoil(&mut bench.chance, &mut case.record);
+            each_call(bench, &mut case);
             case.record.pop();
             each_call(bench, &mut case);
             at_the_ends(bench, ram, rom);

@@ -18,6 +18,8 @@ const CALLS: [Call; 8] = [
     Call::Show(0xFFFF_FFFF),
 ];
 
+const LAYOUT: Layout = Layout { ram: 300, rom: 300 };
+
 pub fn all(bench: &mut Bench) {
     for empty in [Empty::Null, Empty::Dangling] {
         bench.judge.hand_empty_as(empty);
@@ -29,11 +31,10 @@ pub fn all(bench: &mut Bench) {
 
 /// Each slice empty, alone and with the others.
 fn nothing_lent(bench: &mut Bench) {
-    let layout = Layout { ram: 300, rom: 300 };
     for which in 0..8 {
         let length = |bit: u32, full: usize| if which & bit == 0 { full } else { 0 };
-        let (ram, rom) = (length(2, layout.ram), length(4, layout.rom));
-        let mut record = aim::record(&mut bench.chance, layout);
+        let (ram, rom) = (length(2, LAYOUT.ram), length(4, LAYOUT.rom));
+        let mut record = aim::record(&mut bench.chance, LAYOUT);
         record.truncate(length(1, record.len()));
         let mut case = Case {
             call: Call::Reset,
@@ -48,12 +49,17 @@ fn nothing_lent(bench: &mut Bench) {
     }
 }
 
-/// Records of noise of any length over memories of noise of any length.
+/// Records of noise of any length, and states' records, over memories of noise
+/// of any length.
 fn noise_lent(bench: &mut Bench) {
     for _ in 0..5_000 * bench.rounds {
-        let lengths = [0, 1, LENGTH - 1, LENGTH, LENGTH + 1, 200, LENGTH, LENGTH];
+        let lengths = [0, 1, 88, LENGTH - 1, LENGTH, LENGTH, LENGTH + 1, 200];
         let mut record = vec![0; bench.chance.pick(&lengths)];
         bench.chance.fill(&mut record);
+        // Noise is hardly ever a state's record.
+        if record.len() == LENGTH && bench.chance.once_in(2) {
+            record = aim::any_record(&mut bench.chance, LAYOUT);
+        }
         let mut length = || match bench.chance.below(40) {
             0 => 65_537,
             1 => 70_000,

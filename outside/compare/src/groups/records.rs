@@ -4,7 +4,7 @@ use super::Bench;
 use crate::aim::{self, Layout};
 use crate::case::{Call, Case};
 use crate::image::Image;
-use second::record::{COUNTER, LENGTH};
+use second::record::{COUNTER, F, F_PRIME, LENGTH, MARKS};
 
 const LAYOUT: Layout = Layout { ram: 32, rom: 32 };
 const CALLS: [Call; 4] = [Call::Step, Call::Run(0), Call::Run(2), Call::Run(1_000_001)];
@@ -25,8 +25,8 @@ fn hold_all(bench: &mut Bench, case: &mut Case) {
     }
 }
 
-/// Each bit of several good records turned over, alone and with others; and
-/// every value of the bytes that have rules.
+/// Each bit of several good records turned over, alone and with others; every
+/// value of the bytes that have rules; and every set of marks.
 pub fn bits(bench: &mut Bench) {
     for _ in 0..6 * bench.rounds {
         let mut case = with_record(aim::record(&mut bench.chance, LAYOUT));
@@ -47,13 +47,30 @@ pub fn bits(bench: &mut Bench) {
             }
             case.record[place] = kept;
         }
+        marks(bench, &mut case);
         if bench.judge.weary() {
             return;
         }
     }
 }
 
-/// Records of every length to 200: cut short, made longer, and of noise.
+/// Every value of the byte with the marks, with every H and V of F and F'.
+fn marks(bench: &mut Bench, case: &mut Case) {
+    const H_AND_V: [u8; 4] = [0x00, 0x04, 0x10, 0x14];
+    for marks in 0..=255 {
+        case.record[MARKS] = marks;
+        for f in H_AND_V {
+            for spare in H_AND_V {
+                case.record[F] = case.record[F] & !0x14 | f;
+                case.record[F_PRIME] = case.record[F_PRIME] & !0x14 | spare;
+                hold_all(bench, case);
+            }
+        }
+    }
+}
+
+/// Records of every length to 200, the old one of 88 bytes too: cut short, made
+/// longer, and of noise.
 pub fn lengths(bench: &mut Bench) {
     for length in 0..=200 {
         for _ in 0..2 * bench.rounds {

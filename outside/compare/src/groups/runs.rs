@@ -9,7 +9,7 @@ use crate::judge::Answer;
 use forms::Form;
 use second::record::COUNTER;
 
-const LAYOUT: Layout = Layout {
+pub const LAYOUT: Layout = Layout {
     ram: 2_048,
     rom: 2_048,
 };
@@ -28,6 +28,11 @@ pub fn noise(bench: &mut Bench) {
             let start = bench.chance.pick(&[0, LAYOUT.rom_start()]);
             let counter = start + bench.chance.below(2_048);
             aim::put_long(&mut case.record, COUNTER, counter);
+            if bench.chance.once_in(50) {
+                let mut spoilt = case.clone();
+                aim::spoil(&mut bench.chance, &mut spoilt.record);
+                bench.judge.hold(&spoilt);
+            }
             bench.judge.hold_and_carry(&mut case);
             if bench.judge.weary() {
                 return;
@@ -46,7 +51,7 @@ pub fn strung(bench: &mut Bench) {
             call: Call::Run(2_500),
             record: aim::record(&mut bench.chance, LAYOUT),
             ram: aim::noise(&mut bench.chance, LAYOUT.ram),
-            rom: string(&mut bench.chance, &forms),
+            rom: string(&mut bench.chance, |chance| drawn(chance, &forms)),
         };
         aim::put_long(&mut case.record, COUNTER, LAYOUT.rom_start());
         for _ in 0..LEGS {
@@ -59,12 +64,12 @@ pub fn strung(bench: &mut Bench) {
     }
 }
 
-/// A ROM of instructions that ends by going back to its start.
-fn string(chance: &mut Chance, forms: &[Form]) -> Image {
+/// A ROM of drawn instructions that ends by going back to its start.
+pub fn string(chance: &mut Chance, draw: impl Fn(&mut Chance) -> Vec<u8>) -> Image {
     let mut rom = Image::zeros(LAYOUT.rom);
     let mut place = 0;
     while place < LAYOUT.rom - 20 {
-        let code = drawn(chance, forms);
+        let code = draw(chance);
         rom.put(place, &code);
         place += code.len();
         // LD R,n32: XBC, XWA and the pointers, into the middle of RAM.
@@ -98,7 +103,7 @@ fn drawn(chance: &mut Chance, forms: &[Form]) -> Vec<u8> {
 }
 
 /// Puts the counter past the instruction it is at, or back to the start.
-fn skip(bench: &mut Bench, case: &mut Case) {
+pub fn skip(bench: &mut Bench, case: &mut Case) {
     let at = aim::get_long(&case.record, COUNTER);
     let mut shown = case.clone();
     shown.call = Call::Show(at);
@@ -181,7 +186,7 @@ pub fn as_steps(bench: &mut Bench) {
             call: Call::Step,
             record: aim::record(&mut bench.chance, LAYOUT),
             ram: aim::noise(&mut bench.chance, LAYOUT.ram),
-            rom: string(&mut bench.chance, &forms),
+            rom: string(&mut bench.chance, |chance| drawn(chance, &forms)),
         };
         aim::put_long(&mut case.record, COUNTER, LAYOUT.rom_start());
         for _ in 0..10 {

@@ -15,14 +15,22 @@
 //!
 //! - `HL=1234`: a register by its book name, `F=42` and `F'=42` the flags,
 //!   `BANK=3` the current bank;
+//! - `F?=H`, `F?=V`, `F?=HV`, `F?=-`: which flags of F are marked as undefined,
+//!   or that none is; `F'?=H` and so on those of F';
 //! - `PC=002034`: the counter, and `+2` the counter two past the first byte of
 //!   the code;
-//! - `[0100]=56,78`: bytes of RAM, one after another from the address on.
+//! - `[0100]=56,78`: bytes of RAM, one after another from the address on;
+//! - `ROM=10`: a ROM of so many zero bytes, where none is there otherwise.
+//!
+//! After stands, too, how the last step is refused, if it is: `!8` by its
+//! number, `!5@010000` with the address that goes with it. The steps before it
+//! are done.
 //!
 //! A line whose first three columns are empty goes on with the example above
 //! it. Empty lines, and those that begin with `#`, are for the reader only.
 
-use super::{Example, Part};
+use super::{Example, Part, Refused};
+use crate::flags::Marks;
 use crate::record;
 
 /// The examples of a table, in its order. A line that is none stops
@@ -47,6 +55,17 @@ fn add(examples: &mut Vec<Example>, line: &'static str) -> Option<()> {
         examples.push(begin(name, source, code)?);
     }
     let example = examples.last_mut()?;
+    let (refusals, after): (Vec<&str>, Vec<&str>) = after
+        .split_whitespace()
+        .partition(|word| word.starts_with('!'));
+    for word in refusals {
+        let again = example.refused.replace(refusal(word)?);
+        // Only one step can be the refused one, and there has to be one.
+        if again.is_some() || example.steps == 0 {
+            return None;
+        }
+    }
+    let before = before.split_whitespace().collect();
     example.before.append(&mut parts(before, example.at)?);
     example.after.append(&mut parts(after, example.at)?);
     Some(())
@@ -75,14 +94,25 @@ fn begin(name: &'static str, source: &'static str, code: &str) -> Option<Example
         code: words.into_iter().map(byte).collect::<Option<_>>()?,
         before: Vec::new(),
         steps,
+        refused: None,
         after: Vec::new(),
     })
 }
 
+/// A number of one digit that is not 0, and an address where there is one.
+fn refusal(word: &str) -> Option<Refused> {
+    let told = word.strip_prefix('!')?;
+    let (digit, at) = told.split_once('@').unwrap_or((told, "0"));
+    Some(Refused {
+        number: number(digit, 1).filter(|&number| number != 0)?,
+        at: number(at, 6)?,
+    })
+}
+
 /// What a column before or after says of an example whose code begins there.
-fn parts(column: &'static str, at: u16) -> Option<Vec<Part>> {
+fn parts(column: Vec<&'static str>, at: u16) -> Option<Vec<Part>> {
     let mut parts = Vec::new();
-    for word in column.split_whitespace() {
+    for word in column {
         if let Some(past) = word.strip_prefix('+') {
             parts.push(Part::Counter(u32::from(at) + number::<u32>(past, 2)?));
             continue;
@@ -111,6 +141,9 @@ fn named(name: &'static str, value: &str) -> Option<Part> {
     Some(match name {
         "F" => Part::F(byte(value)?),
         "F'" => Part::SpareF(byte(value)?),
+        "F?" => Part::Marks(marks(value)?),
+        "F'?" => Part::SpareMarks(marks(value)?),
+        "ROM" => Part::Rom(number(value, 4)?),
         "BANK" => Part::Bank(number(value, 1).filter(|&bank| bank < 4)?),
         "PC" => Part::Counter(number(value, 6)?),
         _ => {
@@ -118,6 +151,18 @@ fn named(name: &'static str, value: &str) -> Option<Part> {
             Part::Register(name, number(value, 2 * size)?)
         }
     })
+}
+
+/// The flags that are marked, by their letters.
+fn marks(letters: &str) -> Option<Marks> {
+    let (h, v) = match letters {
+        "H" => (true, false),
+        "V" => (false, true),
+        "HV" => (true, true),
+        "-" => (false, false),
+        _ => return None,
+    };
+    Some(Marks { h, v })
 }
 
 /// A byte has two digits, no fewer, so that none is lost unseen.
@@ -142,8 +187,10 @@ mod tests {
         let text = "# A remark.\n\n\
             one   | here  | @2000 68 32 x3 | A=33 XIX=3456 F=01 F'=02 BANK=3 | PC=002034\n\
                   |       |                | [3456]=11,22                    | +2\n\
-            EX #2 | there | 16             |                                 | +1\n";
-        let [one, two] = <[Example; 2]>::try_from(read("table", text)).unwrap();
+            EX #2 | there | 16             |                                 | +1\n\
+            three | there | 00 18 x2       | F?=HV F'?=H ROM=10              | +1 !8\n\
+            four  | there | 18             | F?=- F'?=V                      | !5@012345\n";
+        let [one, two, three, four] = <[Example; 4]>::try_from(read("table", text)).unwrap();
         assert_eq!((one.name, one.source), ("one", "here"));
         assert_eq!((one.at, one.steps), (0x2000, 3));
         assert_eq!(one.code, [0x68, 0x32]);
@@ -161,6 +208,17 @@ mod tests {
         assert_eq!((two.name, two.at, two.steps), ("EX #2", 0x8000, 1));
         assert!(two.before.is_empty());
         assert_eq!(two.after, [Part::Counter(0x8001)]);
+        assert_eq!(one.answer(), (3, 0, 0));
+        assert_eq!(two.answer(), (1, 0, 0));
+        let (none, h, v, both) = ((false, false), (true, false), (false, true), (true, true));
+        let marks = |(h, v)| Part::Marks(Marks { h, v });
+        let spare = |(h, v)| Part::SpareMarks(Marks { h, v });
+        assert_eq!(three.before, [marks(both), spare(h), Part::Rom(16)]);
+        assert_eq!(three.after, [Part::Counter(0x8001)]);
+        assert_eq!(three.answer(), (1, 8, 0));
+        assert_eq!(four.before, [marks(none), spare(v)]);
+        assert!(four.after.is_empty());
+        assert_eq!(four.answer(), (0, 5, 0x01_2345));
     }
 
     #[test]
@@ -209,6 +267,19 @@ mod tests {
             "NOP | 01 | 00 | [FFFF]=00,00 | +1",
             "NOP | 01 | 00 | | PC=1000000",
             "NOP | 01 | 00 | | +",
+            "NOP | 01 | 00 | F?= | +1",
+            "NOP | 01 | 00 | F?=VH | +1",
+            "NOP | 01 | 00 | F?=0 | +1",
+            "NOP | 01 | 00 | F'?=HVH | +1",
+            "NOP | 01 | 00 | ROM=10000 | +1",
+            "NOP | 01 | 00 | !8 | ",
+            "NOP | 01 | 00 | | !",
+            "NOP | 01 | 00 | | !0",
+            "NOP | 01 | 00 | | !10",
+            "NOP | 01 | 00 | | !5@",
+            "NOP | 01 | 00 | | !5@1000000",
+            "NOP | 01 | 00 | | !8 !8",
+            "NOP | 01 | 00 x0 | | !8",
         ];
         for slip in slips {
             let mut examples = read("table", "NOP | 01 | 00 | | +1");

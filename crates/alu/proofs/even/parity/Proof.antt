@@ -1,5 +1,5 @@
 use mathlib.Core.Path.{_∙_}
-use Rattle.alu.specs.Parity.{parityOf}
+use Rattle.alu.specs.inner.Parity.{parityOf}
 use Rattle.alu.proofs.Ones.{even-low, even-halves}
 use borrow.Author.Needs.{needs}
 use Rattle.alu.proofs.even.parity.Statement.{statement}

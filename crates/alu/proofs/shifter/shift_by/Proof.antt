@@ -1,5 +1,5 @@
 use mathlib.Core.Path.{_∙_}
-use Rattle.alu.specs.Logic.{plain}
+use Rattle.alu.proofs.Results.{plain-made}
 use Rattle.alu.proofs.Shifts.{shift-made}
 use borrow.Author.Needs.{needs}
 use Rattle.alu.proofs.shifter.shift_by.Statement.{statement}
@@ -29,28 +29,30 @@ cast-r c = search needs
 parity-requires : tie.Need-parity-requires
 parity-requires c κs = search needs
 
+marks-requires : tie.Need-marks-requires
+marks-requires c κs = search needs
+
 judged-requires : tie.Need-judged-requires
 judged-requires c κs = search needs
 
 returns : tie.Need-returns
-unfolding plain
 returns c = c .judged .ensures
-    ∙ (simp (c .before .parity .ensures))
+    ∙ plain-made _ _ _ _ _ _ (c .before .before .parity .ensures) (c .before .marks .ensures)
     ∙ shift-made
-    (c .before .before .before .before .before .before .before .before .args .kind)
-    (c .before .before .before .before .before .before .before .before .args .size)
-    (c .before .before .before .before .before .before .before .before .args .a)
+    (c .before .before .before .before .before .before .before .before .before .args .kind)
+    (c .before .before .before .before .before .before .before .before .before .args .size)
+    (c .before .before .before .before .before .before .before .before .before .args .a)
     _
-    (c .before .before .before .before .before .before .before .low .result)
-    (c .before .before .before .before .before .before .top .result)
-    (c .before .before .before .before .before .comes-in .result)
-    (c .before .before .places .result)
-    (c .before .before .before .before .goes-left .result)
-    (c .before .before .before .before .before .before .before .low .ensures .0)
-    (c .before .before .before .before .before .before .top .ensures .0)
-    (c .before .before .before .before .before .comes-in .ensures .0)
-    (c .before .before .before .before .goes-left .ensures)
-    (simp (← c .before .before .before .places-of .ensures) (c .before .before .places .ensures))
+    (c .before .before .before .before .before .before .before .before .low .result)
+    (c .before .before .before .before .before .before .before .top .result)
+    (c .before .before .before .before .before .before .comes-in .result)
+    (c .before .before .before .places .result)
+    (c .before .before .before .before .before .goes-left .result)
+    (c .before .before .before .before .before .before .before .before .low .ensures .0)
+    (c .before .before .before .before .before .before .before .top .ensures .0)
+    (c .before .before .before .before .before .before .comes-in .ensures .0)
+    (c .before .before .before .before .before .goes-left .ensures)
+    (simp (← c .before .before .before .before .places-of .ensures) (c .before .before .before .places .ensures))
 
 pub shift-by-spec : {M : Type 1} → statement M
 shift-by-spec =
@@ -64,5 +66,6 @@ shift-by-spec =
     places-requires
     cast-r
     parity-requires
+    marks-requires
     judged-requires
     returns)

@@ -17,8 +17,8 @@ enum-known-v c = search needs
 read-requires : tie.Need-read-requires
 read-requires c κs = search needs
 
-operated-requires : tie.Need-operated-requires
-operated-requires c κs = search needs
+operate-requires : tie.Need-operate-requires
+operate-requires c κs = search needs
 
 stores-requires : tie.Need-stores-requires
 stores-requires c κs = search needs
@@ -36,7 +36,7 @@ returns : tie.Need-returns
 unfolding flagged withFlags withBothFlags
 returns c rest =
     let a = c .before .before .before .before .before .before .before .before .before .before .before .before .before .before .before .before .before .before .before .args in
-    rw (c .stored .ensures .0, c .stored .ensures .1, c .before .before .before .before .store .ensures .0, c .before .before .before .before .store .ensures .1, sym (c .before .before .before .before .before .before .before .before .before .before .before .before .before .before .before .load .ensures) ∙ c .before .before .before .before .before .before .before .before .before .before .before .before .before .v .given .1, sym (c .before .before .before .before .before .before .before .stores .ensures) ∙ c .before .before .before .before .before .before .if1 .taken, c .before .before .before .before .before .before .before .before .operated .ensures .0, c .before .before .before .before .before .before .before .before .operated .ensures .1, c .before .before .before .before .before .before .before .before .before .before .before .read .ensures)
+    rw (c .stored .ensures .0, c .stored .ensures .1, c .before .before .before .before .store .ensures .0, c .before .before .before .before .store .ensures .1, sym (c .before .before .before .before .before .before .before .before .before .before .before .before .before .before .before .load .ensures) ∙ c .before .before .before .before .before .before .before .before .before .before .before .before .before .v .given .1, sym (c .before .before .before .before .before .before .before .stores .ensures) ∙ c .before .before .before .before .before .before .if1 .taken, c .before .before .before .before .before .before .before .before .operate .ensures .0, c .before .before .before .before .before .before .before .before .operate .ensures .1, c .before .before .before .before .before .before .before .before .before .before .before .read .ensures)
     (store-or-kept (a .ram .now) (a .rom .now) (a .at) (a .size) _ (λ (f : ℕ). bankedWith rest (a .regs .now) (a .bank) f) (a .flags .now) _)
 
 enum-known-a : tie.Need-enum-known-a
@@ -47,7 +47,7 @@ same-length-2 c = search needs
 
 returns-2 : tie.Need-returns-2
 unfolding flagged withFlags withBothFlags
-returns-2 c rest = rw (sym (c .before .before .before .before .before .before .before .before .before .load .ensures) ∙ c .before .before .before .before .before .before .before .v .given .1, sym (c .before .stores .ensures) ∙ c .if1 .left, c .before .before .operated .ensures .1, c .before .before .before .before .before .read .ensures) refl
+returns-2 c rest = rw (sym (c .before .before .before .before .before .before .before .before .before .load .ensures) ∙ c .before .before .before .before .before .before .before .v .given .1, sym (c .before .stores .ensures) ∙ c .if1 .left, c .before .before .operate .ensures .1, c .before .before .before .before .before .read .ensures) refl
 
 same-length-3 : tie.Need-same-length-3
 same-length-3 c = search needs
@@ -56,4 +56,4 @@ returns-3 : tie.Need-returns-3
 returns-3 c rest = rw (sym (c .before .before .before .load .ensures) ∙ c .before .a .given .1) refl
 
 pub second-spec : {M : Type 1} → statement M
-second-spec = tie.close (tie.spec load-requires enum-known-v read-requires operated-requires stores-requires store-requires stored-requires same-length returns enum-known-a same-length-2 returns-2 same-length-3 returns-3)
+second-spec = tie.close (tie.spec load-requires enum-known-v read-requires operate-requires stores-requires store-requires stored-requires same-length returns enum-known-a same-length-2 returns-2 same-length-3 returns-3)

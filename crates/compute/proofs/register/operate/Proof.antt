@@ -14,8 +14,8 @@ read-requires c κs = search needs
 read-requires-2 : tie.Need-read-requires-2
 read-requires-2 c κs = search needs
 
-operated-requires : tie.Need-operated-requires
-operated-requires c κs = search needs
+operate-requires : tie.Need-operate-requires
+operate-requires c κs = search needs
 
 stores-requires : tie.Need-stores-requires
 stores-requires c κs = search needs
@@ -25,11 +25,11 @@ write-requires c κs = search needs
 
 returns : tie.Need-returns
 unfolding putsOf valueIn flagged withFlags withBothFlags
-returns c rest ram rom = rw (c .write .ensures (flaggedAt rest (rest .counter) (c .before .before .before .before .operated .last .1 .1 .1 .1 .0)), sym (c .before .before .before .stores .ensures) ∙ c .before .before .if1 .taken, c .before .before .before .before .operated .ensures .0, c .before .before .before .before .operated .ensures .1, c .before .before .before .before .before .before .before .before .read .ensures, c .before .before .before .before .before .before .read2 .ensures) refl
+returns c rest ram rom = rw (c .write .ensures (flaggedAt rest (rest .counter) (c .before .before .before .before .operate .last .1 .1 .1 .1 .0)), sym (c .before .before .before .stores .ensures) ∙ c .before .before .if1 .taken, c .before .before .before .before .operate .ensures .0, c .before .before .before .before .operate .ensures .1, c .before .before .before .before .before .before .before .before .read .ensures, c .before .before .before .before .before .before .read2 .ensures) refl
 
 returns-2 : tie.Need-returns-2
 unfolding putsOf valueIn flagged withFlags withBothFlags
-returns-2 c rest ram rom = rw (sym (c .before .stores .ensures) ∙ c .if1 .left, c .before .before .operated .ensures .1, c .before .before .before .before .before .before .read .ensures, c .before .before .before .before .read2 .ensures) refl
+returns-2 c rest ram rom = rw (sym (c .before .stores .ensures) ∙ c .if1 .left, c .before .before .operate .ensures .1, c .before .before .before .before .before .before .read .ensures, c .before .before .before .before .read2 .ensures) refl
 
 pub operate-spec : {M : Type 1} → statement M
-operate-spec = tie.close (tie.spec read-requires read-requires-2 operated-requires stores-requires write-requires returns returns-2)
+operate-spec = tie.close (tie.spec read-requires read-requires-2 operate-requires stores-requires write-requires returns returns-2)

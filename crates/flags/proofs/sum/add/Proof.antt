@@ -51,12 +51,15 @@ half-requires c κs = search needs
 turned-requires : tie.Need-turned-requires
 turned-requires c κs = search needs
 
+marks-requires : tie.Need-marks-requires
+marks-requires c κs = search needs
+
 returns : tie.Need-returns
 returns c =
-    let o = c .before .before in
+    let o = c .before .before .before in
     let r = o .before in
     let a = r .before .args in
-    sum-raised (a .size) (a .a) (a .b) (a .carry) (r .room .result) (o .one .result) (r .room .ensures .0) (o .one .ensures .0) _ _ (c .before .half .ensures) (c .turned .ensures)
+    sum-raised (a .size) (a .a) (a .b) (a .carry) (r .room .result) (o .one .result) (r .room .ensures .0) (o .one .ensures .0) _ _ _ (c .before .before .half .ensures) (c .before .turned .ensures) (c .marks .ensures (a .size) (r .room .ensures .0))
 
 pub add-spec : {M : Type 1} → statement M
 add-spec =
@@ -77,4 +80,5 @@ add-spec =
     shr-half
     half-requires
     turned-requires
+    marks-requires
     returns)

@@ -60,12 +60,15 @@ turned-less-requires c κs = search needs
 cast-t10 : tie.Need-cast-t10
 cast-t10 c = search needs
 
+marks-requires : tie.Need-marks-requires
+marks-requires c κs = search needs
+
 returns : tie.Need-returns
 returns c =
-    let o = c .before .before in
+    let o = c .before .before .before in
     let r = o .before in
     let a = r .before .args in
-    difference-raised (a .size) (a .a) (a .b) (a .carry) (r .room .result) (o .one .result) (r .room .ensures .0) (o .one .ensures .0) _ _ (c .before .half .ensures) (c .turned-less .ensures)
+    difference-raised (a .size) (a .a) (a .b) (a .carry) (r .room .result) (o .one .result) (r .room .ensures .0) (o .one .ensures .0) _ _ _ (c .before .before .half .ensures) (c .before .turned-less .ensures) (c .marks .ensures (a .size) (r .room .ensures .0))
 
 pub sub-spec : {M : Type 1} → statement M
 sub-spec =
@@ -88,4 +91,5 @@ sub-spec =
     half-requires
     turned-less-requires
     cast-t10
+    marks-requires
     returns)

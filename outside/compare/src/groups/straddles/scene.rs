@@ -4,7 +4,9 @@ use super::access::{Access, Kind};
 use crate::aim::{self, Layout};
 use crate::case::{Call, Case};
 use crate::chance::Chance;
-use second::record::COUNTER;
+use second::record::{COUNTER, MARKS};
+
+const PUSH_F: u8 = 0x18;
 
 /// How many NOPs stand before the code.
 pub const MOST_LED: u32 = 3;
@@ -59,6 +61,11 @@ impl Scene {
     /// a jump goes back to it.
     pub fn set(&mut self, chance: &mut Chance, access: &Access, led: u32, rounds: u32) {
         self.case.record = aim::record(chance, self.layout);
+        if access.code[0] == PUSH_F {
+            // With a mark it would be refused before the stack is looked at.
+            let of_spare = self.case.record[MARKS] & 0x0C;
+            aim::put_marks(&mut self.case.record, of_spare);
+        }
         aim::put_long(&mut self.case.record, COUNTER, self.home - led);
         for pointer in &access.pointers {
             let before = pointer.stride.wrapping_mul(rounds);
