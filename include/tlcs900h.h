@@ -73,8 +73,8 @@ extern "C" {
  *   1.1  LDF with 04 to 07 is done, where it was refused with 4: it selects the bank of the number's low two bits, 0 to 3
  *   2.0  tlcs900h_step and tlcs900h_run have one more parameter, `at`: the address that goes with 5 and 6. Compile again all
  *        that calls them: the linker does not notice an old call
- *   3.0  a record has 92 bytes, with the marks at offset 90; one of 88 is refused with 2. A jump whose condition reads a marked V, and PUSH F with a mark of
- *        F set, are refused with 8; before, they took the undefined flag as 0
+ *   3.0  a record has 92 bytes, with the marks at offset 90; one of 88 is refused with 2. A jump whose condition reads a
+ *        marked V, and PUSH F with a mark of F set, are refused with 8; before, they took the undefined flag as 0
  */
 #define TLCS900H_VERSION_MAJOR 3
 #define TLCS900H_VERSION_MINOR 0
