@@ -1,7 +1,7 @@
 -- What a caller is told: the numbers of refusal, in order of check, and the address that goes with 5 and 6.
 use Prim.Native.Nat.{ℕ}
 use Rattle.answer.specs.declared.Why.{Why}
-use Rattle.answer.specs.declared.Why.the-variants.{TooMany, TooLong, Invalid, NoCode, Unlisted, Undefined, Missing, ToRom}
+use Rattle.answer.specs.declared.Why.the-variants.{TooMany, TooLong, Invalid, BadRequest, NoCode, Unlisted, Undefined, Missing, ToRom}
 use Rattle.answer.specs.declared.Answer.{Answer}
 use Rattle.answer.specs.declared.Answer.the-variants.{Done, Refused}
 
@@ -10,6 +10,7 @@ abbrev pub whyTold : Why → ℕ × ℕ
 whyTold TooMany = (7, 0)
 whyTold TooLong = (1, 0)
 whyTold Invalid = (2, 0)
+whyTold BadRequest = (9, 0)
 whyTold NoCode = (3, 0)
 whyTold Unlisted = (4, 0)
 whyTold Undefined = (8, 0)

@@ -10,11 +10,13 @@ pub enum Why {
     TooLong,
     // The state is not valid, an address to show is too high, or a saved record breaks its rules.
     Invalid,
+    // A request's level is not 1 to 7, or its vector's address is too high.
+    BadRequest,
     // No memory at the counter, or an instruction that goes on where its memory ends.
     NoCode,
     // The bytes begin no listed instruction.
     Unlisted,
-    // A jump would decide by a flag that nobody defined, or PUSH F would store one.
+    // A jump would decide by a flag that nobody defined, or PUSH F or PUSH SR would store one.
     Undefined,
     // An operand is not whole in one memory: the address of its missing byte.
     Missing(u32),
@@ -35,6 +37,7 @@ pub fn why_number(w: Why) -> u8
         Why::TooMany => 7,
         Why::TooLong => 1,
         Why::Invalid => 2,
+        Why::BadRequest => 9,
         Why::NoCode => 3,
         Why::Unlisted => 4,
         Why::Undefined => 8,
@@ -61,6 +64,7 @@ fn why_at(w: Why) -> u32
         Why::TooMany => 0,
         Why::TooLong => 0,
         Why::Invalid => 0,
+        Why::BadRequest => 0,
         Why::NoCode => 0,
         Why::Unlisted => 0,
         Why::Undefined => 0,

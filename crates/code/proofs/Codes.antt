@@ -12,16 +12,17 @@ use Rattle.little.specs.Bytes.{bytesFrom}
 use Rattle.little.specs.declared.Size.{Size}
 use Rattle.little.specs.declared.Size.the-variants.{Byte, Word, Long}
 use Rattle.code.specs.declared.Op.{Op}
-use Rattle.code.specs.declared.Op.the-variants.{Controls, Stacks, Sets}
-use Rattle.code.specs.declared.Control.the-variants.{Nop, Incf, Decf, Rcf, Scf, Ccf, Zcf, Exf, Jp16, Jp24, Jr, Jrl}
+use Rattle.code.specs.declared.Op.the-variants.{Controls, Stacks, Sets, Interrupts}
+use Rattle.code.specs.declared.Control.the-variants.{Nop, Incf, Decf, Ldf, Rcf, Scf, Ccf, Zcf, Exf, Jp16, Jp24, Jr, Jrl, Ei}
 use Rattle.code.specs.declared.Stack.the-variants.{PushF, PopF, Call16, Call24, Calr, Ret}
+use Rattle.code.specs.declared.Interrupt.the-variants.{PushSr, PopSr, Reti}
 use Rattle.code.specs.declared.Base.{Base}
 use Rattle.code.specs.declared.Base.the-variants.{Indirect, Displaced, Absolute8, Absolute16, Absolute24}
 use Rattle.code.specs.declared.Operand.{Operand}
 use Rattle.code.specs.declared.Operand.the-variants.{Constant}
 use Rattle.code.specs.Rows.{Row, lookup, byRows, noLong}
 use Rattle.code.specs.Memory.{form, memoryRows, storeRows, copies, compares, blocks, blockRows, indirectRows}
-use Rattle.code.specs.Listed.{alone, withConstant, formWith, absoluteRows, bankNumberRows, bankRows, flagRows, constantRows, stackRows, jumpRows, relativeRows, registerFormRows, memoryFormRows, memoryAtRows, storeFormRows, aloneRows, memoryFirstRows, firstRows}
+use Rattle.code.specs.Listed.{alone, withConstant, formWith, absoluteRows, upToSevenRows, bankRows, flagRows, constantRows, stackRows, jumpRows, relativeRows, interruptRows, registerFormRows, memoryFormRows, memoryAtRows, storeFormRows, aloneRows, memoryFirstRows, firstRows}
 use Rattle.code.specs.Range.{Holds, that, InRange, baseRange, pointerRange}
 use Rattle.code.specs.Written.{codeOf, placeCode, sizeStep}
 use Rattle.code.proofs.RowBytes.{run-in, columns-in, computes, computes-into}
@@ -44,9 +45,9 @@ can-store : (o : Operand) → Can (byRows (storeRows o))
 unfolding storeRows lookup
 can-store o = (0x40, omega arith, tt)
 
-can-bank : Can (byRows bankNumberRows)
-unfolding bankNumberRows lookup
-can-bank = (0, omega arith, tt)
+can-up-to-seven : (op : Op) → Can (byRows (upToSevenRows op))
+unfolding upToSevenRows lookup
+can-up-to-seven op = (0, omega arith, tt)
 
 can-first : Can (byRows firstRows)
 unfolding firstRows aloneRows bankRows lookup
@@ -191,9 +192,16 @@ module _ (Y : Type 0) where
       ((v : ℕ) → v < 256 ^ n → InRange op z (Constant v)) → Walk Y (withConstant op z n) 1 (b ∷ [])
   constant-row op z n b c l f e q = (λ v. tt, λ v g. (omega arith, ap (λ (x : ℕ). x ∷ bytesFrom n v) f ∙ sym (e v), λ y. q v (g y)))
 
-  bank-number-rows : (b : ℕ) → b ≡ 0x17 → Rows Y bankNumberRows 2 (b ∷ [])
-  unfolding bankNumberRows codeOf
-  bank-number-rows b e = (λ n h. let x = run-in _ _ n h in (omega arith, ap (λ (x : ℕ). x ∷ n ∷ []) e, λ y. (tt, omega arith)), tt)
+  up-to-seven-rows :
+      (op : Op) (b c : ℕ) → b ≡ c → ((n : ℕ) → codeOf op Byte (Constant n) ≡ c ∷ n ∷ []) →
+      ((n : ℕ) → n < 8 → InRange op Byte (Constant n)) → Rows Y (upToSevenRows op) 2 (b ∷ [])
+  unfolding upToSevenRows
+  up-to-seven-rows op b c f e q = (λ n h. let x = run-in _ _ n h in (omega arith, ap (λ (x : ℕ). x ∷ n ∷ []) f ∙ sym (e n), λ y. q n (omega arith)), tt)
+
+  up-to-seven-row :
+      (op : Op) (c : ℕ) → ((n : ℕ) → codeOf op Byte (Constant n) ≡ c ∷ n ∷ []) → ((n : ℕ) → n < 8 → InRange op Byte (Constant n)) →
+      (b : ℕ) → eqb b c ≡ true → Walk Y (byRows (upToSevenRows op)) 1 (b ∷ [])
+  up-to-seven-row op c e q b h = by-rows Y (upToSevenRows op) 1 (b ∷ []) (can-up-to-seven op) (up-to-seven-rows op b c (eqb-true b c h) e q)
 
   bank-rows : Rows Y bankRows 1 []
   unfolding bankRows codeOf
@@ -204,7 +212,7 @@ module _ (Y : Type 0) where
       (
         alone-row (Controls Decf) 0x0D refl (tt, omega arith),
         (
-          λ b h. by-rows Y bankNumberRows 1 (b ∷ []) can-bank (bank-number-rows b (eqb-true b _ h)),
+          up-to-seven-row (Controls Ldf) 0x17 (λ n. refl) (λ n h. (tt, h)),
           tt,
         ),
       ),
@@ -297,6 +305,22 @@ module _ (Y : Type 0) where
     ),
   )
 
+  interrupt-rows : Rows Y interruptRows 1 []
+  unfolding interruptRows codeOf
+  interrupt-rows = (
+    alone-row (Interrupts PushSr) 0x02 refl (tt, omega arith),
+    (
+      alone-row (Interrupts PopSr) 0x03 refl (tt, omega arith),
+      (
+        up-to-seven-row (Controls Ei) 0x06 (λ n. refl) (λ n h. (tt, h)),
+        (
+          alone-row (Interrupts Reti) 0x07 refl (tt, omega arith),
+          tt,
+        ),
+      ),
+    ),
+  )
+
   register-form-rows : Rows Y registerFormRows 1 []
   unfolding registerFormRows
   register-form-rows = (
@@ -358,7 +382,8 @@ module _ (Y : Type 0) where
       (both Y flagRows _ 1 [] flag-rows
       (both Y constantRows _ 1 [] constant-rows
       (both Y stackRows _ 1 [] stack-rows
-      (both Y jumpRows _ 1 [] jump-rows relative-rows)))))
+      (both Y jumpRows _ 1 [] jump-rows
+      (both Y relativeRows _ 1 [] relative-rows interrupt-rows))))))
       (both Y registerFormRows _ 1 [] register-form-rows
       (both Y memoryFormRows _ 1 [] memory-form-rows
       (both Y memoryAtRows _ 1 [] memory-at-rows store-form-rows))))

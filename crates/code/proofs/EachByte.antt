@@ -9,8 +9,9 @@ use Rattle.little.specs.Width.{bytesOf}
 use Rattle.little.specs.declared.Size.{Size}
 use Rattle.little.specs.declared.Size.the-variants.{Byte, Word, Long}
 use Rattle.alu.specs.declared.Arith.{Arith}
+use Rattle.code.specs.declared.Op.{Op}
 use Rattle.code.specs.declared.Op.the-variants.{Controls, Stacks, Puts, Sets}
-use Rattle.code.specs.declared.Control.the-variants.{Ldf, Jr, Jrl}
+use Rattle.code.specs.declared.Control.the-variants.{Jr, Jrl}
 use Rattle.code.specs.declared.Stack.the-variants.{Push, Pop}
 use Rattle.code.specs.declared.Use.the-variants.{Number, From, Load, Compute}
 use Rattle.code.specs.declared.Side.the-variants.{First, Second, With}
@@ -22,7 +23,7 @@ use Rattle.code.specs.Said.{whole, number}
 use Rattle.code.specs.Rows.{Row, lookup, byRows, noLong, noByte}
 use Rattle.code.specs.Registers.{registerRows}
 use Rattle.code.specs.Memory.{form, memoryRows, storeRows, copies, compares, block, copy, compare, blocks, blockRows, indirectRows}
-use Rattle.code.specs.Listed.{withConstant, bankNumberRows, firstRows}
+use Rattle.code.specs.Listed.{withConstant, upToSevenRows, firstRows}
 use Rattle.code.specs.Range.{Holds, that, pointerRange}
 use Rattle.code.specs.Written.{sizeStep, arithNumber, blockCode}
 use Rattle.code.proofs.FirstRows.{first}
@@ -54,9 +55,9 @@ pub long-jump : (cc : ℕ) → cc < 16 → Lists firstRows (0x70 + cc) (withCons
 unfolding first
 long-jump = table _ _ 16 refl
 
-pub bank-number : (n : ℕ) → n < 8 → Lists bankNumberRows n (whole (Controls Ldf) Byte (Constant n))
-unfolding bankNumberRows lookup
-bank-number = table _ _ 8 refl
+pub up-to-seven : (op : Op) (n : ℕ) → n < 8 → Lists (upToSevenRows op) n (whole op Byte (Constant n))
+unfolding upToSevenRows lookup
+up-to-seven op = table _ _ 8 refl
 
 -- ---- register forms
 pub register-form : (z : Size) (r : ℕ) → r < 8 → Lists firstRows (0xC8 + sizeStep z + r) (byRows (registerRows z (Register r)))

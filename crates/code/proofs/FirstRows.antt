@@ -18,14 +18,14 @@ use Rattle.code.specs.Said.{Said, whole, unlisted}
 use Rattle.code.specs.Rows.{Row, lookup, byRows}
 use Rattle.code.specs.Registers.{registerRows}
 use Rattle.code.specs.Memory.{form, memoryRows, indirectRows}
-use Rattle.code.specs.Listed.{withConstant, formWith, absoluteRows, bankRows, flagRows, constantRows, stackRows, jumpRows, relativeRows, registerFormRows, memoryFormRows, memoryAtRows, storeFormRows, aloneRows, memoryFirstRows, firstRows}
+use Rattle.code.specs.Listed.{withConstant, formWith, absoluteRows, bankRows, flagRows, constantRows, stackRows, jumpRows, relativeRows, interruptRows, registerFormRows, memoryFormRows, memoryAtRows, storeFormRows, aloneRows, memoryFirstRows, firstRows}
 use Rattle.code.specs.inner.Parts.{sizeOf, rowsBegun}
 use Rattle.code.proofs.Groups.{Missed, Below, all-above}
 use Rattle.code.proofs.Tables.{table, besides, no-arm, in-run, in-arm, in-no-arm}
 
 -- all lists, opened
 unfoldable pub first : ℕ → Said
-unfolding firstRows aloneRows memoryFirstRows bankRows flagRows constantRows stackRows jumpRows relativeRows registerFormRows memoryFormRows memoryAtRows storeFormRows absoluteRows lookup
+unfolding firstRows aloneRows memoryFirstRows bankRows flagRows constantRows stackRows jumpRows relativeRows interruptRows registerFormRows memoryFormRows memoryAtRows storeFormRows absoluteRows lookup
 first b = lookup firstRows b
 
 -- ---- which list a first byte stands in
@@ -107,7 +107,7 @@ no-high = in-run _ (λ b. unlisted) 0x80 0x80 refl
 
 -- the groups whose bytes differ
 abbrev arms-00 : List (List ℕ)
-arms-00 = (0x0E ∷ []) ∷ (0x0D ∷ []) ∷ (0x0C ∷ []) ∷ (0x00 ∷ []) ∷ []
+arms-00 = (0x0E ∷ []) ∷ (0x0D ∷ []) ∷ (0x0C ∷ []) ∷ (0x07 ∷ []) ∷ (0x06 ∷ []) ∷ (0x03 ∷ []) ∷ (0x02 ∷ []) ∷ (0x00 ∷ []) ∷ []
 
 abbrev arms-10 : List (List ℕ)
 arms-10 = (0x17 ∷ []) ∷ (0x16 ∷ []) ∷ (0x13 ∷ []) ∷ (0x12 ∷ []) ∷ (0x11 ∷ []) ∷ (0x10 ∷ []) ∷ []

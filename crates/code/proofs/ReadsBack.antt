@@ -12,11 +12,13 @@ use Rattle.little.specs.declared.Size.{Size}
 use Rattle.little.specs.declared.Size.the-variants.{Byte, Word, Long}
 use Rattle.code.specs.declared.Form.{Form}
 use Rattle.code.specs.declared.Op.{Op}
-use Rattle.code.specs.declared.Op.the-variants.{Controls, Stacks, Puts, Sets, Blocks}
+use Rattle.code.specs.declared.Op.the-variants.{Controls, Stacks, Puts, Sets, Blocks, Interrupts}
 use Rattle.code.specs.declared.Control.{Control}
-use Rattle.code.specs.declared.Control.the-variants.{Nop, Incf, Decf, Ldf, Rcf, Scf, Ccf, Zcf, Exf, Jp16, Jp24, Jr, Jrl}
+use Rattle.code.specs.declared.Control.the-variants.{Nop, Incf, Decf, Ldf, Rcf, Scf, Ccf, Zcf, Exf, Jp16, Jp24, Jr, Jrl, Ei}
 use Rattle.code.specs.declared.Stack.{Stack}
 use Rattle.code.specs.declared.Stack.the-variants.{PushF, PopF, Push, Pop, Call16, Call24, Calr, Ret}
+use Rattle.code.specs.declared.Interrupt.{Interrupt}
+use Rattle.code.specs.declared.Interrupt.the-variants.{PushSr, PopSr, Reti}
 use Rattle.code.specs.declared.Use.{Use}
 use Rattle.code.specs.declared.Use.the-variants.{Number, From, Load, Compute, Changed}
 use Rattle.code.specs.declared.Side.{Side}
@@ -29,14 +31,14 @@ use Rattle.code.specs.Said.{Said, whole, number}
 use Rattle.code.specs.Rows.{Row, byRows, onlyByte, noLong}
 use Rattle.code.specs.Registers.{registerRows}
 use Rattle.code.specs.Memory.{form, memoryRows, storeRows}
-use Rattle.code.specs.Listed.{alone, withConstant, bankNumberRows, firstRows}
+use Rattle.code.specs.Listed.{alone, withConstant, upToSevenRows, firstRows}
 use Rattle.alu.specs.declared.Arith.{Arith}
-use Rattle.code.specs.Range.{Holds, that, InRange, controlRange, stackRange, sideRange, useRange, aloneRange, pointerRange, constantBelow, registerBelow, baseRange, memoryRange, placeRange, blockRange}
-use Rattle.code.specs.Written.{codeOf, controlCode, stackCode, sideCode, useCode, placeCode, baseCode, sizeStep, arithNumber, blockCode, constantIn, registerIn}
+use Rattle.code.specs.Range.{Holds, that, InRange, controlRange, stackRange, interruptRange, sideRange, useRange, aloneRange, upToSevenRange, pointerRange, constantBelow, registerBelow, baseRange, memoryRange, placeRange, blockRange}
+use Rattle.code.specs.Written.{codeOf, controlCode, stackCode, interruptCode, sideCode, useCode, placeCode, baseCode, sizeStep, arithNumber, blockCode, constantIn, registerIn}
 use Rattle.code.proofs.FirstRows.{first}
 use Rattle.code.proofs.Says.{Says, Lists, byte, value, next}
 use Rattle.code.proofs.RegisterRows.{of-change}
-use Rattle.code.proofs.EachByte.{set, push, pop, short-jump, long-jump, bank-number, register-form, load-constant, load, into, compute, compute-constant, moreRows, rowsOf, indirect, displaced, absolute-8, absolute-16, absolute-24, load-memory, compute-memory, compute-into, indirect-store, displaced-store, absolute-store, store, block-byte}
+use Rattle.code.proofs.EachByte.{set, push, pop, short-jump, long-jump, up-to-seven, register-form, load-constant, load, into, compute, compute-constant, moreRows, rowsOf, indirect, displaced, absolute-8, absolute-16, absolute-24, load-memory, compute-memory, compute-into, indirect-store, displaced-store, absolute-store, store, block-byte}
 
 -- the bytes p are this instruction
 abbrev Is : List ℕ → Op → Size → Operand → Type 0
@@ -70,8 +72,8 @@ on-byte P n f Long o h = absurd (h .0)
 is-alone : (op : Op) (b : ℕ) → Lists firstRows b (alone op) → (z : Size) (o : Operand) → Holds (aloneRange z o) → Is (b ∷ []) op z o
 is-alone op b e = on-byte _ 1 (λ v h. let q : v ≡ 0 = omega arith in rw q (byte firstRows b e))
 
-is-bank : Lists firstRows 0x17 (byRows bankNumberRows) → (z : Size) (o : Operand) → Holds (controlRange Ldf z o) → Is (0x17 ∷ constantIn o ∷ []) (Controls Ldf) z o
-is-bank e = on-byte _ _ (λ n h. next (byte firstRows 0x17 e) (byte bankNumberRows n (bank-number n h)))
+is-up-to-seven : (op : Op) (b : ℕ) → Lists firstRows b (byRows (upToSevenRows op)) → (z : Size) (o : Operand) → Holds (upToSevenRange z o) → Is (b ∷ constantIn o ∷ []) op z o
+is-up-to-seven op b e = on-byte _ _ (λ n h. next (byte firstRows b e) (byte (upToSevenRows op) n (up-to-seven op n h)))
 
 is-jump : (op : Op) (b n : ℕ) → Lists firstRows b (withConstant op Byte n) → (z : Size) (o : Operand) → Holds (that (onlyByte z)) × Holds (constantBelow (256 ^ n) o) → Is (b ∷ bytesFrom n (constantIn o)) op z o
 is-jump op b n e = on-byte _ (256 ^ n) (λ v h. next (byte firstRows b e) (value n v h))
@@ -165,7 +167,7 @@ unfolding first
 of-control Nop z o h = is-alone (Controls Nop) 0x00 refl z o h
 of-control Incf z o h = is-alone (Controls Incf) 0x0C refl z o h
 of-control Decf z o h = is-alone (Controls Decf) 0x0D refl z o h
-of-control Ldf z o h = is-bank refl z o h
+of-control Ldf z o h = is-up-to-seven (Controls Ldf) 0x17 refl z o h
 of-control Rcf z o h = is-alone (Controls Rcf) 0x10 refl z o h
 of-control Scf z o h = is-alone (Controls Scf) 0x11 refl z o h
 of-control Ccf z o h = is-alone (Controls Ccf) 0x12 refl z o h
@@ -175,6 +177,7 @@ of-control Jp16 z o h = is-jump (Controls Jp16) 0x1A 2 refl z o h
 of-control Jp24 z o h = is-jump (Controls Jp24) 0x1B 3 refl z o h
 of-control (Jr cc) z o h = is-jump (Controls (Jr cc)) (0x60 + cc) 1 (short-jump cc (h .0)) z o (h .1)
 of-control (Jrl cc) z o h = is-jump (Controls (Jrl cc)) (0x70 + cc) 2 (long-jump cc (h .0)) z o (h .1)
+of-control Ei z o h = is-up-to-seven (Controls Ei) 0x06 refl z o h
 
 of-stack : (what : Stack) (z : Size) (o : Operand) → Holds (stackRange what z o) → Is (stackCode what z o) (Stacks what) z o
 unfolding first
@@ -186,6 +189,12 @@ of-stack Call16 z o h = is-jump (Stacks Call16) 0x1C 2 refl z o h
 of-stack Call24 z o h = is-jump (Stacks Call24) 0x1D 3 refl z o h
 of-stack Calr z o h = is-jump (Stacks Calr) 0x1E 2 refl z o h
 of-stack Ret z o h = is-alone (Stacks Ret) 0x0E refl z o h
+
+of-interrupt : (what : Interrupt) (z : Size) (o : Operand) → Holds (interruptRange what z o) → Is (interruptCode what) (Interrupts what) z o
+unfolding first
+of-interrupt PushSr z o h = is-alone (Interrupts PushSr) 0x02 refl z o h
+of-interrupt PopSr z o h = is-alone (Interrupts PopSr) 0x03 refl z o h
+of-interrupt Reti z o h = is-alone (Interrupts Reti) 0x07 refl z o h
 
 of-side : (a : Arith) (other : Side) (z : Size) (o : Operand) → Holds (sideRange other z o) → Is (placeCode (sizeStep z) o ++ sideCode a other z) (Puts (Compute a other)) z o
 of-side a (First r) z o h = place-byte z o (0x80 + 16 * arithNumber a + r) (h .1) (compute z o a r (h .0)) (λ more. compute-memory z o more a r (h .0))
@@ -212,3 +221,4 @@ reads (Sets r) z o h = is-set r (h .0) z o (h .1)
 reads (Blocks f) z (Register r) h = absurd (h .1 .1 .1)
 reads (Blocks f) z (Constant v) h = absurd (h .1 .1 .1)
 reads (Blocks f) z (Memory m) h = is-block f z (m .base) (m .number) h
+reads (Interrupts what) z o h = of-interrupt what z o h

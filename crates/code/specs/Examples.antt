@@ -8,13 +8,14 @@ use Rattle.alu.specs.declared.change.Change.the-variants.{Inc, Dec, ShiftBy, Ex
 use Rattle.code.specs.{declared.Operand.the-variants.Register, declared.Operand.the-variants.Constant, declared.Decoded.Decoded}
 use Rattle.code.specs.{declared.Decoded.the-variants.Short, declared.Decoded.the-variants.Unlisted, Said.judge, Said.numberAt, Said.wholeOf}
 use Rattle.code.specs.{Rows.lookup, Registers.registerRows, Registers.placesRows, Memory.form, Memory.memoryRows, Memory.storeRows}
-use Rattle.code.specs.{Memory.copies, Memory.compares, Memory.blocks, Memory.indirectRows, Listed.absoluteRows, Listed.bankNumberRows}
+use Rattle.code.specs.{Memory.copies, Memory.compares, Memory.blocks, Memory.indirectRows, Listed.absoluteRows, Listed.upToSevenRows}
 use Rattle.code.specs.{Listed.bankRows, Listed.flagRows, Listed.constantRows, Listed.stackRows, Listed.jumpRows, Listed.relativeRows}
-use Rattle.code.specs.{Listed.registerFormRows, Listed.memoryFormRows, Listed.memoryAtRows, Listed.storeFormRows, Listed.aloneRows}
+use Rattle.code.specs.{Listed.interruptRows, Listed.registerFormRows, Listed.memoryFormRows, Listed.memoryAtRows, Listed.storeFormRows, Listed.aloneRows}
 use Rattle.code.specs.{Listed.memoryFirstRows, Listed.firstRows, Listed.decodeOf}
-use Rattle.code.specs.declared.Op.the-variants.{Controls, Stacks, Puts, Sets, Blocks}
-use Rattle.code.specs.declared.Control.the-variants.{Nop, Incf, Decf, Ldf, Zcf, Exf, Jp24, Jr, Jrl}
+use Rattle.code.specs.declared.Op.the-variants.{Controls, Stacks, Puts, Sets, Blocks, Interrupts}
+use Rattle.code.specs.declared.Control.the-variants.{Nop, Incf, Decf, Ldf, Zcf, Exf, Jp24, Jr, Jrl, Ei}
 use Rattle.code.specs.declared.Stack.the-variants.{PopF, Push, Pop, Call16, Calr, Ret}
+use Rattle.code.specs.declared.Interrupt.the-variants.{PushSr, PopSr, Reti}
 use Rattle.code.specs.declared.Use.the-variants.{Number, From, Load, Compute, Changed}
 use Rattle.code.specs.declared.Side.the-variants.{First, Second, With}
 use Rattle.code.specs.declared.Base.the-variants.{Indirect, Displaced, Absolute8, Absolute16, Absolute24}
@@ -51,6 +52,10 @@ examples =
     -- relative jumps
     ((0x68 ∷ 0x32 ∷ []) is wholeOf (Controls (Jr 8)) Byte (Constant 0x32) 2) ∷
     ((0x7E ∷ 0x00 ∷ 0x80 ∷ []) is wholeOf (Controls (Jrl 14)) Byte (Constant 0x8000) 3) ∷
+    -- PUSH SR, POP SR, EI, RETI
+    ((0x02 ∷ []) is wholeOf (Interrupts PushSr) Byte (Constant 0) 1) ∷ ((0x03 ∷ []) is wholeOf (Interrupts PopSr) Byte (Constant 0) 1) ∷
+    ((0x06 ∷ 0x00 ∷ []) is wholeOf (Controls Ei) Byte (Constant 0) 2) ∷ ((0x06 ∷ 0x07 ∷ []) is wholeOf (Controls Ei) Byte (Constant 7) 2) ∷
+    ((0x07 ∷ []) is wholeOf (Interrupts Reti) Byte (Constant 0) 1) ∷
     -- register forms
     ((0xC9 ∷ 0x03 ∷ 0x05 ∷ []) is wholeOf (Puts (Number 5)) Byte (Register 1) 3) ∷
     ((0xEF ∷ 0x03 ∷ 0x04 ∷ 0x03 ∷ 0x02 ∷ 0x01 ∷ []) is wholeOf (Puts (Number 0x01020304)) Long (Register 7) 6) ∷
@@ -85,14 +90,15 @@ examples =
     -- short
     (([]) is Short) ∷ ((0x17 ∷ []) is Short) ∷ ((0x42 ∷ 0x01 ∷ 0x02 ∷ 0x03 ∷ []) is Short) ∷ ((0xDB ∷ 0xEC ∷ []) is Short) ∷
     ((0xC9 ∷ 0xC8 ∷ []) is Short) ∷ ((0xC1 ∷ 0x34 ∷ []) is Short) ∷ ((0xC1 ∷ 0x34 ∷ 0x12 ∷ []) is Short) ∷ ((0x83 ∷ []) is Short) ∷
-    ((0xF2 ∷ []) is Short) ∷
+    ((0xF2 ∷ []) is Short) ∷ ((0x06 ∷ []) is Short) ∷
     -- unlisted
     ((0x2F ∷ []) is Unlisted) ∷ ((0x3F ∷ []) is Unlisted) ∷ ((0x4F ∷ []) is Unlisted) ∷ ((0x5F ∷ []) is Unlisted) ∷ ((0x01 ∷ []) is Unlisted) ∷
     ((0x17 ∷ 0x08 ∷ []) is Unlisted) ∷ ((0xDB ∷ 0xEC ∷ 0x10 ∷ []) is Unlisted) ∷ ((0xC8 ∷ 0x12 ∷ []) is Unlisted) ∷ ((0x84 ∷ 0x10 ∷ []) is Unlisted) ∷
     ((0x80 ∷ 0x14 ∷ []) is Unlisted) ∷ ((0x93 ∷ 0x18 ∷ []) is Unlisted) ∷ ((0xA3 ∷ 0x11 ∷ []) is Unlisted) ∷ ((0xFF ∷ []) is Unlisted) ∷
-    ((0xB3 ∷ 0x20 ∷ []) is Unlisted) ∷ ((0xC3 ∷ []) is Unlisted) ∷ []
+    ((0xB3 ∷ 0x20 ∷ []) is Unlisted) ∷ ((0xC3 ∷ []) is Unlisted) ∷ ((0x06 ∷ 0x08 ∷ []) is Unlisted) ∷ ((0x04 ∷ []) is Unlisted) ∷
+    ((0x05 ∷ []) is Unlisted) ∷ ((0x08 ∷ []) is Unlisted) ∷ []
 
 -- all of them are so, by computation
 pub decoded : map (λ e. decodeOf (e .code)) examples ≡ map (λ e. e .means) examples
-unfolding decodeOf firstRows aloneRows memoryFirstRows bankRows bankNumberRows flagRows constantRows stackRows jumpRows relativeRows registerFormRows memoryFormRows memoryAtRows storeFormRows absoluteRows registerRows placesRows memoryRows storeRows copies compares blocks indirectRows judge numberAt lookup valueOf
+unfolding decodeOf firstRows aloneRows memoryFirstRows bankRows upToSevenRows flagRows constantRows stackRows jumpRows relativeRows interruptRows registerFormRows memoryFormRows memoryAtRows storeFormRows absoluteRows registerRows placesRows memoryRows storeRows copies compares blocks indirectRows judge numberAt lookup valueOf
 decoded = refl

@@ -6,9 +6,10 @@ use Rattle.code.specs.{declared.Op.Op, declared.Base.Base, declared.Oper
 use Rattle.code.specs.{declared.Operand.the-variants.Constant, declared.Decoded.Decoded, Said.Said, Said.whole, Said.number, Said.judge}
 use Rattle.code.specs.{Rows.one, Rows.run, Rows.Row, Rows._⇒_, Rows.byRows, Registers.registerRows, Memory.form, Memory.memoryRows}
 use Rattle.code.specs.{Memory.storeRows, Memory.indirectRows}
-use Rattle.code.specs.declared.Op.the-variants.{Controls, Stacks, Sets}
-use Rattle.code.specs.declared.Control.the-variants.{Nop, Incf, Decf, Ldf, Rcf, Scf, Ccf, Zcf, Exf, Jp16, Jp24, Jr, Jrl}
+use Rattle.code.specs.declared.Op.the-variants.{Controls, Stacks, Sets, Interrupts}
+use Rattle.code.specs.declared.Control.the-variants.{Nop, Incf, Decf, Ldf, Rcf, Scf, Ccf, Zcf, Exf, Jp16, Jp24, Jr, Jrl, Ei}
 use Rattle.code.specs.declared.Stack.the-variants.{PushF, PopF, Push, Pop, Call16, Call24, Calr, Ret}
+use Rattle.code.specs.declared.Interrupt.the-variants.{PushSr, PopSr, Reti}
 use Rattle.code.specs.declared.Base.the-variants.{Indirect, Displaced, Absolute8, Absolute16, Absolute24}
 
 -- an operation that is said by one byte alone
@@ -19,9 +20,9 @@ alone op = whole op Byte (Constant 0)
 abbrev pub withConstant : Op → Size → ℕ → Said
 withConstant op z n = number n (λ v. whole op z (Constant v))
 
--- a byte 00 to 07
-unfoldable pub bankNumberRows : List Row
-bankNumberRows = (run 0x00 0x07 ⇒ λ n. whole (Controls Ldf) Byte (Constant n)) ∷ []
+-- an operation and a byte 00 to 07
+unfoldable pub upToSevenRows : Op → List Row
+upToSevenRows op = (run 0x00 0x07 ⇒ λ n. whole op Byte (Constant n)) ∷ []
 
 -- 00 NOP. 0C INCF, 0D DECF. 17 n LDF, n 00 to 07 (request K2)
 unfoldable pub bankRows : List Row
@@ -29,7 +30,7 @@ bankRows =
     (one 0x00 ⇒ λ b. alone (Controls Nop))
     ∷ (one 0x0C ⇒ λ b. alone (Controls Incf))
     ∷ (one 0x0D ⇒ λ b. alone (Controls Decf))
-    ∷ (one 0x17 ⇒ λ b. byRows bankNumberRows)
+    ∷ (one 0x17 ⇒ λ b. byRows (upToSevenRows (Controls Ldf)))
     ∷ []
 
 -- 10 RCF, 11 SCF, 12 CCF, 13 ZCF. 16 EX F,F'. 18 PUSH F, 19 POP F
@@ -79,6 +80,15 @@ relativeRows =
     ∷ (run 0x70 0x7F ⇒ λ b. withConstant (Controls (Jrl (b % 16))) Byte 2)
     ∷ []
 
+-- 02 PUSH SR, 03 POP SR. 06 n EI, n 00 to 07. 07 RETI (request K8)
+unfoldable pub interruptRows : List Row
+interruptRows =
+    (one 0x02 ⇒ λ b. alone (Interrupts PushSr))
+    ∷ (one 0x03 ⇒ λ b. alone (Interrupts PopSr))
+    ∷ (one 0x06 ⇒ λ b. byRows (upToSevenRows (Controls Ei)))
+    ∷ (one 0x07 ⇒ λ b. alone (Interrupts Reti))
+    ∷ []
+
 -- C8+r byte, D8+r word, E8+r long, then the byte of a register form
 unfoldable pub registerFormRows : List Row
 registerFormRows =
@@ -123,7 +133,7 @@ storeFormRows =
 
 -- the first byte: 00 to 7F, which no operand's form begins with
 unfoldable pub aloneRows : List Row
-aloneRows = bankRows ++ (flagRows ++ (constantRows ++ (stackRows ++ (jumpRows ++ relativeRows))))
+aloneRows = bankRows ++ (flagRows ++ (constantRows ++ (stackRows ++ (jumpRows ++ (relativeRows ++ interruptRows)))))
 
 -- a memory form's
 unfoldable pub memoryFirstRows : List Row

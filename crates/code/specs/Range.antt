@@ -4,10 +4,11 @@ use Rattle.little.specs.{declared.Size.Size, Width.bytesOf}
 use Rattle.alu.specs.declared.change.Change.{Change}
 use Rattle.alu.specs.declared.change.Change.the-variants.{Inc, Dec, ShiftBy, Extz, Exts}
 use Rattle.code.specs.Rows.{onlyByte, noByte, noLong}
-use Rattle.code.specs.declared.{Form.Form, Op.Op, Control.Control, Stack.Stack, Use.Use, Side.Side, Base.Base, Operand.Operand}
-use Rattle.code.specs.declared.Op.the-variants.{Controls, Stacks, Puts, Sets, Blocks}
-use Rattle.code.specs.declared.Control.the-variants.{Nop, Incf, Decf, Ldf, Rcf, Scf, Ccf, Zcf, Exf, Jp16, Jp24, Jr, Jrl}
+use Rattle.code.specs.declared.{Form.Form, Op.Op, Control.Control, Stack.Stack, Interrupt.Interrupt, Use.Use, Side.Side, Base.Base, Operand.Operand}
+use Rattle.code.specs.declared.Op.the-variants.{Controls, Stacks, Puts, Sets, Blocks, Interrupts}
+use Rattle.code.specs.declared.Control.the-variants.{Nop, Incf, Decf, Ldf, Rcf, Scf, Ccf, Zcf, Exf, Jp16, Jp24, Jr, Jrl, Ei}
 use Rattle.code.specs.declared.Stack.the-variants.{PushF, PopF, Push, Pop, Call16, Call24, Calr, Ret}
+use Rattle.code.specs.declared.Interrupt.the-variants.{PushSr, PopSr, Reti}
 use Rattle.code.specs.declared.Use.the-variants.{Number, From, Load, Compute, Changed}
 use Rattle.code.specs.declared.Side.the-variants.{First, Second, With}
 use Rattle.code.specs.declared.Base.the-variants.{Indirect, Displaced, Absolute8, Absolute16, Absolute24}
@@ -111,12 +112,16 @@ aloneRange z o = that (onlyByte z) and constantBelow 1 o
 abbrev pub constantRange : ℕ → Size → Operand → Range
 constantRange n z o = that (onlyByte z) and constantBelow (256 ^ n) o
 
+-- an operation that has a byte 00 to 07
+abbrev pub upToSevenRange : Size → Operand → Range
+upToSevenRange z o = that (onlyByte z) and constantBelow 8 o
+
 -- what the numbers, the size and the operand of each operation can be, by the kind of work
 abbrev pub controlRange : Control → Size → Operand → Range
 controlRange Nop z o = aloneRange z o
 controlRange Incf z o = aloneRange z o
 controlRange Decf z o = aloneRange z o
-controlRange Ldf z o = that (onlyByte z) and constantBelow 8 o
+controlRange Ldf z o = upToSevenRange z o
 controlRange Rcf z o = aloneRange z o
 controlRange Scf z o = aloneRange z o
 controlRange Ccf z o = aloneRange z o
@@ -126,6 +131,7 @@ controlRange Jp16 z o = constantRange 2 z o
 controlRange Jp24 z o = constantRange 3 z o
 controlRange (Jr cc) z o = cc below 16 and constantRange 1 z o
 controlRange (Jrl cc) z o = cc below 16 and constantRange 2 z o
+controlRange Ei z o = upToSevenRange z o
 
 abbrev pub stackRange : Stack → Size → Operand → Range
 stackRange PushF z o = aloneRange z o
@@ -136,6 +142,11 @@ stackRange Call16 z o = constantRange 2 z o
 stackRange Call24 z o = constantRange 3 z o
 stackRange Calr z o = constantRange 2 z o
 stackRange Ret z o = aloneRange z o
+
+abbrev pub interruptRange : Interrupt → Size → Operand → Range
+interruptRange PushSr z o = aloneRange z o
+interruptRange PopSr z o = aloneRange z o
+interruptRange Reti z o = aloneRange z o
 
 abbrev pub sideRange : Side → Size → Operand → Range
 sideRange (First r) z o = r below 8 and placeRange o
@@ -162,6 +173,7 @@ rangeOf (Stacks what) z o = stackRange what z o
 rangeOf (Puts how) z o = useRange how z o
 rangeOf (Sets r) z o = r below 8 and constantBelow (256 ^ bytesOf z) o
 rangeOf (Blocks f) z o = blockRange f z o
+rangeOf (Interrupts what) z o = interruptRange what z o
 
 -- whether some listed code is this instruction
 abbrev pub inRange : Op → Size → Operand → Bool

@@ -6,10 +6,11 @@ use Rattle.alu.specs.declared.{Arith.Arith, Shift.Shift, change.Change.Change}
 use Rattle.alu.specs.declared.Arith.the-variants.{Add, Adc, Sub, Sbc, And, Xor, Or, Cp}
 use Rattle.alu.specs.declared.Shift.the-variants.{Sla, Sra, Sll, Srl}
 use Rattle.alu.specs.declared.change.Change.the-variants.{Inc, Dec, ShiftBy, Extz, Exts}
-use Rattle.code.specs.declared.{Op.Op, Control.Control, Stack.Stack, Use.Use, Side.Side, Base.Base, Operand.Operand}
-use Rattle.code.specs.declared.Op.the-variants.{Controls, Stacks, Puts, Sets, Blocks}
-use Rattle.code.specs.declared.Control.the-variants.{Nop, Incf, Decf, Ldf, Rcf, Scf, Ccf, Zcf, Exf, Jp16, Jp24, Jr, Jrl}
+use Rattle.code.specs.declared.{Op.Op, Control.Control, Stack.Stack, Interrupt.Interrupt, Use.Use, Side.Side, Base.Base, Operand.Operand}
+use Rattle.code.specs.declared.Op.the-variants.{Controls, Stacks, Puts, Sets, Blocks, Interrupts}
+use Rattle.code.specs.declared.Control.the-variants.{Nop, Incf, Decf, Ldf, Rcf, Scf, Ccf, Zcf, Exf, Jp16, Jp24, Jr, Jrl, Ei}
 use Rattle.code.specs.declared.Stack.the-variants.{PushF, PopF, Push, Pop, Call16, Call24, Calr, Ret}
+use Rattle.code.specs.declared.Interrupt.the-variants.{PushSr, PopSr, Reti}
 use Rattle.code.specs.declared.Use.the-variants.{Number, From, Load, Compute, Changed}
 use Rattle.code.specs.declared.Side.the-variants.{First, Second, With}
 use Rattle.code.specs.declared.Base.the-variants.{Indirect, Displaced, Absolute8, Absolute16, Absolute24}
@@ -110,6 +111,7 @@ controlCode Jp16 o = 0x1A ∷ bytesFrom 2 (constantIn o)
 controlCode Jp24 o = 0x1B ∷ bytesFrom 3 (constantIn o)
 controlCode (Jr cc) o = (0x60 + cc) ∷ bytesFrom 1 (constantIn o)
 controlCode (Jrl cc) o = (0x70 + cc) ∷ bytesFrom 2 (constantIn o)
+controlCode Ei o = 0x06 ∷ constantIn o ∷ []
 
 abbrev pub stackCode : Stack → Size → Operand → List ℕ
 stackCode PushF z o = 0x18 ∷ []
@@ -120,6 +122,11 @@ stackCode Call16 z o = 0x1C ∷ bytesFrom 2 (constantIn o)
 stackCode Call24 z o = 0x1D ∷ bytesFrom 3 (constantIn o)
 stackCode Calr z o = 0x1E ∷ bytesFrom 2 (constantIn o)
 stackCode Ret z o = 0x0E ∷ []
+
+abbrev pub interruptCode : Interrupt → List ℕ
+interruptCode PushSr = 0x02 ∷ []
+interruptCode PopSr = 0x03 ∷ []
+interruptCode Reti = 0x07 ∷ []
 
 abbrev pub useCode : Use → Size → Operand → List ℕ
 useCode (Number n) z o = placeCode (sizeStep z) o ++ (0x03 ∷ bytesFrom (bytesOf z) n)
@@ -134,3 +141,4 @@ codeOf (Stacks what) z o = stackCode what z o
 codeOf (Puts how) z o = useCode how z o
 codeOf (Sets r) z o = (0x20 + sizeStep z + r) ∷ bytesFrom (bytesOf z) (constantIn o)
 codeOf (Blocks f) z o = (0x80 + sizeStep z + f .from) ∷ blockCode (f .copies) (f .up) (f .again) ∷ []
+codeOf (Interrupts what) z o = interruptCode what

@@ -35,7 +35,7 @@ pub struct Form {
     pub from: u8,
 }
 
-// What changes the counter, the bank and the flags alone. JR and JRL have their condition.
+// What changes the counter, the bank, the level and the flags alone. JR and JRL have their condition.
 pub enum Control {
     Nop,
     Incf,
@@ -50,6 +50,7 @@ pub enum Control {
     Jp24,
     Jr(u8),
     Jrl(u8),
+    Ei,
 }
 
 // What is done with the stack.
@@ -62,6 +63,13 @@ pub enum Stack {
     Call24,
     Calr,
     Ret,
+}
+
+// SR on the stack, and the return from an interrupt.
+pub enum Interrupt {
+    PushSr,
+    PopSr,
+    Reti,
 }
 
 // The other operand of an operation on two, and where the result goes.
@@ -87,6 +95,7 @@ pub enum Op {
     Puts(Use),
     Sets(u8), // the register of a code to the operand's number
     Blocks(Form),
+    Interrupts(Interrupt),
 }
 
 pub struct Instruction {
@@ -108,6 +117,7 @@ pub enum Alone {
     Controls(Control, u32, usize),
     Stacks(Stack, Size, Operand, usize),
     Sets(u8, Size, u32, usize),
+    Interrupts(Interrupt, usize),
     Short,
     Unlisted,
 }

@@ -1,10 +1,10 @@
--- Banks, flags and jumps: what changes the counter, the bank and the flags alone.
+-- Banks, the interrupt level, flags and jumps: what changes these and the counter alone.
 use Rattle.little.specs.Words.{ℕ, _+_, cond, List}
 use Rattle.flags.specs.{Condition.holdsOf, Condition.readsMarked, Flag.rcfOf, Flag.scfOf, Flag.ccfOf, Flag.zcfOf}
 use Rattle.answer.specs.declared.Why.the-variants.{Undefined}
-use Rattle.state.specs.{declared.State.State, State.withBank, State.withCounter}
+use Rattle.state.specs.{declared.State.State, State.withBank, State.withLevel, State.withCounter}
 use Rattle.code.specs.declared.Control.{Control}
-use Rattle.code.specs.declared.Control.the-variants.{Nop, Incf, Decf, Ldf, Rcf, Scf, Ccf, Zcf, Exf, Jp16, Jp24, Jr, Jrl}
+use Rattle.code.specs.declared.Control.the-variants.{Nop, Incf, Decf, Ldf, Rcf, Scf, Ccf, Zcf, Exf, Jp16, Jp24, Jr, Jrl, Ei}
 use Rattle.operand.specs.{Try.Try, Try.did, Try.no, Flag.flagsIn, Flag.flagged, Flag.exchanged, Operand.displaced}
 
 -- 8 where the condition cc reads a marked flag; else the counter is `to` where cc holds, and stays past the jump where it does not
@@ -27,3 +27,4 @@ controlOf Jp16 n s ram = did (withCounter s n) ram
 controlOf Jp24 n s ram = did (withCounter s n) ram
 controlOf (Jr cc) n s ram = jumpOf s ram cc (displaced 8 (s .counter) n)
 controlOf (Jrl cc) n s ram = jumpOf s ram cc (displaced 16 (s .counter) n)
+controlOf Ei n s ram = did (withLevel s n) ram

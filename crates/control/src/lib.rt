@@ -1,4 +1,4 @@
-// Banks, flags and jumps: what changes the counter, the bank and the flags alone.
+// Banks, the interrupt level, flags and jumps: what changes these and the counter alone.
 ghost use mathlib.Core.Path.{_≡_};
 ghost use mathlib.Core.List.{List};
 ghost use Prim.Native.Nat.{ℕ, _+_, _%_, _^_};
@@ -17,6 +17,7 @@ use little::ADDRESSES;
 use little::SPACE;
 use little::Size;
 use operand::displace;
+use state::Level;
 
 // The counter past an instruction of n bytes.
 pub fn past(counter: &mut u32, n: usize)
@@ -56,6 +57,15 @@ fn select(bank: &mut u8, n: u32) -> Answer
     Answer::Done
 }
 
+// The level becomes the number: EI.
+fn admit(level: &mut u8, n: u32) -> Answer
+    ensures { λ a. ⌜ (a ≡ Answer.Done) × (now (level .exit) ≡ n % 8) ⌝ }
+{
+    let l = Level((n % 8) as u8);
+    *level = l.0;
+    Answer::Done
+}
+
 fn set(flags: &mut u16, new: Flags) -> Answer
     ensures { λ a. ⌜ (a ≡ Answer.Done) × (now (flags .exit) ≡ packedOf new) ⌝ }
 {
@@ -77,12 +87,13 @@ pub fn control(
     number: u32,
     counter: &mut u32,
     bank: &mut u8,
+    level: &mut u8,
     flags: &mut u16,
     spare: &mut u16,
 ) -> Answer
     ensures { λ a. ⌜ ((s : State) (ram : List ℕ) → Does (controlOf what number)
-        (controlled s (now (counter .entry)) (now (bank .entry)) (now (flags .entry)) (now (spare .entry))) ram
-        a (controlled s (now (counter .exit)) (now (bank .exit)) (now (flags .exit)) (now (spare .exit))) ram) ⌝ }
+        (controlled s (now (counter .entry)) (now (bank .entry)) (now (level .entry)) (now (flags .entry)) (now (spare .entry))) ram
+        a (controlled s (now (counter .exit)) (now (bank .exit)) (now (level .exit)) (now (flags .exit)) (now (spare .exit))) ram) ⌝ }
 {
     let f = flags::unpack(*flags);
     let b = *bank as u32;
@@ -100,5 +111,6 @@ pub fn control(
         Control::Jp24 => go(counter, number),
         Control::Jr(cc) => jump(*flags, counter, cc, Size::Byte, number),
         Control::Jrl(cc) => jump(*flags, counter, cc, Size::Word, number),
+        Control::Ei => admit(level, number),
     }
 }

@@ -48,6 +48,12 @@ fn whole_alone(read: Alone) -> Decoded
         ),
         Alone::Stacks(what, size, operand, n) => whole(Op::Stacks(what), size, operand, n),
         Alone::Sets(r, size, v, n) => whole(Op::Sets(r), size, Operand::Constant(v), n),
+        Alone::Interrupts(what, n) => whole(
+            Op::Interrupts(what),
+            Size::Byte,
+            Operand::Constant(0),
+            n,
+        ),
         Alone::Short => Decoded::Short,
         Alone::Unlisted => Decoded::Unlisted,
     }

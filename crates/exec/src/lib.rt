@@ -23,13 +23,7 @@ use control::past;
 use little::Size;
 use stack::stack;
 use state::Bank;
-
-// The bank whose number a turn is lent: the one place where that number becomes a bank.
-pub fn current(bank: &u8) -> Bank
-    ensures { λ r. ⌜ r ≡ record { 0 = now (bank .entry) } ⌝ }
-{
-    Bank(*bank)
-}
+use state::current;
 
 // A refused instruction leaves the counter at it, though it was past it already.
 pub fn back(a: Answer, here: u32, counter: &mut u32) -> Answer

@@ -7,11 +7,12 @@ ghost use lib.Dec.{ltb};
 ghost use Rattle.little.specs.Width.{bytesOf};
 ghost use Rattle.code.specs.Said.{Said, judge};
 ghost use Rattle.code.specs.Rows.{lookup, byRows};
-ghost use Rattle.code.specs.Listed.{withConstant, bankNumberRows, aloneRows};
+ghost use Rattle.code.specs.Listed.{withConstant, upToSevenRows, aloneRows};
 ghost use Rattle.code.specs.inner.Parts.{aloneAs};
 use code::Alone;
 use code::Control;
 use code::Found;
+use code::Interrupt;
 use code::Op;
 use code::Operand;
 use code::Stack;
@@ -60,9 +61,9 @@ fn stack(what: Stack, size: Size, r: u8) -> Alone
     Alone::Stacks(what, size, Operand::Register(r), 1)
 }
 
-// LDF, by the byte of its number: 00 to 07.
-fn bank_number(code: &[u8]) -> Alone
-    ensures { λ r. ⌜ aloneAs r ≡ judge (byRows bankNumberRows) (now (code .entry)) 1 ⌝ }
+// LDF and EI, by the byte of their number: 00 to 07.
+fn up_to_seven(code: &[u8], what: Control) -> Alone
+    ensures { λ r. ⌜ aloneAs r ≡ judge (byRows (upToSevenRows (Op.Controls what))) (now (code .entry)) 1 ⌝ }
 {
     if code.len() <= 1 {
         return Alone::Short;
@@ -72,16 +73,20 @@ fn bank_number(code: &[u8]) -> Alone
         return Alone::Unlisted;
     }
     let number = n as u32;
-    Alone::Controls(Control::Ldf, number, 2)
+    Alone::Controls(what, number, 2)
 }
 
 // 00 to 0F.
-fn case_00(b: u8) -> Alone
+fn case_00(code: &[u8], b: u8) -> Alone
     requires { ⌜ b < 16 ⌝ }
-    ensures { λ r. ⌜ ((s : List ℕ) → aloneAs r ≡ judge (lookup aloneRows b) s 1) ⌝ }
+    ensures { λ r. ⌜ aloneAs r ≡ judge (lookup aloneRows b) (now (code .entry)) 1 ⌝ }
 {
     match b {
         0x00 => Alone::Controls(Control::Nop, 0, 1),
+        0x02 => Alone::Interrupts(Interrupt::PushSr, 1),
+        0x03 => Alone::Interrupts(Interrupt::PopSr, 1),
+        0x06 => up_to_seven(code, Control::Ei),
+        0x07 => Alone::Interrupts(Interrupt::Reti, 1),
         0x0C => Alone::Controls(Control::Incf, 0, 1),
         0x0D => Alone::Controls(Control::Decf, 0, 1),
         0x0E => Alone::Stacks(Stack::Ret, Size::Byte, Operand::Constant(0), 1),
@@ -100,7 +105,7 @@ fn case_10(code: &[u8], b: u8) -> Alone
         0x12 => Alone::Controls(Control::Ccf, 0, 1),
         0x13 => Alone::Controls(Control::Zcf, 0, 1),
         0x16 => Alone::Controls(Control::Exf, 0, 1),
-        0x17 => bank_number(code),
+        0x17 => up_to_seven(code, Control::Ldf),
         _ => Alone::Unlisted,
     }
 }
@@ -128,7 +133,7 @@ pub fn read(code: &[u8], b: u8) -> Alone
 {
     let r = b % 8;
     match b / 8 {
-        0 | 1 => case_00(b),
+        0 | 1 => case_00(code, b),
         2 => case_10(code, b),
         3 => case_18(code, b),
         4 => set(code, r, Size::Byte),

@@ -3,7 +3,7 @@ use Prim.Native.Nat.{ℕ, zero, suc, _+_, _*_, _/_, _%_, _<_, _≤_, _-_, _^_}
 use mathlib.Core.Path.{_≡_, refl, ap, sym, _∙_}
 use mathlib.Core.List.{List, [], _∷_, _++_, append-nil, append-assoc}
 use native.Mathlib.Omega.{arith}
-use native.Mathlib.Nat.{pow-suc}
+use native.Mathlib.Nat.{pow-suc, mul-assoc, mul-comm}
 use native.Mathlib.Numerals.{add-one}
 use lib.ListN.{length, getD, take, drop, set, length-drop, length-append, List·getD-append}
 use lib.Seq.{take-suc-set, append-snoc, take-all, length-take-le, drop-drop, take-at, drop-at, getD-append-add, getD-take, getD-drop}
@@ -48,6 +48,34 @@ value-lt (b ∷ l) h =
     let k : b < 256 = h 0 in
     let r : valueOf l < 256 ^ length l = value-lt l (λ i. h (suc i)) in
     rw pow-suc (omega arith)
+
+weight-up : (n y : ℕ) → 256 ^ suc n * y ≡ 256 * (256 ^ n * y)
+weight-up n y = rw (pow-suc, mul-comm (256 ^ n) 256) (mul-assoc 256 (256 ^ n) y)
+
+-- a number of n bytes with another above it: its bytes are those of both, and it is read from them so
+pub bytes-join : (n m x y : ℕ) → x < 256 ^ n → bytesFrom (n + m) (x + 256 ^ n * y) ≡ bytesFrom n x ++ bytesFrom m y
+unfolding bytesFrom
+bytes-join zero m x y h =
+    let e : x + 256 ^ 0 * y ≡ y = omega arith in
+    let z : 0 + m ≡ m = omega arith in
+    rw (e, z) refl
+bytes-join (suc n) m x y h =
+    let z : suc n + m ≡ suc (n + m) = omega arith in
+    let k : x / 256 < 256 ^ n = omega (arith, rw pow-suc at h) in
+    let g = weight-up n y in
+    let e : (x + 256 ^ suc n * y) % 256 ≡ x % 256 = rw g (omega arith) in
+    let f : (x + 256 ^ suc n * y) / 256 ≡ x / 256 + 256 ^ n * y = rw g (omega arith) in
+    rw (z, e, f, bytes-join n m (x / 256) y k) refl
+
+pub value-join : (n m : ℕ) (l : List ℕ) → n ≤ length l → valueOf (take (n + m) l) ≡ valueOf (take n l) + 256 ^ n * valueOf (take m (drop n l))
+unfolding valueOf
+value-join zero m l h = let z : 0 + m ≡ m = omega arith in rw z (omega arith)
+value-join (suc n) m [] h = absurd (omega arith)
+value-join (suc n) m (b ∷ l) h =
+    let v = valueOf (take m (drop n l)) in
+    let z : suc n + m ≡ suc (n + m) = omega arith in
+    let g = weight-up n v in
+    rw (z, value-join n m l (omega arith), g) (omega arith)
 
 -- one byte more of the writer's loop
 pub write-more :
@@ -114,3 +142,27 @@ module _ (o : ℕ) (new l : List ℕ) (fits : o + length new ≤ length l) where
       ∙ ap (λ (k : List ℕ). getD k (i - (o + length new)) 0) replaced-drop
       ∙ getD-drop (o + length new) l (i - (o + length new)) 0
       ∙ ap (λ (j : ℕ). getD l j 0) e
+
+joined :
+    (o : ℕ) (p q l r : List ℕ) → take (o + length p) r ≡ take o l ++ p → drop (o + length p) r ≡ drop (o + length p) l
+    → replaced (o + length p) q r ≡ replaced o (p ++ q) l
+unfolding replaced
+joined o p q l r a b =
+    let z : o + length p + length q ≡ o + (length p + length q) = omega arith in
+    let e : drop (o + length p + length q) r ≡ drop (o + (length p + length q)) l =
+        sym (drop-drop (length q) (o + length p) r) ∙ ap (drop (length q)) b ∙ drop-drop (length q) (o + length p) l ∙ ap (λ (k : ℕ). drop k l) z in
+    rw (a, e, length-append) (append-assoc (take o l) p (q ++ drop (o + (length p + length q)) l) ∙ ap (λ (k : List ℕ). take o l ++ k) (sym (append-assoc p q (drop (o + (length p + length q)) l))))
+
+-- a part replaced, and then the one behind it, is both at once
+pub replaced-join :
+    (o : ℕ) (p q l : List ℕ) → o + length p + length q ≤ length l → replaced (o + length p) q (replaced o p l) ≡ replaced o (p ++ q) l
+replaced-join o p q l h = go (replaced o p l) refl
+  where
+    fits : o + length p ≤ length l
+    fits = omega arith
+
+    go : (r : List ℕ) → r ≡ replaced o p l → replaced (o + length p) q r ≡ replaced o (p ++ q) l
+    go r e =
+        let a : take (o + length p) r ≡ take o l ++ p = rw e (replaced-take o p l fits) in
+        let b : drop (o + length p) r ≡ drop (o + length p) l = rw e (replaced-drop o p l fits) in
+        joined o p q l r a b

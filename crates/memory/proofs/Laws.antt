@@ -17,7 +17,7 @@ use Rattle.little.specs.Bytes.{bytesFrom, replaced}
 use Rattle.little.proofs.Laws.{length-bytes, replaced-length, replaced-below, replaced-above}
 use Rattle.memory.specs.Place.{missingOf, placeOf}
 use Rattle.memory.specs.inner.Ends.{pastEnd}
-use Rattle.memory.specs.Access.{loadOf, loadFrom, storeOf, storeTo, ramAfter, ramWith, codeAt, codeFrom, operandAt}
+use Rattle.memory.specs.Access.{bytesAt, loadOf, loadFrom, storeOf, storeBytes, storeTo, ramAfter, ramBytes, ramWith, codeAt, codeFrom}
 use Rattle.memory.specs.declared.Place.{Place}
 use Rattle.memory.specs.declared.Place.the-variants.{Ram, Rom, Missing}
 use Rattle.memory.proofs.Ends.{rom-below, end-none, missing-past}
@@ -115,46 +115,59 @@ module _ (ram rom : List ℕ) (a : ℕ) (z : Size) (n : ℕ) (size : n ≡ bytes
   load-in e = rw (← size) (ap (λ (p : Place). loadFrom p ram rom n) e)
 
 -- ---- what a store leaves of RAM
-module _ (ram rom : List ℕ) (a : ℕ) (z : Size) (v : ℕ) where
-  replaces : (n : ℕ) → a + n ≤ length ram → a + length (bytesFrom n v) ≤ length ram
-  replaces n h = rw length-bytes h
+module _ (ram rom : List ℕ) (a n v : ℕ) where
+  replaces : a + n ≤ length ram → a + length (bytesFrom n v) ≤ length ram
+  replaces h = rw length-bytes h
 
   -- its length
-  pub after-length : length (ramAfter ram rom a z v) ≡ length ram
-  unfolding ramAfter
-  after-length = go (at (length ram) (length rom) a (bytesOf z))
+  pub bytes-length : length (ramBytes ram rom a n v) ≡ length ram
+  bytes-length = go (at (length ram) (length rom) a n)
     where
-      go : {p : Place} → At (length ram) (length rom) a (bytesOf z) p → length (ramWith p ram (bytesOf z) v) ≡ length ram
-      go (in-ram h) = replaced-length a (bytesFrom (bytesOf z) v) ram (replaces (bytesOf z) h)
+      go : {p : Place} → At (length ram) (length rom) a n p → length (ramWith p ram n v) ≡ length ram
+      go (in-ram h) = replaced-length a (bytesFrom n v) ram (replaces h)
       go (in-rom h i j) = refl
       go (nowhere x y) = refl
 
   -- every byte below the address, and from the end of the operand on
-  pub after-below : (i : ℕ) → i < a → getD (ramAfter ram rom a z v) i 0 ≡ getD ram i 0
-  unfolding ramAfter
-  after-below i k = go (at (length ram) (length rom) a (bytesOf z))
+  pub bytes-below : (i : ℕ) → i < a → getD (ramBytes ram rom a n v) i 0 ≡ getD ram i 0
+  bytes-below i k = go (at (length ram) (length rom) a n)
     where
-      go : {p : Place} → At (length ram) (length rom) a (bytesOf z) p → getD (ramWith p ram (bytesOf z) v) i 0 ≡ getD ram i 0
-      go (in-ram h) = replaced-below a (bytesFrom (bytesOf z) v) ram (replaces (bytesOf z) h) i k
+      go : {p : Place} → At (length ram) (length rom) a n p → getD (ramWith p ram n v) i 0 ≡ getD ram i 0
+      go (in-ram h) = replaced-below a (bytesFrom n v) ram (replaces h) i k
       go (in-rom h x y) = refl
       go (nowhere x y) = refl
+
+  pub bytes-above : (i : ℕ) → a + n ≤ i → getD (ramBytes ram rom a n v) i 0 ≡ getD ram i 0
+  bytes-above i k = go (at (length ram) (length rom) a n)
+    where
+      go : {p : Place} → At (length ram) (length rom) a n p → getD (ramWith p ram n v) i 0 ≡ getD ram i 0
+      go (in-ram h) = replaced-above a (bytesFrom n v) ram (replaces h) i (rw length-bytes k)
+      go (in-rom h x y) = refl
+      go (nowhere x y) = refl
+
+  -- a refused store leaves RAM as it was
+  pub refused-bytes : (w : Why) → storeBytes ram rom a n ≡ answer.Refused w → ramBytes ram rom a n v ≡ ram
+  refused-bytes w e = go (bytesAt ram rom a n) e
+    where
+      go : (p : Place) → storeTo p a ≡ answer.Refused w → ramWith p ram n v ≡ ram
+      go (Ram o) f = let k : _≡_ {A = ℕ} 0 1 = cc in absurd (omega arith)
+      go (Rom o) f = refl
+      go (Missing x) f = refl
+
+-- the same of a size
+module _ (ram rom : List ℕ) (a : ℕ) (z : Size) (v : ℕ) where
+  pub after-length : length (ramAfter ram rom a z v) ≡ length ram
+  unfolding ramAfter
+  after-length = bytes-length ram rom a (bytesOf z) v
+
+  pub after-below : (i : ℕ) → i < a → getD (ramAfter ram rom a z v) i 0 ≡ getD ram i 0
+  unfolding ramAfter
+  after-below = bytes-below ram rom a (bytesOf z) v
 
   pub after-above : (i : ℕ) → a + bytesOf z ≤ i → getD (ramAfter ram rom a z v) i 0 ≡ getD ram i 0
   unfolding ramAfter
-  after-above i k = go (at (length ram) (length rom) a (bytesOf z))
-    where
-      go : {p : Place} → At (length ram) (length rom) a (bytesOf z) p → getD (ramWith p ram (bytesOf z) v) i 0 ≡ getD ram i 0
-      go (in-ram h) = replaced-above a (bytesFrom (bytesOf z) v) ram (replaces (bytesOf z) h) i (rw length-bytes k)
-      go (in-rom h x y) = refl
-      go (nowhere x y) = refl
+  after-above = bytes-above ram rom a (bytesOf z) v
 
--- a refused store leaves RAM as it was
-pub refused-keeps :
-    (ram rom : List ℕ) (a : ℕ) (z : Size) (v : ℕ) (w : Why) → storeOf ram rom a z ≡ answer.Refused w → ramAfter ram rom a z v ≡ ram
-unfolding ramAfter storeOf
-refused-keeps ram rom a z v w e = go (operandAt ram rom a z) e
-  where
-    go : (p : Place) → storeTo p a ≡ answer.Refused w → ramWith p ram (bytesOf z) v ≡ ram
-    go (Ram o) f = let k : _≡_ {A = ℕ} 0 1 = cc in absurd (omega arith)
-    go (Rom o) f = refl
-    go (Missing x) f = refl
+  pub refused-keeps : (w : Why) → storeOf ram rom a z ≡ answer.Refused w → ramAfter ram rom a z v ≡ ram
+  unfolding ramAfter storeOf
+  refused-keeps = refused-bytes ram rom a (bytesOf z) v

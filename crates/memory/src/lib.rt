@@ -1,11 +1,14 @@
 // The two memories: where an operand lies, loads and stores, and the part of a memory that holds code.
 ghost use mathlib.Core.Path.{_≡_};
-ghost use lib.ListN.{length};
+ghost use lib.ListN.{length, take, drop};
+ghost use Rattle.little.specs.Bytes.{valueOf};
 ghost use denote.Ref.{ptr};
 ghost use Rattle.memory.specs.Place.{placeOf};
 ghost use Rattle.memory.specs.inner.Ends.{pastEnd};
-ghost use Prim.Native.Nat.{_≤_};
-ghost use Rattle.memory.specs.Access.{loadFrom, loadOf, storeTo, storeOf, ramWith, ramAfter, codeAt, standsAt};
+ghost use Rattle.memory.specs.inner.Six.{sixFrom, sixAs, SixFits};
+ghost use Rattle.memory.specs.declared.Loaded.the-variants as loaded;
+ghost use Prim.Native.Nat.{_+_, _%_, _^_, _≤_};
+ghost use Rattle.memory.specs.Access.{loadBytes, loadOf, storeBytes, storeOf, ramBytes, ramAfter, codeAt, standsAt};
 use answer::Answer;
 use answer::Why;
 use little::ADDRESSES;
@@ -66,7 +69,7 @@ pub enum Loaded {
 // The value of n bytes at an address.
 fn load_bytes(ram: &[u8], rom: &[u8], address: u32, n: usize) -> Loaded
     requires { ⌜ n ≤ 4 ⌝ }
-    ensures { λ r. ⌜ r ≡ loadFrom (placeOf (length (now (ram .entry))) (length (now (rom .entry))) address n) (now (ram .entry)) (now (rom .entry)) n ⌝ }
+    ensures { λ r. ⌜ r ≡ loadBytes (now (ram .entry)) (now (rom .entry)) address n ⌝ }
 {
     match find(ram.len(), rom.len(), address, n) {
         Place::Ram(o) => {
@@ -94,8 +97,8 @@ pub fn load(ram: &[u8], rom: &[u8], address: u32, size: Size) -> Loaded
 
 // Stores the n low bytes of a value at an address: the part of RAM that they go to is lent to the writer.
 fn store_bytes(ram: &mut [u8], rom: &[u8], address: u32, n: usize, v: u32) -> Answer
-    ensures { λ r. ⌜ r ≡ storeTo (placeOf (length (now (ram .entry))) (length (now (rom .entry))) address n) address ⌝ }
-    ensures { λ _. ⌜ now (ram .exit) ≡ ramWith (placeOf (length (now (ram .entry))) (length (now (rom .entry))) address n) (now (ram .entry)) n v ⌝ }
+    ensures { λ r. ⌜ r ≡ storeBytes (now (ram .entry)) (now (rom .entry)) address n ⌝ }
+    ensures { λ _. ⌜ now (ram .exit) ≡ ramBytes (now (ram .entry)) (now (rom .entry)) address n v ⌝ }
 {
     match find(ram.len(), rom.len(), address, n) {
         Place::Ram(o) => {
@@ -117,6 +120,54 @@ pub fn store(ram: &mut [u8], rom: &[u8], address: u32, size: Size, v: u32) -> An
         Size::Byte => store_bytes(ram, rom, address, 1, v),
         Size::Word => store_bytes(ram, rom, address, 2, v),
         Size::Long => store_bytes(ram, rom, address, 4, v),
+    }
+}
+
+// An operand of six bytes: its low two and its high four, or the address of its missing byte.
+pub enum LoadedSix {
+    Values(u32, u32),
+    Missing(u32),
+}
+
+// The six bytes of a memory from an offset on.
+fn six_at(bytes: &[u8], at: usize) -> LoadedSix
+    requires { ⌜ at + 6 ≤ length (now bytes) ⌝ }
+    ensures { λ r. ⌜ sixAs r ≡ loaded.Value (valueOf (take 6 (drop at (now (bytes .entry))))) ⌝ }
+    ensures { λ r. ⌜ SixFits r ⌝ }
+{
+    let m = at + 2;
+    let e = at + 6;
+    let low = little::read(&bytes[at..m]);
+    let high = little::read(&bytes[m..e]);
+    LoadedSix::Values(low, high)
+}
+
+pub fn load_six(ram: &[u8], rom: &[u8], address: u32) -> LoadedSix
+    ensures { λ r. ⌜ sixAs r ≡ loadBytes (now (ram .entry)) (now (rom .entry)) address 6 ⌝ }
+    ensures { λ r. ⌜ SixFits r ⌝ }
+{
+    match find(ram.len(), rom.len(), address, 6) {
+        Place::Ram(o) => six_at(ram, o),
+        Place::Rom(o) => six_at(rom, o),
+        Place::Missing(a) => LoadedSix::Missing(a),
+    }
+}
+
+// Stores six bytes at an address, the low two of one value and a whole one above them: the place is looked for once, for all six.
+pub fn store_six(ram: &mut [u8], rom: &[u8], address: u32, low: u32, high: u32) -> Answer
+    ensures { λ r. ⌜ r ≡ storeBytes (now (ram .entry)) (now (rom .entry)) address 6 ⌝ }
+    ensures { λ _. ⌜ now (ram .exit) ≡ ramBytes (now (ram .entry)) (now (rom .entry)) address 6 (sixFrom (low % 2 ^ 16) high) ⌝ }
+{
+    match find(ram.len(), rom.len(), address, 6) {
+        Place::Ram(o) => {
+            let m = o + 2;
+            let e = o + 6;
+            little::write(&mut ram[o..m], low);
+            little::write(&mut ram[m..e], high);
+            Answer::Done
+        }
+        Place::Rom(_) => Answer::Refused(Why::ToRom(address)),
+        Place::Missing(a) => Answer::Refused(Why::Missing(a)),
     }
 }
 

@@ -13,12 +13,12 @@ use Rattle.answer.specs.declared.Answer.the-variants.{Done, Refused}
 use Rattle.answer.specs.declared.Why.{Why}
 use Rattle.little.specs.declared.Size.{Size}
 use Rattle.little.specs.declared.Size.the-variants.{Byte, Word, Long}
-use Rattle.little.specs.Width.{bitsOf}
-use Rattle.memory.specs.Access.{storeOf, ramAfter}
-use Rattle.memory.proofs.Laws.{refused-keeps}
+use Rattle.little.specs.Width.{bitsOf, bytesOf}
+use Rattle.memory.specs.Access.{storeBytes, storeOf, ramBytes, ramAfter}
+use Rattle.memory.proofs.Laws.{refused-bytes}
 use Rattle.state.specs.declared.State.{State}
 use Rattle.operand.specs.Try.{Try, did, no, Outcome, leaves, andThen, after}
-use Rattle.operand.specs.Operand.{displaced, storing}
+use Rattle.operand.specs.Operand.{displaced, storing, storingBytes}
 use Rattle.operand.specs.Round.{less}
 
 -- ---- sums that wrap
@@ -67,14 +67,22 @@ displaced-less z x d h m r e l b c f g =
     rw (g, i, le-leb (2 ^ (bitsOf z - 1)) d k) (as-address x (d - h + (2 ^ 32 - h)) ∙ turned z x d h e l)
 
 -- ---- stores
+module _ (s t : State) (ram rom : List ℕ) (a n v : ℕ) (m : List ℕ) (after : m ≡ ramBytes ram rom a n v) where
+  pub stored-bytes : storeBytes ram rom a n ≡ Done → _≡_ {A = Outcome} (record { state = t; ram = m; answer = Done }) (leaves s ram (storingBytes t ram rom a n v))
+  stored-bytes e = rw (e, after) refl
+
+  pub not-stored-bytes : (w : Why) → storeBytes ram rom a n ≡ Refused w → _≡_ {A = Outcome} (record { state = s; ram = m; answer = Refused w }) (leaves s ram (storingBytes t ram rom a n v))
+  not-stored-bytes w e = rw (e, after ∙ refused-bytes ram rom a n v w e) refl
+
+-- the same of a size
 module _ (s t : State) (ram rom : List ℕ) (a : ℕ) (z : Size) (v : ℕ) (m : List ℕ) (after : m ≡ ramAfter ram rom a z v) where
   pub stored : storeOf ram rom a z ≡ Done → _≡_ {A = Outcome} (record { state = t; ram = m; answer = Done }) (leaves s ram (storing t ram rom a z v))
-  unfolding storing
-  stored e = rw (e, after) refl
+  unfolding storing storeOf ramAfter
+  stored = stored-bytes s t ram rom a (bytesOf z) v m after
 
   pub not-stored : (w : Why) → storeOf ram rom a z ≡ Refused w → _≡_ {A = Outcome} (record { state = s; ram = m; answer = Refused w }) (leaves s ram (storing t ram rom a z v))
-  unfolding storing
-  not-stored w e = rw (e, after ∙ refused-keeps ram rom a z v w e) refl
+  unfolding storing storeOf ramAfter
+  not-stored = not-stored-bytes s t ram rom a (bytesOf z) v m after
 
 -- ---- a call, and then a change of the state where it was done
 module _ (s : State) (ram : List ℕ) (a : Answer) (u : State) (m : List ℕ) (f : State → State) where

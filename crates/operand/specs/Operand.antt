@@ -1,9 +1,9 @@
 -- The operand of an instruction: its address, its value, and a value put there.
 use Rattle.little.specs.Words.{ℕ, _+_, _-_, _%_, _^_, List, cond}
 use Rattle.answer.specs.declared.{Answer.Answer, Answer.the-variants.Done, Answer.the-variants.Refused}
-use Rattle.little.specs.declared.{Size.Size, Size.the-variants.Long}
+use Rattle.little.specs.{declared.Size.Size, declared.Size.the-variants.Long, Width.bytesOf}
 use Rattle.flags.specs.Width.{negative}
-use Rattle.memory.specs.{declared.Loaded.Loaded, declared.Loaded.the-variants.Value, Access.loadOf, Access.storeOf, Access.ramAfter}
+use Rattle.memory.specs.{declared.Loaded.Loaded, declared.Loaded.the-variants.Value, Access.loadOf, Access.storeBytes, Access.ramBytes}
 use Rattle.state.specs.{declared.Bank.Bank, declared.State.State, Register.registerAt, Register.setRegister}
 use Rattle.code.specs.declared.{Base.Base, MemoryForm.MemoryForm, Operand.Operand}
 use Rattle.code.specs.declared.Base.the-variants.{Indirect, Displaced, Absolute8, Absolute16, Absolute24}
@@ -50,9 +50,12 @@ abbrev pub storedBy : Answer → State → List ℕ → Try
 storedBy Done t ram = did t ram
 storedBy (Refused w) t ram = no w
 
--- a value stored at an address a
+-- a value of n bytes stored at an address a, and one of a size
+abbrev pub storingBytes : State → List ℕ → List ℕ → ℕ → ℕ → ℕ → Try
+storingBytes t ram rom a n v = storedBy (storeBytes ram rom a n) t (ramBytes ram rom a n v)
+
 unfoldable pub storing : State → List ℕ → List ℕ → ℕ → Size → ℕ → Try
-storing t ram rom a z v = storedBy (storeOf ram rom a z) t (ramAfter ram rom a z v)
+storing t ram rom a z v = storingBytes t ram rom a (bytesOf z) v
 
 -- a value put where the operand is
 abbrev pub putAt : State → List ℕ → List ℕ → Size → Operand → ℕ → Try

@@ -6,7 +6,7 @@ use mathlib.Core.Bool.{true}
 use native.Mathlib.Omega.{arith}
 use lib.Dec.{ltb}
 use lib.ListN.{length, getD, take, drop}
-use lib.Seq.{take-all}
+use lib.Seq.{take-all, getD-drop}
 use borrow.Author.Tests.{ltb-true}
 use Rattle.answer.specs.declared.Answer.the-variants.{Done}
 use Rattle.little.specs.Bytes.{valueOf, bytesFrom}
@@ -15,7 +15,8 @@ use Rattle.state.specs.declared.State.{State}
 use Rattle.state.specs.Sr.{srOf, fIn, bankIn, levelIn}
 use Rattle.state.proofs.Valid.{Valid, and-true}
 use Rattle.saved.specs.Record.{recordLength, oldLength, longsBytes, oldRecordOf, marksByte, recordOf}
-use Rattle.saved.specs.Record.{longsAt, srAt, marksAt, stateAt, isRecordOf, restoredFrom}
+use Rattle.saved.specs.Record.{longsAt, srAt, nestingAt, marksAt, stateAt, isRecordOf, restoredFrom}
+use Rattle.saved.proofs.Numbers.{two}
 
 -- ---- saving
 -- valid flags have two marks at most
@@ -45,7 +46,7 @@ front-whole s l n e = sym (take-all oldLength l (omega arith)) ∙ e
 pub record-filled :
     (s : State) (l0 l1 l2 l3 : List ℕ) {m : ℕ} → Valid s → m ≡ marksByte s → length l3 ≡ recordLength →
     take oldLength l0 ≡ oldRecordOf s →
-    take 90 l1 ≡ take oldLength l0 ++ bytesFrom 2 0 →
+    take 90 l1 ≡ take oldLength l0 ++ bytesFrom 2 (s .nesting) →
     take 91 l2 ≡ take 90 l1 ++ bytesFrom 1 m →
     take 92 l3 ≡ take 91 l2 ++ bytesFrom 1 0 →
     l3 ≡ recordOf s
@@ -55,14 +56,17 @@ record-filled s l0 l1 l2 l3 v is n e0 e1 e2 e3 =
     sym (take-all recordLength l3 (omega arith))
     ∙ e3
     ∙ rw (e2, e1, e0, is)
-    (append-assoc (oldRecordOf s ++ bytesFrom 2 0) (bytesFrom 1 (marksByte s)) (bytesFrom 1 0)
-    ∙ append-assoc (oldRecordOf s) (bytesFrom 2 0) (bytesFrom 1 (marksByte s) ++ bytesFrom 1 0))
-    ∙ ap (λ (m : ℕ). oldRecordOf s ++ (0 ∷ 0 ∷ m ∷ 0 ∷ [])) k
+    (append-assoc (oldRecordOf s ++ bytesFrom 2 (s .nesting)) (bytesFrom 1 (marksByte s)) (bytesFrom 1 0)
+    ∙ append-assoc (oldRecordOf s) (bytesFrom 2 (s .nesting)) (bytesFrom 1 (marksByte s) ++ bytesFrom 1 0))
+    ∙ ap (λ (m : ℕ). oldRecordOf s ++ (bytesFrom 2 (s .nesting) ++ (m ∷ 0 ∷ []))) k
 
 -- ---- loading
+pub nesting-made : (l : List ℕ) {a b : ℕ} → a ≡ getD l 88 0 → b ≡ getD l 89 0 → a + 256 * b ≡ nestingAt l
+nesting-made l e f = rw (e, f, ← getD-drop 88 l 0 0, ← getD-drop 88 l 1 0) (sym (two (drop 88 l)))
+
 pub state-made :
-    (l : List ℕ) {rs : List ℕ} {c sr b m : ℕ} → rs ≡ longsAt 20 l → c ≡ valueOf (take 4 (drop 80 l)) → sr ≡ srAt l →
-    b ≡ getD l 86 0 → m ≡ marksAt l →
+    (l : List ℕ) {rs : List ℕ} {c sr b m n : ℕ} → rs ≡ longsAt 20 l → c ≡ valueOf (take 4 (drop 80 l)) → sr ≡ srAt l →
+    b ≡ getD l 86 0 → m ≡ marksAt l → n ≡ nestingAt l →
     _≡_ {A = State}
     (record {
       registers = rs;
@@ -71,10 +75,11 @@ pub state-made :
       level = levelIn sr;
       flags = fIn sr + 2 ^ 8 * (m % 4);
       spare = b + 2 ^ 8 * (m / 4);
+      nesting = n;
     })
     (stateAt l)
 unfolding stateAt
-state-made l e f g i j = rw (e, f, g, i, j)
+state-made l e f g i j k = rw (e, f, g, i, j, k)
 
 pub load-good : (n : ℕ) (l : List ℕ) → isRecordOf n l ≡ true → restoredFrom n l ≡ record { answer = Done; state = stateAt l }
 unfolding restoredFrom

@@ -40,6 +40,13 @@ lent-take o n v l ys fits e =
 pub read-part : (n : ℕ) (l : List ℕ) → n ≤ 4 → valueOf (take 4 (take n l)) ≡ valueOf (take n l)
 read-part n l h = ap valueOf (take-all 4 (take n l) (simp length-take (omega arith)))
 
+-- two bytes, each 0 past the end
+pub two : (l : List ℕ) → valueOf (take 2 l) ≡ getD l 0 0 + 256 * getD l 1 0
+unfolding valueOf
+two [] = refl
+two (a ∷ []) = omega arith
+two (a ∷ b ∷ l) = omega arith
+
 -- one number more, at the end
 longs-snoc : (n : ℕ) (l : List ℕ) → longsAt (suc n) l ≡ longsAt n l ++ (valueOf (take 4 (drop (4 * n) l)) ∷ [])
 unfolding longsAt
@@ -97,10 +104,7 @@ bytes-longs (suc n) l k h =
 
 -- what is read fits
 pub value-two : (l : List ℕ) → Bytes l → valueOf (take 2 l) < 2 ^ 16
-unfolding valueOf
-value-two [] h = omega arith
-value-two (a ∷ []) h = omega (arith, h 0)
-value-two (a ∷ b ∷ l) h = omega (arith, h 0, h 1)
+value-two l h = omega (arith, two l, h 0, h 1)
 
 pub value-four : (l : List ℕ) → Bytes l → valueOf (take 4 l) < 2 ^ 32
 value-four l h = omega (arith, four l, h 0, h 1, h 2, h 3)

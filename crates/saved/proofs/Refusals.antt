@@ -27,11 +27,11 @@ saves s b = (
 pub old-saves : OldSaves
 unfolding oldSaveAnswer oldSaveBytes
 old-saves s b = (
-  λ v m e. (simp (v, eq-eqb _ _ m, eq-eqb _ _ e), simp (v, eq-eqb _ _ m, eq-eqb _ _ e)),
+  λ v m e. (simp (v, m, eq-eqb _ _ e), simp (v, m, eq-eqb _ _ e)),
   ⊎-elim
       (λ v. (simp v, simp v))
       (⊎-elim
-      (λ m. (simp (ne-eqb _ _ m, and-false), simp (ne-eqb _ _ m, and-false)))
+      (λ m. (simp (m, and-false), simp (m, and-false)))
       (λ e. (simp (ne-eqb _ _ e, and-false), simp (ne-eqb _ _ e, and-false)))),
 )
 

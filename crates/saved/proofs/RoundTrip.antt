@@ -18,8 +18,8 @@ use Rattle.state.specs.declared.State.{State}
 use Rattle.state.proofs.Valid.{Valid, valid-says, and-true}
 use Rattle.state.specs.Sr.{srOf, fIn, onesIn}
 use Rattle.state.proofs.Sr.{sr-lt, sr-back, sr-ones, sr-whole}
-use Rattle.saved.specs.Record.{recordLength, oldLength, longsBytes, oldRecordOf, marksByte, recordOf}
-use Rattle.saved.specs.Record.{longsAt, srAt, marksAt, stateAt, zeroAt, fixedAt, isRecordOf, isRecord, restoredFrom}
+use Rattle.saved.specs.Record.{recordLength, oldLength, longsBytes, oldRecordOf, marksByte, recordOf, fitsOld}
+use Rattle.saved.specs.Record.{longsAt, srAt, nestingAt, marksAt, stateAt, zeroAt, fixedAt, isRecordOf, isRecord, restoredFrom}
 use Rattle.saved.specs.Statements.{SavedReadsBack, RecordsAreOfStates, OldRecordsAreOfStates}
 use Rattle.saved.proofs.Numbers.{longs-length, longs-back, bytes-drop, part-bytes, bytes-longs, value-two, value-four, longs-fit}
 use Rattle.saved.proofs.Laws.{marks-lt, load-good}
@@ -32,17 +32,23 @@ unfolding oldRecordOf
 parts s t = simp append-assoc
 
 -- ---- saved, then read
--- a tail that tells the marks of a state, with a zero everywhere else
+-- a tail that tells the count and the marks of a state, and then a zero
 record Tail (s : State) (t : List ℕ) : Type 0 where
-  zeros : (getD t 0 0 ≡ 0) × (getD t 1 0 ≡ 0) × (getD t 3 0 ≡ 0)
+  nesting : valueOf (take 2 t) ≡ s .nesting
   marks : getD t 2 0 ≡ marksByte s
+  zero : getD t 3 0 ≡ 0
 
 -- the bytes of a record, and none
-marks-tail : (s : State) → Tail s (0 ∷ 0 ∷ marksByte s ∷ 0 ∷ [])
-marks-tail s = record { zeros = (refl, refl, refl); marks = refl }
+new-tail : (s : State) → Sound s → Tail s (bytesFrom 2 (s .nesting) ++ (marksByte s ∷ 0 ∷ []))
+unfolding bytesFrom
+new-tail s ok = record { nesting = value-bytes 2 (s .nesting) (ok .nesting-fit); marks = refl; zero = refl }
 
-no-tail : (s : State) → marksByte s ≡ 0 → Tail s []
-no-tail s e = record { zeros = (refl, refl, refl); marks = sym e }
+fits-says : (s : State) → fitsOld s ≡ true → (marksByte s ≡ 0) × (s .nesting ≡ 0)
+fits-says s e = let a = and-true (eqb (marksByte s) 0) _ e in (eqb-true _ _ (a .0), eqb-true _ _ (a .1))
+
+no-tail : (s : State) → fitsOld s ≡ true → Tail s []
+unfolding valueOf
+no-tail s e = let k = fits-says s e in record { nesting = sym (k .1); marks = sym (k .0); zero = refl }
 
 module _ (s : State) (ok : Sound s) (v : Valid s) (t : List ℕ) where
   abbrev whole : List ℕ
@@ -65,6 +71,9 @@ module _ (s : State) (ok : Sound s) (v : Valid s) (t : List ℕ) where
 
   at-86 : drop 86 whole ≡ last
   at-86 = sym (drop-drop 2 84 whole) ∙ ap (drop 2) at-84 ∙ drop-at (bytesFrom 2 (srOf s)) _ 2 (length-bytes 2 (srOf s))
+
+  at-88 : drop 88 whole ≡ t
+  at-88 = sym (drop-drop 2 86 whole) ∙ ap (drop 2) at-86
 
   byte-is : (i : ℕ) → getD whole (86 + i) 0 ≡ getD last i 0
   byte-is i = sym (getD-drop 86 whole i 0) ∙ ap (λ (l : List ℕ). getD l i 0) at-86
@@ -90,6 +99,9 @@ module _ (s : State) (ok : Sound s) (v : Valid s) (t : List ℕ) where
     marks-are : marksAt whole ≡ marksByte s
     marks-are = byte-is 4 ∙ k .marks
 
+    nesting-is : nestingAt whole ≡ s .nesting
+    nesting-is = ap (λ (l : List ℕ). valueOf (take 2 l)) at-88 ∙ k .nesting
+
     flags-are : fIn (srOf s) + 2 ^ 8 * (marksByte s % 4) ≡ s .flags
     flags-are = omega (arith, sr-back s v .2, marks-lt (s .flags) (v .flags))
 
@@ -100,7 +112,7 @@ module _ (s : State) (ok : Sound s) (v : Valid s) (t : List ℕ) where
     unfolding stateAt
     whole-back =
         let back = sr-back s v in
-        rw (registers-are, counter-is, sr-is, marks-are, byte-is 0, back .0, back .1, flags-are, spare-is)
+        rw (registers-are, counter-is, sr-is, marks-are, byte-is 0, back .0, back .1, flags-are, spare-is, nesting-is)
 
     whole-good : validOf s ≡ true → isRecordOf (oldLength + length t) whole ≡ true
     whole-good e =
@@ -110,19 +122,17 @@ module _ (s : State) (ok : Sound s) (v : Valid s) (t : List ℕ) where
           sr-is,
           sr-ones s v,
           byte-is 1,
-          byte-is 2 ∙ k .zeros .0,
-          byte-is 3 ∙ k .zeros .1,
-          byte-is 5 ∙ k .zeros .2,
+          byte-is 5 ∙ k .zero,
         )
 
     reads-back : validOf s ≡ true → restoredFrom (oldLength + length t) whole ≡ record { answer = Done; state = s }
     reads-back e = load-good _ whole (whole-good e) ∙ ap (λ (r : State). record { answer = Done; state = r }) whole-back
 
 pub saved-reads-back : SavedReadsBack
-unfolding recordOf
+unfolding recordOf bytesFrom
 saved-reads-back s ok e =
     let v = valid-says s e in (
-      reads-back s ok v _ (marks-tail s) e,
+      reads-back s ok v _ (new-tail s ok) e,
       λ m. rw (append-nil (oldRecordOf s)) at (reads-back s ok v [] (no-tail s m) e),
     )
 
@@ -136,13 +146,11 @@ module _ (l : List ℕ) (h : Bytes l) where
   marks-same = omega (arith, h 86)
 
   module _ (n : oldLength ≤ length l) (m : fixedAt l ≡ true) where
-    fixed : (onesIn (srAt l) ≡ true) × (getD l 87 0 ≡ 0) × (getD l 88 0 ≡ 0) × (getD l 89 0 ≡ 0) × (getD l 91 0 ≡ 0)
+    fixed : (onesIn (srAt l) ≡ true) × (getD l 87 0 ≡ 0) × (getD l 91 0 ≡ 0)
     fixed =
         let a = and-true (onesIn (srAt l)) _ m in
         let b = and-true (zeroAt 87 l) _ (a .1) in
-        let c = and-true (zeroAt 88 l) _ (b .1) in
-        let d = and-true (zeroAt 89 l) _ (c .1) in
-        (a .0, eqb-true _ _ (b .0), eqb-true _ _ (c .0), eqb-true _ _ (d .0), eqb-true _ _ (d .1))
+        (a .0, eqb-true _ _ (b .0), eqb-true _ _ (b .1))
 
     sr-same : srOf (stateAt l) ≡ srAt l
     unfolding stateAt
@@ -178,22 +186,32 @@ module _ (l : List ℕ) (h : Bytes l) where
         (take-append-drop 80 l)
 
     -- what follows the front of a record
-    tail-same : length l ≡ recordLength → drop 88 l ≡ 0 ∷ 0 ∷ marksByte (stateAt l) ∷ 0 ∷ []
+    tail-same : length l ≡ recordLength → bytesFrom 2 (nestingAt l) ++ (marksByte (stateAt l) ∷ 0 ∷ []) ≡ drop 88 l
     tail-same e =
+        let two : bytesFrom 2 (nestingAt l) ≡ take 2 (drop 88 l) =
+        part-bytes 2 (drop 88 l) (simp length-drop (omega arith)) (bytes-drop 88 l h) in
+        let last : drop 90 l ≡ marksByte (stateAt l) ∷ 0 ∷ [] =
         rw (
-          drop-byte l 88 0 (omega arith) (fixed .2),
-          drop-byte l 89 0 (omega arith) (fixed .3),
           drop-byte l 90 (marksByte (stateAt l)) (omega arith) (sym marks-same),
-          drop-byte l 91 0 (omega arith) (fixed .4),
+          drop-byte l 91 0 (omega arith) (fixed .2),
           drop-of-length-le l {i = recordLength} (omega arith),
-        )
+        ) in
+        rw (two, ← last, ← drop-drop 2 88 l) (take-append-drop 2 (drop 88 l))
 
     record-same : length l ≡ recordLength → recordOf (stateAt l) ≡ l
-    unfolding recordOf
-    record-same e = rw (← tail-same e) front-same
+    unfolding recordOf stateAt
+    record-same e = rw (tail-same e) front-same
 
     old-same : length l ≡ oldLength → oldRecordOf (stateAt l) ≡ l
     old-same e = sym (append-nil (oldRecordOf (stateAt l))) ∙ rw (← drop-of-length-le l {i = oldLength} (omega arith)) front-same
+
+-- past the end nothing is told
+old-fits : (l : List ℕ) → Bytes l → length l ≤ oldLength → fitsOld (stateAt l) ≡ true
+unfolding stateAt valueOf
+old-fits l h n =
+    let m : marksByte (stateAt l) ≡ 0 = marks-same l h ∙ List·getD-eq-default l 0 (omega arith) in
+    let c : nestingAt l ≡ 0 = rw (drop-of-length-le l n) refl in
+    simp (eq-eqb _ _ m, eq-eqb _ _ c)
 
 -- what is read is sound
 pub sound-at : (l : List ℕ) → Bytes l → Sound (stateAt l)
@@ -207,6 +225,7 @@ sound-at l h =
       level-fit = omega arith;
       flags-fit = omega arith;
       spare-fit = omega (arith, h 86, h 90);
+      nesting-fit = value-two (drop 88 l) (bytes-drop 88 l h);
     }
 
 -- what a good record is
@@ -222,9 +241,9 @@ read-saves-back l h e =
     record-same l h (omega (arith, g .0)) (g .2) (g .0)
 
 pub records-are-of-states : RecordsAreOfStates
-unfolding recordOf
+unfolding recordOf bytesFrom
 records-are-of-states = (
-  λ s ok e. whole-good s ok (valid-says s e) _ (marks-tail s) e,
+  λ s ok e. whole-good s ok (valid-says s e) _ (new-tail s ok) e,
   λ l h e. (good-says recordLength l e .1, read-saves-back l h e),
 )
 
@@ -234,7 +253,7 @@ old-records-are-of-states = (
   λ l h e.
       let g = good-says oldLength l e in (
         g .1,
-        marks-same l h ∙ List·getD-eq-default l 0 (omega (arith, g .0)),
+        old-fits l h (omega (arith, g .0)),
         old-same l h (omega (arith, g .0)) (g .2) (g .0),
       ),
 )

@@ -1,4 +1,4 @@
--- A saved state: one record of bytes with no header. The old record is the first 88 bytes of it, and has no room for marks.
+-- A saved state: one record of bytes with no header. The old record is the first 88 bytes of it: it has no nesting count and no marks.
 use Rattle.little.specs.Words.{ℕ, zero, suc, _+_, _*_, _/_, _%_, _^_, _≡_, List, [], _∷_, _++_, Bool, cond, _&&_, length, getD, take, drop, eqb}
 use Rattle.answer.specs.declared.{Answer.Answer, Answer.the-variants.Done, Answer.the-variants.Refused, Why.Why, Why.the-variants.Invalid}
 use Rattle.little.specs.Bytes.{valueOf, bytesFrom}
@@ -26,9 +26,13 @@ oldRecordOf s = longsBytes (s .registers) ++ (bytesFrom 4 (s .counter) ++ (bytes
 abbrev pub marksByte : State → ℕ
 marksByte s = marksOf (s .flags) + 4 * marksOf (s .spare)
 
--- the record: the old one, two zero bytes, the marks, a zero byte
+-- the record: the old one, the nesting count in two bytes, the marks, a zero byte
 unfoldable pub recordOf : State → List ℕ
-recordOf s = oldRecordOf s ++ (0 ∷ 0 ∷ marksByte s ∷ 0 ∷ [])
+recordOf s = oldRecordOf s ++ (bytesFrom 2 (s .nesting) ++ (marksByte s ∷ 0 ∷ []))
+
+-- no mark, and the count 0: the old record leaves nothing of the state out
+abbrev pub fitsOld : State → Bool
+fitsOld s = eqb (marksByte s) 0 && eqb (s .nesting) 0
 
 -- ---- saving: an invalid state, or a buffer of another length, is refused and leaves the buffer
 -- whether a state can be saved in n bytes
@@ -47,9 +51,9 @@ saveBytes s buffer = cond (canSave s (length buffer)) (recordOf s) buffer
 abbrev pub SaveMeets : State → List ℕ → Answer → List ℕ → Type 0
 SaveMeets s buffer a c = (a ≡ saveAnswer s (length buffer)) × (c ≡ saveBytes s buffer)
 
--- ---- saving in the old form: a marked state is refused too
+-- ---- saving in the old form: a state with a mark, or whose count is not 0, is refused too
 abbrev pub canSaveOld : State → ℕ → Bool
-canSaveOld s n = validOf s && (eqb (marksByte s) 0 && eqb n oldLength)
+canSaveOld s n = validOf s && (fitsOld s && eqb n oldLength)
 
 unfoldable pub oldSaveAnswer : State → ℕ → Answer
 oldSaveAnswer s n = cond (canSaveOld s n) Done (Refused Invalid)
@@ -60,7 +64,7 @@ oldSaveBytes s buffer = cond (canSaveOld s (length buffer)) (oldRecordOf s) buff
 abbrev pub OldSaveMeets : State → List ℕ → Answer → List ℕ → Type 0
 OldSaveMeets s buffer a c = (a ≡ oldSaveAnswer s (length buffer)) × (c ≡ oldSaveBytes s buffer)
 
--- ---- loading, of both forms: what an old record lacks reads as 0, so that it has no marks
+-- ---- loading, of both forms: what an old record lacks reads as 0, so that it has no marks and the count 0
 -- the first n numbers of four bytes
 unfoldable pub longsAt : ℕ → List ℕ → List ℕ
 longsAt zero l = []
@@ -69,6 +73,10 @@ longsAt (suc n) l = valueOf (take 4 l) ∷ longsAt n (drop 4 l)
 -- SR of a record
 abbrev pub srAt : List ℕ → ℕ
 srAt l = valueOf (take 2 (drop 84 l))
+
+-- the nesting count of a record: in an old one nothing follows byte 87, and the number with no bytes is 0
+abbrev pub nestingAt : List ℕ → ℕ
+nestingAt l = valueOf (take 2 (drop 88 l))
 
 -- the marks of a record
 abbrev pub marksAt : List ℕ → ℕ
@@ -83,6 +91,7 @@ stateAt l = record {
   level = levelIn (srAt l);
   flags = fIn (srAt l) + 2 ^ 8 * (marksAt l % 4);
   spare = getD l 86 0 + 2 ^ 8 * (marksAt l / 4);
+  nesting = nestingAt l;
 }
 
 -- byte i is zero, or is not there
@@ -91,7 +100,7 @@ zeroAt i l = eqb (getD l i 0) 0
 
 -- the ones of SR, and the zero bytes
 abbrev pub fixedAt : List ℕ → Bool
-fixedAt l = onesIn (srAt l) && (zeroAt 87 l && (zeroAt 88 l && (zeroAt 89 l && zeroAt 91 l)))
+fixedAt l = onesIn (srAt l) && (zeroAt 87 l && zeroAt 91 l)
 
 -- of n bytes, and with no bit that no valid state has
 abbrev pub isRecordOf : ℕ → List ℕ → Bool

@@ -3,17 +3,17 @@ use Rattle.little.specs.Words.{ℕ, _≡_, true, false, _⊎_, List, length, se
 use Rattle.answer.specs.declared.{Answer.Answer, Answer.the-variants.Done, Answer.the-variants.Refused, Why.the-variants.Invalid}
 use Rattle.little.specs.Bytes.{Bytes}
 use Rattle.state.specs.{declared.State.State, State.zeroState, State.validOf, Sound.Sound}
-use Rattle.saved.specs.Record.{recordLength, oldLength, recordOf, oldRecordOf, marksByte, saveAnswer, saveBytes, SaveMeets}
+use Rattle.saved.specs.Record.{recordLength, oldLength, recordOf, oldRecordOf, fitsOld, saveAnswer, saveBytes, SaveMeets}
 use Rattle.saved.specs.Record.{oldSaveAnswer, oldSaveBytes, OldSaveMeets, stateAt, isRecordOf, isRecord, isOldRecord}
 use Rattle.saved.specs.Record.{restoredFrom, restoredOf, oldRestoredOf, LoadMeets, OldLoadMeets}
 use Rattle.saved.specs.declared.Restored.{Restored}
 
--- a saved state reads back as itself; in the old form, one with no marks
+-- a saved state reads back as itself; in the old form, one with no marks and the count 0
 abbrev pub SavedReadsBack : Type 0
 SavedReadsBack =
     (s : State) → Sound s → validOf s ≡ true →
     (restoredOf (recordOf s) ≡ record { answer = Done; state = s })
-    × (marksByte s ≡ 0 → oldRestoredOf (oldRecordOf s) ≡ record { answer = Done; state = s })
+    × (fitsOld s ≡ true → oldRestoredOf (oldRecordOf s) ≡ record { answer = Done; state = s })
 
 -- the good records are those of valid states, and no others: each is written again as itself
 abbrev pub RecordsAreOfStates : Type 0
@@ -21,12 +21,12 @@ RecordsAreOfStates =
     ((s : State) → Sound s → validOf s ≡ true → isRecord (recordOf s) ≡ true)
     × ((l : List ℕ) → Bytes l → isRecord l ≡ true → (validOf (stateAt l) ≡ true) × (recordOf (stateAt l) ≡ l))
 
--- the good old records are those of valid states with no marks, and no others
+-- the good old records are those of valid states with no marks and the count 0, and no others
 abbrev pub OldRecordsAreOfStates : Type 0
 OldRecordsAreOfStates =
-    ((s : State) → Sound s → validOf s ≡ true → marksByte s ≡ 0 → isOldRecord (oldRecordOf s) ≡ true)
+    ((s : State) → Sound s → validOf s ≡ true → fitsOld s ≡ true → isOldRecord (oldRecordOf s) ≡ true)
     × ((l : List ℕ) → Bytes l → isOldRecord l ≡ true →
-    (validOf (stateAt l) ≡ true) × (marksByte (stateAt l) ≡ 0) × (oldRecordOf (stateAt l) ≡ l))
+    (validOf (stateAt l) ≡ true) × (fitsOld (stateAt l) ≡ true) × (oldRecordOf (stateAt l) ≡ l))
 
 -- the record of the all-zero state has no bit but the two ones of SR
 abbrev pub ZeroRecord : Type 0
@@ -39,13 +39,13 @@ Saves =
     ((validOf s ≡ true) → (length b ≡ recordLength) → (saveAnswer s (length b) ≡ Done) × (saveBytes s b ≡ recordOf s))
     × (((validOf s ≡ false) ⊎ (length b ≡ recordLength → ⊥)) → (saveAnswer s (length b) ≡ Refused Invalid) × (saveBytes s b ≡ b))
 
--- in the old form the same, and a marked state is 2 and leaves the buffer
+-- in the old form the same, and a state with a mark, or whose count is not 0, is 2 and leaves the buffer
 abbrev pub OldSaves : Type 0
 OldSaves =
     (s : State) (b : List ℕ) →
-    ((validOf s ≡ true) → (marksByte s ≡ 0) → (length b ≡ oldLength) →
+    ((validOf s ≡ true) → (fitsOld s ≡ true) → (length b ≡ oldLength) →
     (oldSaveAnswer s (length b) ≡ Done) × (oldSaveBytes s b ≡ oldRecordOf s))
-    × ((validOf s ≡ false) ⊎ ((marksByte s ≡ 0 → ⊥) ⊎ (length b ≡ oldLength → ⊥)) →
+    × ((validOf s ≡ false) ⊎ ((fitsOld s ≡ false) ⊎ (length b ≡ oldLength → ⊥)) →
     (oldSaveAnswer s (length b) ≡ Refused Invalid) × (oldSaveBytes s b ≡ b))
 
 -- what is no good record, of either length, is 2, and gives the all-zero state

@@ -4,8 +4,8 @@ ghost use mathlib.Core.List.{_++_};
 ghost use lib.ListN.{length, getD, take, drop};
 ghost use Prim.Native.Nat.{_+_, _≤_};
 ghost use Rattle.little.specs.Bytes.{valueOf, bytesFrom};
-ghost use Rattle.saved.specs.Record.{oldLength, longsBytes, oldRecordOf, marksByte, SaveMeets, OldSaveMeets};
-ghost use Rattle.saved.specs.Record.{longsAt, stateAt, zeroAt, fixedAt, refusedRecord, restoredFrom, LoadMeets, OldLoadMeets};
+ghost use Rattle.saved.specs.Record.{oldLength, longsBytes, oldRecordOf, marksByte, fitsOld, SaveMeets, OldSaveMeets};
+ghost use Rattle.saved.specs.Record.{longsAt, nestingAt, stateAt, zeroAt, fixedAt, refusedRecord, restoredFrom, LoadMeets, OldLoadMeets};
 use answer::Answer;
 use answer::Why;
 use state::State;
@@ -24,7 +24,7 @@ pub struct Restored {
 // How many bytes a record has.
 const LENGTH: usize = 92;
 
-// The same of the old record, which is the front of the new one and has no marks.
+// The same of the old record, which is the front of the new one and has no count and no marks.
 const OLD_LENGTH: usize = 88;
 
 // Writes a number of n bytes from a place on; what stands before it stays.
@@ -76,6 +76,13 @@ fn marks_byte(s: State) -> u32
     (s.flags / 256) as u32 + 4 * ((s.spare / 256) as u32)
 }
 
+// Whether the old record leaves nothing of the state out.
+fn fits_old(s: State) -> bool
+    ensures { λ r. ⌜ r ≡ fitsOld s ⌝ }
+{
+    (marks_byte(s) == 0) & (s.nesting == 0)
+}
+
 // Saves a valid state into a buffer of a record's length; any other state or buffer is refused, and the buffer stays.
 pub fn save(s: State, out: &mut [u8]) -> Answer
     ensures { λ r. ⌜ SaveMeets s (now (out .entry)) r (now (out .exit)) ⌝ }
@@ -83,7 +90,7 @@ pub fn save(s: State, out: &mut [u8]) -> Answer
     if s.valid() {
         if out.len() == LENGTH {
             save_front(s, out);
-            write_at(out, 88, 2, 0);
+            write_at(out, 88, 2, s.nesting as u32);
             write_at(out, 90, 1, marks_byte(s));
             write_at(out, 91, 1, 0);
             return Answer::Done;
@@ -92,12 +99,12 @@ pub fn save(s: State, out: &mut [u8]) -> Answer
     Answer::Refused(Why::Invalid)
 }
 
-// The same in the old form: a state with a mark is refused too, since there is no room for it.
+// The same in the old form: a state that this would not keep whole is refused too.
 pub fn save_old(s: State, out: &mut [u8]) -> Answer
     ensures { λ r. ⌜ OldSaveMeets s (now (out .entry)) r (now (out .exit)) ⌝ }
 {
     if s.valid() {
-        if marks_byte(s) == 0 {
+        if fits_old(s) {
             if out.len() == OLD_LENGTH {
                 save_front(s, out);
                 return Answer::Done;
@@ -120,11 +127,17 @@ fn longs(bytes: &[u8]) -> [u32; 20]
     registers
 }
 
-// The byte at an index; 0 past the end, so that an old record reads as one with no marks.
+// The byte at an index; 0 past the end, so that an old record reads as one with no marks and the count 0.
 fn byte_at(bytes: &[u8], i: usize) -> u8
     ensures { λ r. ⌜ r ≡ getD (now (bytes .entry)) i 0 ⌝ }
 {
     if i < bytes.len() { bytes[i] } else { 0 }
+}
+
+fn nesting_at(bytes: &[u8]) -> u16
+    ensures { λ r. ⌜ r ≡ nestingAt (now (bytes .entry)) ⌝ }
+{
+    byte_at(bytes, 88) as u16 + 256 * (byte_at(bytes, 89) as u16)
 }
 
 fn state_at(bytes: &[u8]) -> State
@@ -144,6 +157,7 @@ fn state_at(bytes: &[u8]) -> State
         level: level_in(sr),
         flags: flags,
         spare: spare,
+        nesting: nesting_at(bytes),
     }
 }
 
@@ -159,7 +173,7 @@ fn fixed_at(bytes: &[u8]) -> bool
     ensures { λ r. ⌜ r ≡ fixedAt (now (bytes .entry)) ⌝ }
 {
     let ones = ones_in(read_at(bytes, 84, 2));
-    ones & (zero_at(bytes, 87) & (zero_at(bytes, 88) & (zero_at(bytes, 89) & zero_at(bytes, 91))))
+    ones & (zero_at(bytes, 87) & zero_at(bytes, 91))
 }
 
 fn refuse() -> Restored
@@ -196,7 +210,7 @@ pub fn load(bytes: &[u8]) -> Restored
     load_of(bytes, LENGTH)
 }
 
-// The same of an old record: its state has no marks.
+// The same of an old record: its state has no marks and the count 0.
 pub fn load_old(bytes: &[u8]) -> Restored
     ensures { λ r. ⌜ OldLoadMeets (now (bytes .entry)) r ⌝ }
 {

@@ -2,9 +2,9 @@
 use Rattle.little.specs.Words.{ℕ, _%_, _^_, List, cond}
 use Rattle.little.specs.{declared.Size.Size, declared.Size.the-variants.Byte, declared.Size.the-variants.Long, Width.bytesOf}
 use Rattle.flags.specs.Flag.{byteOf, flagsOf, anyMarked}
-use Rattle.memory.specs.Access.{loadOf}
+use Rattle.memory.specs.Access.{loadBytes}
 use Rattle.state.specs.{declared.State.State, State.withCounter, State.withFlags, Register.getRegister, Register.setRegister}
-use Rattle.operand.specs.{Try.Try, Try.did, Try.no, Try.andThen, Try.withLoaded, Operand.displaced, Operand.pointerOf, Operand.storing, Flag.flagsIn}
+use Rattle.operand.specs.{Try.Try, Try.did, Try.no, Try.andThen, Try.withLoaded, Operand.displaced, Operand.pointerOf, Operand.storingBytes, Flag.flagsIn}
 use Rattle.operand.specs.{Round.less, Round.plus}
 use Rattle.answer.specs.declared.{Answer.Answer, Answer.the-variants.Done, Answer.the-variants.Refused, Why.the-variants.Undefined}
 use Rattle.code.specs.{declared.Operand.Operand, declared.Stack.Stack, Written.constantIn, Written.registerIn}
@@ -14,21 +14,27 @@ use Rattle.code.specs.declared.Stack.the-variants.{PushF, PopF, Push, Pop, Call
 abbrev pub withStack : State → ℕ → State
 withStack s x = setRegister s Long 7 x
 
--- push: XSP less the size, then store
+-- push of n bytes: XSP less their number, then store
+abbrev pub pushBytes : State → List ℕ → List ℕ → ℕ → ℕ → Try
+pushBytes s ram rom n v =
+    let x = less 32 (getRegister s Long 7) n in
+    storingBytes (withStack s x) ram rom (x % 2 ^ 24) n v
+
 unfoldable pub pushOf : State → List ℕ → List ℕ → Size → ℕ → Try
-pushOf s ram rom z v =
-    let x = less 32 (getRegister s Long 7) (bytesOf z) in
-    storing (withStack s x) ram rom (x % 2 ^ 24) z v
+pushOf s ram rom z v = pushBytes s ram rom (bytesOf z) v
 
 -- PUSH F: 8 where a flag of F is marked, before the store is looked at
 unfoldable pub pushFOf : State → List ℕ → List ℕ → Try
 pushFOf s ram rom = cond (anyMarked (flagsIn s)) (no Undefined) (pushOf s ram rom Byte (byteOf (flagsIn s)))
 
--- pop the other way: load, then XSP plus the size; what is done with the value is the rest
+-- pop of n bytes the other way: load, then XSP plus their number; what is done with the value is the rest
+abbrev pub popBytes : State → List ℕ → List ℕ → ℕ → (State → ℕ → State) → Try
+popBytes s ram rom n rest =
+    withLoaded (loadBytes ram rom (pointerOf s 7) n)
+    (λ v. did (rest (withStack s (plus 32 (getRegister s Long 7) n)) v) ram)
+
 unfoldable pub popOf : State → List ℕ → List ℕ → Size → (State → ℕ → State) → Try
-popOf s ram rom z rest =
-    withLoaded (loadOf ram rom (pointerOf s 7) z)
-    (λ v. did (rest (withStack s (plus 32 (getRegister s Long 7) (bytesOf z))) v) ram)
+popOf s ram rom z rest = popBytes s ram rom (bytesOf z) rest
 
 -- a call pushes the next address as four bytes; the state is past the instruction
 abbrev pub callOf : State → List ℕ → List ℕ → ℕ → Try

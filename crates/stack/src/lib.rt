@@ -1,6 +1,7 @@
 // Pushes, pops, calls and returns.
 ghost use mathlib.Core.Path.{_≡_};
-ghost use Rattle.little.specs.Width.{bytesOf};
+ghost use Prim.Native.Nat.{_%_, _^_};
+ghost use Rattle.memory.specs.inner.Six.{sixFrom};
 ghost use Rattle.little.specs.declared.Size.the-variants.{Byte, Long};
 ghost use Rattle.flags.specs.Flag.{byteOf, flagsOf};
 ghost use Rattle.state.specs.declared.State.{State};
@@ -8,8 +9,8 @@ ghost use Rattle.state.specs.State.{banked, withCounter, withFlags};
 ghost use Rattle.state.specs.inner.Lent.{bankedWith, bankedAt, bankedAtWith};
 ghost use Rattle.state.specs.Register.{registerAt, setRegister};
 ghost use Rattle.operand.specs.inner.Does.{Does};
-ghost use Rattle.operand.specs.Round.{plus};
-ghost use Rattle.stack.specs.Stack.{withStack, pushOf, pushFOf, popOf, callOf, endAfter, stackOf};
+ghost use Rattle.operand.specs.Round.{less, plus};
+ghost use Rattle.stack.specs.Stack.{withStack, pushBytes, pushOf, pushFOf, popOf, callOf, endAfter, stackOf};
 use answer::Answer;
 use answer::Why;
 use code::Operand;
@@ -35,25 +36,50 @@ fn move_end(stored: Answer, bank: Bank, regs: &mut [u32; 20], end: u32)
     }
 }
 
+// The address n bytes below the stack's end, not cut to 24 bits.
+fn below(bank: Bank, regs: &[u32; 20], n: u32) -> u32
+    ensures { λ x. ⌜ x ≡ less 32 (registerAt (now (regs .entry)) bank Long 7) n ⌝ }
+{
+    std::num::wrapping_sub_u32(state::read(regs, bank, Size::Long, 7), n)
+}
+
 // Stores below the stack's end, and moves the end there where the store is done.
-fn push(bank: Bank, regs: &mut [u32; 20], ram: &mut [u8], rom: &[u8], size: Size, v: u32) -> Answer
+pub fn push(bank: Bank, regs: &mut [u32; 20], ram: &mut [u8], rom: &[u8], size: Size, v: u32) -> Answer
     ensures { λ a. ⌜ ((s : State) → Does (λ t m. pushOf t m (now (rom .entry)) size v)
         (banked s (now (regs .entry)) bank) (now (ram .entry))
         a (banked s (now (regs .exit)) bank) (now (ram .exit))) ⌝ }
 {
     let n = little::bytes(size) as u32;
-    let end = std::num::wrapping_sub_u32(state::read(&*regs, bank, Size::Long, 7), n);
+    let end = below(bank, &*regs, n);
     let a = memory::store(ram, rom, end % ADDRESSES, size, v);
     move_end(a, bank, regs, end);
     a
 }
 
-// The stack's end moved, as after a pop of a size.
-fn popped(bank: Bank, regs: &mut [u32; 20], size: Size)
-    ensures { λ _. ⌜ ((s : State) → banked s (now (regs .exit)) bank
-        ≡ withStack (banked s (now (regs .entry)) bank) (plus 32 (registerAt (now (regs .entry)) bank Long 7) (bytesOf size))) ⌝ }
+// The same of six bytes: the low two of one value, and a whole one above them.
+pub fn push_six(
+    bank: Bank,
+    regs: &mut [u32; 20],
+    ram: &mut [u8],
+    rom: &[u8],
+    low: u32,
+    high: u32,
+) -> Answer
+    ensures { λ a. ⌜ ((s : State) → Does (λ t m. pushBytes t m (now (rom .entry)) 6 (sixFrom (low % 2 ^ 16) high))
+        (banked s (now (regs .entry)) bank) (now (ram .entry))
+        a (banked s (now (regs .exit)) bank) (now (ram .exit))) ⌝ }
 {
-    let n = little::bytes(size) as u32;
+    let end = below(bank, &*regs, 6);
+    let stored = memory::store_six(ram, rom, end % ADDRESSES, low, high);
+    move_end(stored, bank, regs, end);
+    stored
+}
+
+// The stack's end moved, as after a pop of n bytes.
+pub fn raise(bank: Bank, regs: &mut [u32; 20], n: u32)
+    ensures { λ _. ⌜ ((s : State) → banked s (now (regs .exit)) bank
+        ≡ withStack (banked s (now (regs .entry)) bank) (plus 32 (registerAt (now (regs .entry)) bank Long 7) n)) ⌝ }
+{
     let x = state::read(&*regs, bank, Size::Long, 7);
     state::write(regs, bank, Size::Long, 7, std::num::wrapping_add_u32(x, n));
 }
@@ -66,7 +92,7 @@ fn pop(bank: Bank, regs: &mut [u32; 20], ram: &[u8], rom: &[u8], size: Size, cod
 {
     match memory::load(ram, rom, pointer(bank, &*regs, 7), size) {
         Loaded::Value(v) => {
-            popped(bank, &mut *regs, size);
+            raise(bank, &mut *regs, little::bytes(size) as u32);
             state::write(regs, bank, size, code, v);
             Answer::Done
         }
@@ -101,7 +127,7 @@ fn ret(bank: Bank, regs: &mut [u32; 20], counter: &mut u32, ram: &[u8], rom: &[u
 {
     match memory::load(ram, rom, pointer(bank, &*regs, 7), Size::Long) {
         Loaded::Value(v) => {
-            popped(bank, regs, Size::Long);
+            raise(bank, regs, 4);
             *counter = v % ADDRESSES;
             Answer::Done
         }
@@ -130,7 +156,7 @@ fn pop_f(bank: Bank, regs: &mut [u32; 20], flags: &mut u16, ram: &[u8], rom: &[u
     match memory::load(ram, rom, pointer(bank, &*regs, 7), Size::Byte) {
         Loaded::Value(v) => {
             let f = (v % 256) as u16;
-            popped(bank, regs, Size::Byte);
+            raise(bank, regs, 1);
             *flags = flags::byte(flags::unpack(f)) as u16;
             Answer::Done
         }

@@ -14,7 +14,7 @@ use denote.Plain.{UInt}
 use denote.Array.{each}
 use denote.Shadow.{shadow}
 use Rattle.state.specs.declared.State.{State}
-use Rattle.state.specs.State.{lent}
+use Rattle.state.specs.State.{lent, nested}
 use Rattle.state.specs.Sound.{Sound}
 use Rattle.state.proofs.State.{the-row}
 
@@ -36,6 +36,7 @@ sound s p =
       level-fit = q .1 .1 .1 .0 .1 .1 .0 .1;
       flags-fit = q .1 .1 .1 .1 .0 .1;
       spare-fit = q .1 .1 .1 .1 .1 .0 .1;
+      nesting-fit = q .1 .1 .1 .1 .1 .1 .0 .1;
     }
 
 -- a sound state with parts laid over it that fit
@@ -43,7 +44,11 @@ pub sound-lent :
     (s : State) (registers : List ℕ) (counter bank flags spare : ℕ) → Sound s → length registers ≡ 20 → ((i : ℕ) → getD registers i 0 < 2 ^ 32)
     → counter < 2 ^ 32 → bank < 2 ^ 8 → flags < 2 ^ 16 → spare < 2 ^ 16 → Sound (lent s registers counter bank flags spare)
 sound-lent s registers counter bank flags spare ok t r c b f g =
-    record { twenty = t; fit = r; counter-fit = c; bank-fit = b; level-fit = ok .level-fit; flags-fit = f; spare-fit = g }
+    record { twenty = t; fit = r; counter-fit = c; bank-fit = b; level-fit = ok .level-fit; flags-fit = f; spare-fit = g; nesting-fit = ok .nesting-fit }
+
+pub sound-nested : (s : State) (level nesting : ℕ) → Sound s → level < 2 ^ 8 → nesting < 2 ^ 16 → Sound (nested s level nesting)
+sound-nested s level nesting ok l n =
+    record { twenty = ok .twenty; fit = ok .fit; counter-fit = ok .counter-fit; bank-fit = ok .bank-fit; level-fit = l; flags-fit = ok .flags-fit; spare-fit = ok .spare-fit; nesting-fit = n }
 
 -- ---- and a state is sound by a test that computes
 pub and-left : (a b : Bool) → T (a && b) → T a
@@ -72,7 +77,7 @@ soundTest s =
     && (ltb (s .counter) (2 ^ 32)
     && (ltb (s .bank .0) (2 ^ 8)
     && (ltb (s .level .0) (2 ^ 8)
-    && (ltb (s .flags) (2 ^ 16) && ltb (s .spare) (2 ^ 16))))))
+    && (ltb (s .flags) (2 ^ 16) && (ltb (s .spare) (2 ^ 16) && ltb (s .nesting) (2 ^ 16)))))))
 
 pub sound-by : (s : State) → T (soundTest s) → Sound s
 sound-by s t =
@@ -81,6 +86,7 @@ sound-by s t =
     let c = and-right (ltb (s .counter) (2 ^ 32)) _ b in
     let d = and-right (ltb (s .bank .0) (2 ^ 8)) _ c in
     let e = and-right (ltb (s .level .0) (2 ^ 8)) _ d in
+    let f = and-right (ltb (s .flags) (2 ^ 16)) _ e in
     record {
       twenty = eqb→eq _ _ (and-left (eqb (length (s .registers)) 20) _ t);
       fit = fits-says (2 ^ 32) (omega arith) (s .registers) (and-left (fits (2 ^ 32) (s .registers)) _ a);
@@ -88,5 +94,6 @@ sound-by s t =
       bank-fit = ltb→lt _ _ (and-left (ltb (s .bank .0) (2 ^ 8)) _ c);
       level-fit = ltb→lt _ _ (and-left (ltb (s .level .0) (2 ^ 8)) _ d);
       flags-fit = ltb→lt _ _ (and-left (ltb (s .flags) (2 ^ 16)) _ e);
-      spare-fit = ltb→lt _ _ (and-right (ltb (s .flags) (2 ^ 16)) _ e);
+      spare-fit = ltb→lt _ _ (and-left (ltb (s .spare) (2 ^ 16)) _ f);
+      nesting-fit = ltb→lt _ _ (and-right (ltb (s .spare) (2 ^ 16)) _ f);
     }

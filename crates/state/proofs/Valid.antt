@@ -6,7 +6,7 @@ use mathlib.Core.Bool.{Bool, true, false, _&&_}
 use native.Mathlib.Omega.{arith}
 use lib.Dec.{ltb}
 use borrow.Author.Tests.{lt-ltb, ltb-true}
-use Rattle.state.specs.State.{flagsValid, validOf, zeroState, resetState, lent, withCounter, withBank, withFlags, withBothFlags, withLong}
+use Rattle.state.specs.State.{flagsValid, validOf, zeroState, resetState, lent, nested, withCounter, withBank, withLevel, withNesting, withFlags, withBothFlags, withLong}
 use Rattle.state.specs.Register.{setSlot, setRegister}
 use Rattle.little.specs.declared.Size.{Size}
 use Rattle.state.specs.declared.Slot.{Slot}
@@ -64,6 +64,17 @@ valid-counter s c v = valid-lent s _ _ _ _ _ v (omega arith) (v .bank) (v .flags
 pub valid-bank : (s : State) (b : ℕ) → Valid s → Valid (withBank s b)
 unfolding withBank
 valid-bank s b v = valid-lent s _ _ _ _ _ v (v .counter) (omega arith) (v .flags) (v .spare)
+
+pub valid-nested : (s : State) (level nesting : ℕ) → Valid s → level < 8 → Valid (nested s level nesting)
+valid-nested s level nesting v l = record { counter = v .counter; bank = v .bank; level = l; flags = v .flags; spare = v .spare }
+
+pub valid-level : (s : State) (l : ℕ) → Valid s → Valid (withLevel s l)
+unfolding withLevel
+valid-level s l v = valid-nested s (l % 8) (s .nesting) v (omega arith)
+
+pub valid-nesting : (s : State) (n : ℕ) → Valid s → Valid (withNesting s n)
+unfolding withNesting
+valid-nesting s n v = valid-nested s (s .level .0) (n % 2 ^ 16) v (v .level)
 
 pub valid-both : (s : State) (f g : ℕ) → flagsValid f ≡ true → flagsValid g ≡ true → Valid s → Valid (withBothFlags s f g)
 unfolding withBothFlags

@@ -11,3 +11,4 @@ pub record Sound (s : State) : Type 0 where
   pub level-fit : s .level .0 < 2 ^ 8
   pub flags-fit : s .flags < 2 ^ 16
   pub spare-fit : s .spare < 2 ^ 16
+  pub nesting-fit : s .nesting < 2 ^ 16

@@ -4,8 +4,11 @@ use Rattle.state.specs.declared.{Bank.Bank, Level.Level, State.State}
 use Rattle.state.specs.State.{fOf}
 
 -- F below, without its marks, the bank in bits 8 to 10, bit 11 one, the level in bits 12 to 14, bit 15 one
+abbrev pub srFrom : ℕ → Bank → Level → ℕ
+srFrom flags bank level = fOf flags + 2 ^ 8 * bank .0 + 2 ^ 11 + 2 ^ 12 * level .0 + 2 ^ 15
+
 abbrev pub srOf : State → ℕ
-srOf s = fOf (s .flags) + 2 ^ 8 * s .bank .0 + 2 ^ 11 + 2 ^ 12 * s .level .0 + 2 ^ 15
+srOf s = srFrom (s .flags) (s .bank) (s .level)
 
 -- and back
 abbrev pub fIn : ℕ → ℕ

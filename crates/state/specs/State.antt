@@ -4,14 +4,14 @@ use Rattle.state.specs.declared.{Bank.Bank, State.State}
 
 -- all zero
 unfoldable pub zeroState : State
-zeroState = record { registers = replicate 20 0; counter = 0; bank = record { 0 = 0 }; level = record { 0 = 0 }; flags = 0; spare = 0 }
+zeroState = record { registers = replicate 20 0; counter = 0; bank = record { 0 = 0 }; level = record { 0 = 0 }; flags = 0; spare = 0; nesting = 0 }
 
 -- after reset: XSP, the last of the twenty, 100H; bank 0; level 7; other registers and both F zero, with no mark;
--- the counter from the low 24 bits of the vector
+-- the nesting count 0; the counter from the low 24 bits of the vector
 unfoldable pub resetState : ℕ → State
 resetState vector =
     let registers : List ℕ = set (replicate 20 0) 19 0x100 in
-    record { registers = registers; counter = vector % 2 ^ 24; bank = record { 0 = 0 }; level = record { 0 = 7 }; flags = 0; spare = 0 }
+    record { registers = registers; counter = vector % 2 ^ 24; bank = record { 0 = 0 }; level = record { 0 = 7 }; flags = 0; spare = 0; nesting = 0 }
 
 -- A set of flags is one number: F, and above it the marks of those that nobody defined, bit 8 for H, whose own bit is 4, and bit 9
 -- for V, whose own bit is 2
@@ -38,10 +38,15 @@ unfoldable pub longOf : State → ℕ → ℕ
 longOf s i = getD (s .registers) i 0
 
 -- ---- a state whose parts lie apart: s with what a function is lent in the place of its own; the rest is as it is in s
--- all that a turn is lent
+-- what most instructions touch
 abbrev pub lent : State → List ℕ → ℕ → ℕ → ℕ → ℕ → State
 lent s registers counter bank flags spare =
-    record { registers = registers; counter = counter; bank = record { 0 = bank }; flags = flags; spare = spare; level = s .level }
+    record { registers = registers; counter = counter; bank = record { 0 = bank }; flags = flags; spare = spare; level = s .level; nesting = s .nesting }
+
+-- the interrupt level and the nesting count
+abbrev pub nested : State → ℕ → ℕ → State
+nested s level nesting =
+    record { registers = s .registers; counter = s .counter; bank = s .bank; flags = s .flags; spare = s .spare; level = record { 0 = level }; nesting = nesting }
 
 -- the registers and the bank
 abbrev pub banked : State → List ℕ → Bank → State
@@ -58,6 +63,14 @@ withCounter s c = lent s (s .registers) (c % 2 ^ 24) (s .bank .0) (s .flags) (s 
 -- the bank number is taken modulo 4
 unfoldable pub withBank : State → ℕ → State
 withBank s b = banked s (s .registers) (record { 0 = b % 4 })
+
+-- the level is taken modulo 8
+unfoldable pub withLevel : State → ℕ → State
+withLevel s l = nested s (l % 8) (s .nesting)
+
+-- the nesting count is taken modulo 2^16
+unfoldable pub withNesting : State → ℕ → State
+withNesting s n = nested s (s .level .0) (n % 2 ^ 16)
 
 -- F and F', each with its marks
 unfoldable pub withBothFlags : State → ℕ → ℕ → State

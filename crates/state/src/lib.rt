@@ -1,7 +1,7 @@
-// The machine's state: twenty long registers, the counter, the bank, the interrupt level and two sets of flags.
+// The machine's state: twenty long registers, the counter, the bank, the interrupt level, two sets of flags and the nesting count.
 ghost use mathlib.Core.Path.{_≡_};
 ghost use Prim.Native.Nat.{_%_, _<_};
-ghost use Rattle.state.specs.State.{lent, banked, zeroState, resetState, flagsValid, validOf, longOf};
+ghost use Rattle.state.specs.State.{banked, zeroState, resetState, flagsValid, validOf, longOf};
 ghost use Rattle.state.specs.Register.{getBits, setBits, startOf, widthOf, getSlot, indexOf, bytePart, slotOf, registerAt, getRegister, setRegister};
 use little::ADDRESSES;
 use little::Size;
@@ -24,6 +24,8 @@ pub struct State {
     // F, and F', which waits until it is exchanged. Above each stand the marks of its flags that nobody defined: 256 for H, 512 for V.
     pub flags: u16,
     pub spare: u16,
+    // How many requests were taken and not returned from, round at 16 bits.
+    pub nesting: u16,
 }
 
 // A part of a long register.
@@ -59,6 +61,7 @@ impl State {
             level: Level(0),
             flags: 0,
             spare: 0,
+            nesting: 0,
         }
     }
 
@@ -75,6 +78,7 @@ impl State {
             level: Level(7),
             flags: 0,
             spare: 0,
+            nesting: 0,
         }
     }
 
@@ -212,22 +216,38 @@ pub fn write(registers: &mut [u32; 20], bank: Bank, size: Size, code: u8, v: u32
     registers[i] = with_bits(p, registers[i], v);
 }
 
-// A state with these parts in the place of its own.
+// The bank and the level whose numbers a turn is lent: the two places where a number of these becomes what it is.
+pub fn current(bank: &u8) -> Bank
+    ensures { λ r. ⌜ r ≡ record { 0 = now (bank .entry) } ⌝ }
+{
+    Bank(*bank)
+}
+
+pub fn mask(level: &u8) -> Level
+    ensures { λ r. ⌜ r ≡ record { 0 = now (level .entry) } ⌝ }
+{
+    Level(*level)
+}
+
+// A state of these parts.
 pub fn whole(
-    s: State,
     registers: [u32; 20],
     counter: u32,
     bank: Bank,
+    level: Level,
     flags: u16,
     spare: u16,
+    nesting: u16,
 ) -> State
-    ensures { λ r. ⌜ r ≡ lent s registers counter (bank .0) flags spare ⌝ }
+    ensures { λ r. ⌜ r ≡ record { registers = registers; counter = counter; bank = bank; level = level; flags = flags; spare = spare; nesting = nesting } ⌝ }
 {
-    let mut t = s;
-    t.registers = registers;
-    t.counter = counter;
-    t.bank = bank;
-    t.flags = flags;
-    t.spare = spare;
-    t
+    State {
+        registers: registers,
+        counter: counter,
+        bank: bank,
+        level: level,
+        flags: flags,
+        spare: spare,
+        nesting: nesting,
+    }
 }

@@ -1,16 +1,23 @@
 // The status register SR: F, the bank and the level as one number.
 ghost use mathlib.Core.Path.{_≡_};
-ghost use Rattle.state.specs.Sr.{srOf, fIn, bankIn, levelIn, onesIn};
+ghost use Rattle.state.specs.Sr.{srFrom, srOf, fIn, bankIn, levelIn, onesIn};
 use crate::Bank;
 use crate::Level;
 use crate::State;
 
+// Of F, which may have marks above it, a bank and a level.
+pub fn sr_of(flags: u16, bank: Bank, level: Level) -> u32
+    ensures { λ r. ⌜ r ≡ srFrom flags bank level ⌝ }
+{
+    let b = bank.0;
+    let l = level.0;
+    (flags % 256) as u32 + 256 * (b as u32) + 2048 + 4096 * (l as u32) + 32768
+}
+
 pub fn sr(s: State) -> u32
     ensures { λ r. ⌜ r ≡ srOf s ⌝ }
 {
-    let b = s.bank.0;
-    let l = s.level.0;
-    (s.flags % 256) as u32 + 256 * (b as u32) + 2048 + 4096 * (l as u32) + 32768
+    sr_of(s.flags, s.bank, s.level)
 }
 
 pub fn flags_in(sr: u32) -> u8

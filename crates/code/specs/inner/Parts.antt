@@ -6,7 +6,7 @@ use Rattle.code.specs.{declared.MemoryForm.MemoryForm, declared.Base.the
 use Rattle.code.specs.{declared.Operand.the-variants.Constant, declared.Operand.the-variants.Memory, declared.Decoded.Decoded}
 use Rattle.code.specs.{declared.Decoded.the-variants.Short, declared.Decoded.the-variants.Unlisted, Said.wholeOf, Said.judge, Rows.Row}
 use Rattle.code.specs.{Rows.byRows, Memory.form, Memory.memoryRows, Memory.storeRows, Memory.blockRows}
-use Rattle.code.specs.declared.Op.the-variants.{Controls, Stacks, Puts, Sets, Blocks}
+use Rattle.code.specs.declared.Op.the-variants.{Controls, Stacks, Puts, Sets, Blocks, Interrupts}
 use Rattle.code.specs.declared.Use.the-variants.{Number, From, Load, Compute, Changed}
 use Rattle.code.specs.declared.Side.the-variants.{First, Second, With}
 use Rattle.code.specs.declared.Alone.{Alone}
@@ -39,6 +39,7 @@ abbrev pub aloneAs : Alone → Decoded
 aloneAs (alone.Controls what v n) = wholeOf (Controls what) Byte (Constant v) n
 aloneAs (alone.Stacks what z o n) = wholeOf (Stacks what) z o n
 aloneAs (alone.Sets r z v n) = wholeOf (Sets r) z (Constant v) n
+aloneAs (alone.Interrupts what n) = wholeOf (Interrupts what) Byte (Constant 0) n
 aloneAs alone.Short = Short
 aloneAs alone.Unlisted = Unlisted
 

@@ -1,6 +1,6 @@
 use Prim.Native.Nat.{_%_}
 use mathlib.Core.Path.{_≡_, refl, _∙_}
-use Rattle.state.specs.State.{withBank, withCounter, withFlags, withBothFlags}
+use Rattle.state.specs.State.{withLevel, withBank, withCounter, withFlags, withBothFlags}
 use Rattle.state.specs.inner.Lent.{controlled}
 use Rattle.operand.specs.Flag.{flagged}
 use Rattle.control.specs.Control.{controlOf}
@@ -104,6 +104,12 @@ enum-known-what-2 c = search needs
 jump-requires-2 : tie.Need-jump-requires-2
 jump-requires-2 c κs = search needs
 
+enum-told-12 : tie.Need-enum-told-12
+enum-told-12 c = search needs
+
+admit-requires : tie.Need-admit-requires
+admit-requires c κs = search needs
+
 returns : tie.Need-returns
 unfolding controlOf
 returns c rest ram = rw (c .enum-told .given .1) refl
@@ -152,13 +158,17 @@ returns-12 : tie.Need-returns-12
 unfolding controlOf
 returns-12 c rest ram =
     let a = c .before .before .before .before .before .before .before .before .args in
-    c .jump .ensures (controlled rest (a .counter .now) (a .bank .now) (a .flags .now) (a .spare .now)) ram ∙ rw (c .before .before .before .what .given .1) refl
+    c .jump .ensures (controlled rest (a .counter .now) (a .bank .now) (a .level .now) (a .flags .now) (a .spare .now)) ram ∙ rw (c .before .before .before .what .given .1) refl
 
 returns-13 : tie.Need-returns-13
 unfolding controlOf
 returns-13 c rest ram =
     let a = c .before .before .before .before .before .before .before .before .args in
-    c .jump2 .ensures (controlled rest (a .counter .now) (a .bank .now) (a .flags .now) (a .spare .now)) ram ∙ rw (c .before .before .before .what2 .given .1) refl
+    c .jump2 .ensures (controlled rest (a .counter .now) (a .bank .now) (a .level .now) (a .flags .now) (a .spare .now)) ram ∙ rw (c .before .before .before .what2 .given .1) refl
+
+returns-14 : tie.Need-returns-14
+unfolding controlOf withLevel
+returns-14 c rest ram = rw (c .before .before .enum-told12 .given .1, c .admit .ensures .0, c .admit .ensures .1) refl
 
 pub control-spec : {M : Type 1} → statement M
-control-spec = tie.close (tie.spec unpack-requires enum-told enum-told-2 add-select select-requires enum-told-3 add-select-2 select-requires-2 enum-told-4 select-requires-3 enum-told-5 rcf-requires set-requires enum-told-6 scf-requires set-requires-2 enum-told-7 ccf-requires set-requires-3 enum-told-8 zcf-requires set-requires-4 enum-told-9 exchange-requires enum-told-10 go-requires enum-told-11 go-requires-2 enum-known-what jump-requires enum-known-what-2 jump-requires-2 returns returns-2 returns-3 returns-4 returns-5 returns-6 returns-7 returns-8 returns-9 returns-10 returns-11 returns-12 returns-13)
+control-spec = tie.close (tie.spec unpack-requires enum-told enum-told-2 add-select select-requires enum-told-3 add-select-2 select-requires-2 enum-told-4 select-requires-3 enum-told-5 rcf-requires set-requires enum-told-6 scf-requires set-requires-2 enum-told-7 ccf-requires set-requires-3 enum-told-8 zcf-requires set-requires-4 enum-told-9 exchange-requires enum-told-10 go-requires enum-told-11 go-requires-2 enum-known-what jump-requires enum-known-what-2 jump-requires-2 enum-told-12 admit-requires returns returns-2 returns-3 returns-4 returns-5 returns-6 returns-7 returns-8 returns-9 returns-10 returns-11 returns-12 returns-13 returns-14)

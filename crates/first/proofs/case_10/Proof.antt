@@ -5,8 +5,8 @@ use borrow.Author.Needs.{needs}
 use Rattle.first.proofs.case_10.Statement.{statement}
 use Rattle.first.proofs.case_10.Tie as tie
 
-bank-number-requires : tie.Need-bank-number-requires
-bank-number-requires c κs = search needs
+up-to-seven-requires : tie.Need-up-to-seven-requires
+up-to-seven-requires c κs = search needs
 
 returns : tie.Need-returns
 unfolding first judge
@@ -30,7 +30,7 @@ returns-5 c = rw (c .match .keys5) refl
 
 returns-6 : tie.Need-returns-6
 unfolding first
-returns-6 c = rw (c .before .match .keys6) (c .bank-number .ensures)
+returns-6 c = rw (c .before .match .keys6) (c .up-to-seven .ensures)
 
 returns-7 : tie.Need-returns-7
 unfolding judge
@@ -38,4 +38,4 @@ returns-7 c = rw (no-10 _ (c .before .before .pre) (c .match .rest)) refl
 
 pub case-10-spec : {M : Type 1} → statement M
 case-10-spec =
-    tie.close (tie.spec bank-number-requires returns returns-2 returns-3 returns-4 returns-5 returns-6 returns-7)
+    tie.close (tie.spec up-to-seven-requires returns returns-2 returns-3 returns-4 returns-5 returns-6 returns-7)

@@ -70,7 +70,7 @@ returns-9 : tie.Need-returns-9
 returns-9 c = rw (pop-long _ (c .before .match .keys9)) (c .stack4 .ensures _)
 
 returns-10 : tie.Need-returns-10
-returns-10 c = c .case-00 .ensures _
+returns-10 c = c .case-00 .ensures
 
 returns-11 : tie.Need-returns-11
 returns-11 c = rw (jump-short _ (c .before .before .if2 .left) (c .before .before .before .before .match .rest .1) (c .before .if3 .taken)) (c .control .ensures)

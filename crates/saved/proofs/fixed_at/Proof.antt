@@ -14,21 +14,13 @@ zero-at-requires c κs = search needs
 zero-at-requires-2 : tie.Need-zero-at-requires-2
 zero-at-requires-2 c κs = search needs
 
-zero-at-requires-3 : tie.Need-zero-at-requires-3
-zero-at-requires-3 c κs = search needs
-
-zero-at-requires-4 : tie.Need-zero-at-requires-4
-zero-at-requires-4 c κs = search needs
-
 returns : tie.Need-returns
 returns c =
     rw (
-      c .before .before .before .before .ones-in .ensures,
-      c .before .before .before .before .before .read-at .ensures,
-      c .before .before .before .zero-at .ensures,
-      c .before .before .zero-at2 .ensures,
-      c .before .zero-at3 .ensures,
-      c .zero-at4 .ensures,
+      c .before .before .ones-in .ensures,
+      c .before .before .before .read-at .ensures,
+      c .before .zero-at .ensures,
+      c .zero-at2 .ensures,
     )
 
 pub fixed-at-spec : {M : Type 1} → statement M
@@ -39,6 +31,4 @@ fixed-at-spec =
     ones-in-requires
     zero-at-requires
     zero-at-requires-2
-    zero-at-requires-3
-    zero-at-requires-4
     returns)

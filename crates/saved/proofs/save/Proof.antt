@@ -13,6 +13,9 @@ valid-requires c κs = search needs
 save-front-requires : tie.Need-save-front-requires
 save-front-requires c κs = search needs
 
+cast-write-at : tie.Need-cast-write-at
+cast-write-at c = search needs
+
 write-at-requires : tie.Need-write-at-requires
 write-at-requires c κs = search needs
 
@@ -34,7 +37,7 @@ returns c =
     let w3 = c .before .before in
     let w2 = w3 .before .before .before .before in
     let w1 = w2 .before .before .before .before .before in
-    let w0 = w1 .before .before .before .before in
+    let w0 = w1 .before .before .before .before .before in
     let t = w0 .before .before in
     let a = t .before .before .before .before .args in
     let v = sym (t .before .before .valid .ensures) ∙ t .before .if1 .taken in
@@ -65,6 +68,7 @@ save-spec =
     (tie.spec
     valid-requires
     save-front-requires
+    cast-write-at
     write-at-requires
     marks-byte-requires
     write-at-requires-2

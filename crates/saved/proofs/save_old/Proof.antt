@@ -9,8 +9,8 @@ use Rattle.saved.proofs.save_old.Tie as tie
 valid-requires : tie.Need-valid-requires
 valid-requires c κs = search needs
 
-marks-byte-requires : tie.Need-marks-byte-requires
-marks-byte-requires c κs = search needs
+fits-old-requires : tie.Need-fits-old-requires
+fits-old-requires c κs = search needs
 
 save-front-requires : tie.Need-save-front-requires
 save-front-requires c κs = search needs
@@ -25,7 +25,7 @@ returns c =
     let m = t .before in
     let a = m .before .before .before .before .before .args in
     let v = sym (m .before .before .before .valid .ensures) ∙ m .before .before .if1 .taken in
-    let d = old-saves (a .s) (a .out .now) .0 v (sym (m .before .marks-byte .ensures) ∙ m .if2 .taken) (t .if3 .taken) in
+    let d = old-saves (a .s) (a .out .now) .0 v (sym (m .before .fits-old .ensures) ∙ m .if2 .taken) (t .if3 .taken) in
     (sym (d .0), front-whole (a .s) (w .save-front .last .1 .0) (same-length c ∙ t .if3 .taken) (w .save-front .ensures) ∙ sym (d .1))
 
 returns-2 : tie.Need-returns-2
@@ -37,7 +37,7 @@ returns-2 c =
 returns-3 : tie.Need-returns-3
 returns-3 c =
     let a = c .before .before .before .before .before .args in
-    let d = old-saves (a .s) (a .out .now) .1 (inr (inl (λ e. c .if2 .left (c .before .marks-byte .ensures ∙ e)))) in
+    let d = old-saves (a .s) (a .out .now) .1 (inr (inl (sym (c .before .fits-old .ensures) ∙ c .if2 .left))) in
     (sym (d .0), sym (d .1))
 
 returns-4 : tie.Need-returns-4
@@ -51,7 +51,7 @@ save-old-spec =
     tie.close
     (tie.spec
     valid-requires
-    marks-byte-requires
+    fits-old-requires
     save-front-requires
     same-length
     returns

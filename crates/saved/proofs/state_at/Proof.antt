@@ -48,19 +48,23 @@ bank-in-requires c κs = search needs
 level-in-requires : tie.Need-level-in-requires
 level-in-requires c κs = search needs
 
+nesting-at-requires : tie.Need-nesting-at-requires
+nesting-at-requires c κs = search needs
+
 returns : tie.Need-returns
 returns c =
-    let m = c .before .before .before .before in
+    let m = c .before .before .before .before .before in
     let r = m .before in
     let bytes = r .before .before .before .before .args .bytes .now in
-    rw (c .before .bank-in .ensures, c .level-in .ensures, c .before .before .before .flags-in .ensures)
+    rw (c .before .before .bank-in .ensures, c .before .level-in .ensures, c .before .before .before .before .flags-in .ensures)
     (state-made
     bytes
     (r .before .before .longs .ensures)
     (r .before .read-at .ensures)
     (r .read-at2 .ensures)
-    (c .before .before .byte-at2 .ensures)
-    (m .byte-at .ensures))
+    (c .before .before .before .byte-at2 .ensures)
+    (m .byte-at .ensures)
+    (c .nesting-at .ensures))
 
 pub state-at-spec : {M : Type 1} → statement M
 state-at-spec =
@@ -81,4 +85,5 @@ state-at-spec =
     add-spare
     bank-in-requires
     level-in-requires
+    nesting-at-requires
     returns)

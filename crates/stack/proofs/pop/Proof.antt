@@ -1,4 +1,6 @@
 use mathlib.Core.Path.{sym, _∙_}
+use native.Mathlib.Omega.{arith}
+use Rattle.memory.proofs.Laws.{bytes-le}
 use Rattle.state.specs.State.{banked}
 use Rattle.state.specs.Register.{setRegister}
 use Rattle.stack.proofs.Laws.{popped-by, not-popped}
@@ -15,8 +17,14 @@ load-requires c κs = search needs
 enum-known-v : tie.Need-enum-known-v
 enum-known-v c = search needs
 
-popped-requires : tie.Need-popped-requires
-popped-requires c κs = search needs
+bytes-requires : tie.Need-bytes-requires
+bytes-requires c κs = search needs
+
+cast-raise : tie.Need-cast-raise
+cast-raise c = omega (arith, bytes-le (c .before .before .before .before .before .before .before .before .before .before .args .size))
+
+raise-requires : tie.Need-raise-requires
+raise-requires c κs = search needs
 
 write-requires : tie.Need-write-requires
 write-requires c κs = search needs
@@ -26,11 +34,11 @@ enum-known-a c = search needs
 
 returns : tie.Need-returns
 returns c rest =
-    let a = c .before .before .before .before .before .before .before .before .before .before .before .before .args in
+    let a = c .before .before .before .before .before .before .before .before .before .before .before .before .before .args in
     let s = banked rest (a .regs .now) (a .bank) in
-    let e = rw (c .before .before .before .before .before .before .before .before .pointer .ensures) at (c .before .before .before .before .before .before .before .load .ensures) in
-    rw (c .write .ensures rest, c .before .before .popped .ensures rest)
-    (sym (popped-by s (a .ram .now) (a .rom .now) (a .size) (λ t v. setRegister t (a .size) (a .code) v) (c .before .before .before .before .before .v .given .0 .0) (sym e ∙ c .before .before .before .before .before .v .given .1)))
+    let e = rw (c .before .before .before .before .before .before .before .before .before .pointer .ensures) at (c .before .before .before .before .before .before .before .before .load .ensures) in
+    rw (c .write .ensures rest, c .before .before .raise .ensures rest, c .before .before .before .bytes .ensures)
+    (sym (popped-by s (a .ram .now) (a .rom .now) (a .size) (λ t v. setRegister t (a .size) (a .code) v) (c .before .before .before .before .before .before .v .given .0 .0) (sym e ∙ c .before .before .before .before .before .before .v .given .1)))
 
 returns-2 : tie.Need-returns-2
 returns-2 c rest =
@@ -46,7 +54,9 @@ pop-spec =
     pointer-requires
     load-requires
     enum-known-v
-    popped-requires
+    bytes-requires
+    cast-raise
+    raise-requires
     write-requires
     enum-known-a
     returns

@@ -24,8 +24,8 @@ enum-known-v c = search needs
 cast-f : tie.Need-cast-f
 cast-f c = search needs
 
-popped-requires : tie.Need-popped-requires
-popped-requires c κs = search needs
+raise-requires : tie.Need-raise-requires
+raise-requires c κs = search needs
 
 unpack-requires : tie.Need-unpack-requires
 unpack-requires c κs = search needs
@@ -48,7 +48,7 @@ returns c rest =
     let v = c .before .before .before .before .before .v .given .0 .0 in
     let e = rw (c .before .before .before .before .before .before .before .before .pointer .ensures) at (c .before .before .before .before .before .before .before .load .ensures) in
     rw (c .byte .ensures, c .before .unpack .ensures, byte-low v)
-    (ap (λ (t : State). after Done (withFlags t (byteOf (flagsOf v))) (a .ram .now)) (c .before .before .popped .ensures s)
+    (ap (λ (t : State). after Done (withFlags t (byteOf (flagsOf v))) (a .ram .now)) (c .before .before .raise .ensures s)
     ∙ sym (popped-by s (a .ram .now) (a .rom .now) Byte (λ t x. withFlags t (byteOf (flagsOf x))) v (sym e ∙ c .before .before .before .before .before .v .given .1)))
 
 returns-2 : tie.Need-returns-2
@@ -67,7 +67,7 @@ pop-f-spec =
     load-requires
     enum-known-v
     cast-f
-    popped-requires
+    raise-requires
     unpack-requires
     byte-requires
     cast-flags

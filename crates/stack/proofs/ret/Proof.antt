@@ -19,8 +19,8 @@ load-requires c κs = search needs
 enum-known-v : tie.Need-enum-known-v
 enum-known-v c = search needs
 
-popped-requires : tie.Need-popped-requires
-popped-requires c κs = search needs
+raise-requires : tie.Need-raise-requires
+raise-requires c κs = search needs
 
 enum-known-a : tie.Need-enum-known-a
 enum-known-a c = search needs
@@ -33,7 +33,7 @@ returns c rest =
     let s = bankedAt rest (a .regs .now) (a .bank) counter in
     let v = c .before .before .before .v .given .0 .0 in
     let e = rw (c .before .before .before .before .before .before .pointer .ensures) at (c .before .before .before .before .before .load .ensures) in
-    ap (λ (t : State). after Done (withCounter t v) (a .ram .now)) (c .popped .ensures s)
+    ap (λ (t : State). after Done (withCounter t v) (a .ram .now)) (c .raise .ensures s)
     ∙ sym (popped-by s (a .ram .now) (a .rom .now) Long withCounter v (sym e ∙ c .before .before .before .v .given .1))
 
 returns-2 : tie.Need-returns-2
@@ -51,7 +51,7 @@ ret-spec =
     pointer-requires
     load-requires
     enum-known-v
-    popped-requires
+    raise-requires
     enum-known-a
     returns
     returns-2)

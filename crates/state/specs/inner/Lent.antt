@@ -1,6 +1,6 @@
 -- A state whose parts lie apart, as the functions within a step are lent some of them.
 use Rattle.little.specs.Words.{ℕ, List}
-use Rattle.state.specs.{declared.Bank.Bank, declared.State.State, State.lent}
+use Rattle.state.specs.{declared.Bank.Bank, declared.State.State, State.lent, State.nested}
 
 -- the registers, the bank and F
 abbrev pub bankedWith : State → List ℕ → Bank → ℕ → State
@@ -14,9 +14,25 @@ bankedAt s registers bank counter = lent s registers counter (bank .0) (s .flags
 abbrev pub bankedAtWith : State → List ℕ → Bank → ℕ → ℕ → State
 bankedAtWith s registers bank counter flags = lent s registers counter (bank .0) flags (s .spare)
 
--- all but the registers
-abbrev pub controlled : State → ℕ → ℕ → ℕ → ℕ → State
-controlled s counter bank flags spare = lent s (s .registers) counter bank flags spare
+-- all but the registers and the nesting count
+abbrev pub controlled : State → ℕ → ℕ → ℕ → ℕ → ℕ → State
+controlled s counter bank level flags spare = lent (nested s level (s .nesting)) (s .registers) counter bank flags spare
+
+-- what SR is made of: the bank, the level and F
+abbrev pub ruled : State → ℕ → ℕ → ℕ → State
+ruled s bank level flags = lent (nested s level (s .nesting)) (s .registers) (s .counter) bank flags (s .spare)
+
+-- the same and the registers
+abbrev pub ruledWith : State → List ℕ → ℕ → ℕ → ℕ → State
+ruledWith s registers bank level flags = lent (nested s level (s .nesting)) registers (s .counter) bank flags (s .spare)
+
+-- all but F'
+abbrev pub interrupted : State → List ℕ → ℕ → ℕ → ℕ → ℕ → ℕ → State
+interrupted s registers counter bank level flags nesting = lent (nested s level nesting) registers counter bank flags (s .spare)
+
+-- all that a turn is lent, which is the whole state
+abbrev pub turned : State → List ℕ → ℕ → ℕ → ℕ → ℕ → ℕ → ℕ → State
+turned s registers counter bank level flags spare nesting = lent (nested s level nesting) registers counter bank flags spare
 
 -- the counter and F
 abbrev pub flaggedAt : State → ℕ → ℕ → State
