@@ -3,8 +3,7 @@ ghost use mathlib.Core.Path.{_≡_};
 ghost use mathlib.Core.List.{List};
 ghost use Prim.Native.Nat.{ℕ};
 ghost use Rattle.state.specs.declared.State.{State};
-ghost use Rattle.state.specs.State.{lent};
-ghost use Rattle.state.specs.inner.Lent.{bankedAtWith};
+ghost use Rattle.state.specs.inner.Lent.{allOf, bankedAtWith};
 ghost use Rattle.code.specs.declared.Operand.the-variants.{Register};
 ghost use Rattle.code.specs.inner.Parts.{aloneAs, registerAs};
 ghost use Rattle.operand.specs.inner.Does.{Does};
@@ -20,6 +19,7 @@ use compute::register::operate;
 use compute::register::with;
 use control::control;
 use control::past;
+use interrupt::interrupt;
 use little::Size;
 use stack::stack;
 use state::Bank;
@@ -53,20 +53,24 @@ pub fn alone(
     regs: &mut [u32; 20],
     counter: &mut u32,
     bank: &mut u8,
+    level: &mut u8,
     flags: &mut u16,
     spare: &mut u16,
+    nesting: &mut u16,
     ram: &mut [u8],
     rom: &[u8],
 ) -> Answer
-    ensures { λ a. ⌜ ((s : State) → Does (λ t m. done (aloneAs read) t m (now (rom .entry)))
-        (lent s (now (regs .entry)) (now (counter .entry)) (now (bank .entry)) (now (flags .entry)) (now (spare .entry))) (now (ram .entry))
-        a (lent s (now (regs .exit)) (now (counter .exit)) (now (bank .exit)) (now (flags .exit)) (now (spare .exit))) (now (ram .exit))) ⌝ }
+    ensures { λ a. ⌜ Does (λ t m. done (aloneAs read) t m (now (rom .entry)))
+        (allOf (now (regs .entry)) (now (counter .entry)) (now (bank .entry)) (now (level .entry))
+            (now (flags .entry)) (now (spare .entry)) (now (nesting .entry))) (now (ram .entry))
+        a (allOf (now (regs .exit)) (now (counter .exit)) (now (bank .exit)) (now (level .exit))
+            (now (flags .exit)) (now (spare .exit)) (now (nesting .exit))) (now (ram .exit)) ⌝ }
 {
     let here = *counter;
     match read {
         Alone::Controls(what, v, n) => {
             past(&mut *counter, n);
-            let a = control(what, v, &mut *counter, bank, flags, spare);
+            let a = control(what, v, &mut *counter, bank, level, flags, spare);
             back(a, here, counter)
         }
         Alone::Stacks(what, size, operand, n) => {
@@ -78,6 +82,21 @@ pub fn alone(
         Alone::Sets(r, size, v, n) => {
             state::write(regs, current(&*bank), size, r, v);
             on(Answer::Done, counter, n)
+        }
+        Alone::Interrupts(what, n) => {
+            past(&mut *counter, n);
+            let a = interrupt(
+                what,
+                bank,
+                level,
+                nesting,
+                flags,
+                regs,
+                &mut *counter,
+                ram,
+                rom,
+            );
+            back(a, here, counter)
         }
         Alone::Short => Answer::Refused(Why::NoCode),
         Alone::Unlisted => Answer::Refused(Why::Unlisted),

@@ -2,6 +2,7 @@
 ghost use mathlib.Core.Path.{_≡_};
 ghost use Prim.Native.Nat.{_%_, _<_};
 ghost use Rattle.state.specs.State.{banked, zeroState, resetState, flagsValid, validOf, longOf};
+ghost use Rattle.state.specs.inner.Lent.{allOf};
 ghost use Rattle.state.specs.Register.{getBits, setBits, startOf, widthOf, getSlot, indexOf, bytePart, slotOf, registerAt, getRegister, setRegister};
 use little::ADDRESSES;
 use little::Size;
@@ -239,7 +240,7 @@ pub fn whole(
     spare: u16,
     nesting: u16,
 ) -> State
-    ensures { λ r. ⌜ r ≡ record { registers = registers; counter = counter; bank = bank; level = level; flags = flags; spare = spare; nesting = nesting } ⌝ }
+    ensures { λ r. ⌜ r ≡ allOf registers counter (bank .0) (level .0) flags spare nesting ⌝ }
 {
     State {
         registers: registers,

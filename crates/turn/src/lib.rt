@@ -3,8 +3,7 @@ ghost use mathlib.Core.Path.{_≡_};
 ghost use Prim.Native.Nat.{suc, _-_};
 ghost use Rattle.memory.specs.Access.{codeAt};
 ghost use Rattle.state.specs.declared.State.{State};
-ghost use Rattle.state.specs.State.{lent};
-ghost use Rattle.state.specs.inner.Lent.{bankedAtWith, standingAt};
+ghost use Rattle.state.specs.inner.Lent.{allOf, bankedAtWith, standingAt};
 ghost use Rattle.code.specs.declared.MemoryForm.{MemoryForm};
 ghost use Rattle.code.specs.Listed.{decodeOf};
 ghost use Rattle.code.specs.inner.Parts.{memoryAs};
@@ -27,13 +26,14 @@ use compute::form;
 use control::past;
 use exec::alone;
 use exec::back;
-use exec::current;
 use exec::of_register;
 use exec::on;
 use number::size_of;
 use operand::address;
 use state::Bank;
 use state::State;
+use state::current;
+use state::mask;
 
 // A round of the form that stands at an address, and as many more as there are steps for and the form goes on; the counter is
 // past it. In ROM the form stays what it is, so that it is not read again for each round.
@@ -130,16 +130,20 @@ fn once(
     regs: &mut [u32; 20],
     counter: &mut u32,
     bank: &mut u8,
+    level: &mut u8,
     flags: &mut u16,
     spare: &mut u16,
+    nesting: &mut u16,
     ram: &mut [u8],
     rom: &[u8],
     more: &mut u32,
 ) -> Answer
     ensures { λ a. ⌜ Fewer a (now (more .entry)) (now (more .exit)) ⌝ }
-    ensures { λ a. ⌜ ((s : State) → Does (λ t m. timesOf (suc (now (more .entry) - now (more .exit))) t m (now (rom .entry)))
-        (lent s (now (regs .entry)) (now (counter .entry)) (now (bank .entry)) (now (flags .entry)) (now (spare .entry))) (now (ram .entry))
-        a (lent s (now (regs .exit)) (now (counter .exit)) (now (bank .exit)) (now (flags .exit)) (now (spare .exit))) (now (ram .exit))) ⌝ }
+    ensures { λ a. ⌜ Does (λ t m. timesOf (suc (now (more .entry) - now (more .exit))) t m (now (rom .entry)))
+        (allOf (now (regs .entry)) (now (counter .entry)) (now (bank .entry)) (now (level .entry))
+            (now (flags .entry)) (now (spare .entry)) (now (nesting .entry))) (now (ram .entry))
+        a (allOf (now (regs .exit)) (now (counter .exit)) (now (bank .exit)) (now (level .exit))
+            (now (flags .exit)) (now (spare .exit)) (now (nesting .exit))) (now (ram .exit)) ⌝ }
 {
     let code = memory::fetch(&*ram, rom, *counter);
     if code.len() == 0 {
@@ -148,7 +152,9 @@ fn once(
     let b = code[0];
     if b < 0x80 {
         let read = first::read(code, b);
-        return alone(read, regs, counter, bank, flags, spare, ram, rom);
+        return alone(
+            read, regs, counter, bank, level, flags, spare, nesting, ram, rom,
+        );
     }
     let bank = current(&*bank);
     match b / 8 {
@@ -194,8 +200,11 @@ pub fn many(s: State, ram: &mut [u8], rom: &[u8], steps: u32) -> Ran
     let mut counter = s.counter;
     let b = s.bank;
     let mut bank = b.0;
+    let l = s.level;
+    let mut level = l.0;
     let mut flags = s.flags;
     let mut spare = s.spare;
+    let mut nesting = s.nesting;
     let mut left = steps;
     while 0 < left {
         left -= 1;
@@ -203,17 +212,19 @@ pub fn many(s: State, ram: &mut [u8], rom: &[u8], steps: u32) -> Ran
             &mut regs,
             &mut counter,
             &mut bank,
+            &mut level,
             &mut flags,
             &mut spare,
+            &mut nesting,
             &mut *ram,
             rom,
             &mut left,
         );
         if let Answer::Refused(w) = a {
-            let t = state::whole(s, regs, counter, current(&bank), flags, spare);
+            let t = state::whole(regs, counter, current(&bank), mask(&level), flags, spare, nesting);
             return stop(t, steps - 1 - left, Answer::Refused(w));
         }
     }
-    let t = state::whole(s, regs, counter, current(&bank), flags, spare);
+    let t = state::whole(regs, counter, current(&bank), mask(&level), flags, spare, nesting);
     stop(t, steps, Answer::Done)
 }

@@ -30,9 +30,10 @@ ruledWith s registers bank level flags = lent (nested s level (s .nesting)) regi
 abbrev pub interrupted : State → List ℕ → ℕ → ℕ → ℕ → ℕ → ℕ → State
 interrupted s registers counter bank level flags nesting = lent (nested s level nesting) registers counter bank flags (s .spare)
 
--- all that a turn is lent, which is the whole state
-abbrev pub turned : State → List ℕ → ℕ → ℕ → ℕ → ℕ → ℕ → ℕ → State
-turned s registers counter bank level flags spare nesting = lent (nested s level nesting) registers counter bank flags spare
+-- the state of all these parts: a turn is lent the whole of it
+abbrev pub allOf : List ℕ → ℕ → ℕ → ℕ → ℕ → ℕ → ℕ → State
+allOf registers counter bank level flags spare nesting =
+    record { registers = registers; counter = counter; bank = record { 0 = bank }; level = record { 0 = level }; flags = flags; spare = spare; nesting = nesting }
 
 -- the counter and F
 abbrev pub flaggedAt : State → ℕ → ℕ → State

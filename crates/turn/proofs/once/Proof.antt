@@ -8,7 +8,7 @@ use Rattle.code.specs.declared.Operand.the-variants.{Register}
 use Rattle.code.specs.declared.Decoded.the-variants.{Short, Unlisted}
 use Rattle.code.specs.Listed.{decodeOf}
 use Rattle.code.specs.inner.Parts.{begunAs}
-use Rattle.state.specs.State.{lent}
+use Rattle.state.specs.inner.Lent.{allOf}
 use Rattle.operand.specs.Try.{leaves}
 use Rattle.operand.specs.Operand.{addressIn}
 use Rattle.turn.proofs.Times.{fewer-same}
@@ -26,10 +26,9 @@ same-length c = search needs
 returns : tie.Need-returns
 returns c = (
   refl,
-  λ rest.
       let a = c .before .before .before .before .before .before .args in
       let code = c .before .fetch .result .now in
-      let s = lent rest (a .regs .now) (a .counter .now) (a .bank .now) (a .flags .now) (a .spare .now) in
+      let s = allOf (a .regs .now) (a .counter .now) (a .bank .now) (a .level .now) (a .flags .now) (a .spare .now) (a .nesting .now) in
       ap (leaves s (a .ram .now)) (once-by s (a .ram .now) (a .rom .now) code Short (a .more .now) (c .before .fetch .ensures .0) (none-says code (omega (arith, c .if1 .taken)))),
 )
 
@@ -47,13 +46,12 @@ same-length-2 c = search needs
 
 returns-2 : tie.Need-returns-2
 returns-2 c = (
-  fewer-same (c .before .before .alone .result) (c .before .before .before .before .before .before .before .before .before .before .before .before .before .before .before .before .before .before .args .more .now),
-  λ rest.
-      let a = c .before .before .before .before .before .before .before .before .before .before .before .before .before .before .before .before .before .before .args in
-      let code = c .before .before .before .before .before .before .before .before .before .before .before .before .before .fetch .result .now in
-      let s = lent rest (a .regs .now) (a .counter .now) (a .bank .now) (a .flags .now) (a .spare .now) in
-      c .before .before .alone .ensures rest
-      ∙ ap (leaves s (a .ram .now)) (once-by s (a .ram .now) (a .rom .now) code _ (a .more .now) (c .before .before .before .before .before .before .before .before .before .before .before .before .before .fetch .ensures .0) (alone-says code (omega (arith, c .before .before .before .before .before .before .before .before .before .before .before .before .if1 .left)) (c .before .before .before .before .before .before .before .before .before .before .if2 .taken) ∙ sym (c .before .before .before .before .before .before .before .before .before .read .ensures))),
+  fewer-same (c .before .before .alone .result) (c .before .before .before .before .before .before .before .before .before .before .before .before .before .before .before .before .before .before .before .before .args .more .now),
+      let a = c .before .before .before .before .before .before .before .before .before .before .before .before .before .before .before .before .before .before .before .before .args in
+      let code = c .before .before .before .before .before .before .before .before .before .before .before .before .before .before .before .fetch .result .now in
+      let s = allOf (a .regs .now) (a .counter .now) (a .bank .now) (a .level .now) (a .flags .now) (a .spare .now) (a .nesting .now) in
+      c .before .before .alone .ensures
+      ∙ ap (leaves s (a .ram .now)) (once-by s (a .ram .now) (a .rom .now) code _ (a .more .now) (c .before .before .before .before .before .before .before .before .before .before .before .before .before .before .before .fetch .ensures .0) (alone-says code (omega (arith, c .before .before .before .before .before .before .before .before .before .before .before .before .before .before .if1 .left)) (c .before .before .before .before .before .before .before .before .before .before .before .before .if2 .taken) ∙ sym (c .before .before .before .before .before .before .before .before .before .before .before .read .ensures))),
 )
 
 current-requires : tie.Need-current-requires
@@ -100,10 +98,9 @@ same-length-3 c = search needs
 returns-3 : tie.Need-returns-3
 returns-3 c = (
   fewer-same (c .of-register .result) (c .before .before .before .before .before .before .before .before .before .before .before .before .before .before .before .before .before .args .more .now),
-  λ rest.
       let a = c .before .before .before .before .before .before .before .before .before .before .before .before .before .before .before .before .before .args in
       let code = c .before .before .before .before .before .before .before .before .before .before .before .before .fetch .result .now in
-      let s = lent rest (a .regs .now) (a .counter .now) (a .bank .now) (a .flags .now) (a .spare .now) in
+      let s = allOf (a .regs .now) (a .counter .now) (a .bank .now) (a .level .now) (a .flags .now) (a .spare .now) (a .nesting .now) in
       (rw (c .before .before .before .before .before .before .before .current .ensures) at (c .of-register .ensures s (a .ram .now) (a .rom .now)))
       ∙ ap (leaves s (a .ram .now))
       (once-by s (a .ram .now) (a .rom .now) code _ (a .more .now) (c .before .before .before .before .before .before .before .before .before .before .before .before .fetch .ensures .0) (register-says code (omega (arith, c .before .before .before .before .before .before .before .before .before .before .before .if1 .left)) (c .before .before .before .before .before .size-of .result) (c .before .before .before .before .before .before .match .keys1) (c .before .before .before .before .before .size-of .ensures) ∙ sym (c .before .before .before .before .read2 .ensures (Register (getD code 0 0 % 8))))),
@@ -115,9 +112,8 @@ same-length-4 c = search needs
 returns-4 : tie.Need-returns-4
 returns-4 c = (
   c .before .before .of-memory .ensures .0,
-  λ rest.
       let a = c .before .before .before .before .before .before .before .before .before .before .before .before .before .before .before .before .before .before .before .before .before .before .before .before .before .before .args in
-      let s = lent rest (a .regs .now) (a .counter .now) (a .bank .now) (a .flags .now) (a .spare .now) in
+      let s = allOf (a .regs .now) (a .counter .now) (a .bank .now) (a .level .now) (a .flags .now) (a .spare .now) (a .nesting .now) in
       rw (c .before .before .before .before .before .before .before .before .before .before .before .before .before .before .before .before .current .ensures) at (c .before .before .of-memory .ensures .1 s),
 )
 
@@ -127,10 +123,9 @@ same-length-5 c = search needs
 returns-5 : tie.Need-returns-5
 returns-5 c = (
   refl,
-  λ rest.
       let a = c .before .before .before .before .before .before .before .before .before .before .before .before .before .before .args in
       let code = c .before .before .before .before .before .before .before .before .before .fetch .result .now in
-      let s = lent rest (a .regs .now) (a .counter .now) (a .bank .now) (a .flags .now) (a .spare .now) in
+      let s = allOf (a .regs .now) (a .counter .now) (a .bank .now) (a .level .now) (a .flags .now) (a .spare .now) (a .nesting .now) in
       let d = memory-says code (omega (arith, c .before .before .before .before .before .before .before .before .if1 .left)) (omega (arith, c .before .before .before .before .before .before .if2 .left)) (omega (arith, c .before .before .before .before .before .before .before .shared-slice-known2 .given 0)) (c .before .before .before .match .rest .1) in
       ap (leaves s (a .ram .now))
       (once-by s (a .ram .now) (a .rom .now) code Short (a .more .now) (c .before .before .before .before .before .before .before .before .before .fetch .ensures .0) (d ∙ (sym (c .before .before .begin .ensures) ∙ ap (λ (x : Begun). begunAs x (getD code 0 0) code) (c .enum-told .given .1)))),
@@ -142,10 +137,9 @@ same-length-6 c = search needs
 returns-6 : tie.Need-returns-6
 returns-6 c = (
   refl,
-  λ rest.
       let a = c .before .before .before .before .before .before .before .before .before .before .before .before .before .before .args in
       let code = c .before .before .before .before .before .before .before .before .before .fetch .result .now in
-      let s = lent rest (a .regs .now) (a .counter .now) (a .bank .now) (a .flags .now) (a .spare .now) in
+      let s = allOf (a .regs .now) (a .counter .now) (a .bank .now) (a .level .now) (a .flags .now) (a .spare .now) (a .nesting .now) in
       let d = memory-says code (omega (arith, c .before .before .before .before .before .before .before .before .if1 .left)) (omega (arith, c .before .before .before .before .before .before .if2 .left)) (omega (arith, c .before .before .before .before .before .before .before .shared-slice-known2 .given 0)) (c .before .before .before .match .rest .1) in
       ap (leaves s (a .ram .now))
       (once-by s (a .ram .now) (a .rom .now) code Unlisted (a .more .now) (c .before .before .before .before .before .before .before .before .before .fetch .ensures .0) (d ∙ (sym (c .before .before .begin .ensures) ∙ ap (λ (x : Begun). begunAs x (getD code 0 0) code) (c .enum-told2 .given .1)))),
