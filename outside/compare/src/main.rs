@@ -130,7 +130,9 @@ fn side_by_side(groups: &[&Group], wish: &Wish) -> Vec<Judge> {
     let processors = thread::available_parallelism().map_or(1, usize::from);
     thread::scope(|scope| {
         let workers: Vec<_> = (0..processors).map(|_| scope.spawn(work)).collect();
-        let ended = |worker: thread::ScopedJoinHandle<'_, Vec<Judge>>| worker.join().expect("a group that ends");
+        let ended = |worker: thread::ScopedJoinHandle<'_, Vec<Judge>>| {
+            worker.join().expect("a group that ends")
+        };
         workers.into_iter().flat_map(ended).collect()
     })
 }
@@ -150,7 +152,11 @@ fn judged(Group(name, work): &Group, wish: &Wish) -> Judge {
         judge.tally.single,
         judge.tally.done,
         start.elapsed().as_secs_f64(),
-        if judge.failures == 0 { "agreed" } else { "FAILED" }
+        if judge.failures == 0 {
+            "agreed"
+        } else {
+            "FAILED"
+        }
     );
     judge
 }
