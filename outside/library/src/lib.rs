@@ -7,6 +7,8 @@
 /// What a count or an address holds before a call that must write it: no call
 /// answers this.
 const UNWRITTEN: u32 = 0xDEAD_BEEF;
+/// The same for what is 0 or 1.
+const UNWRITTEN_BYTE: u8 = 0xEE;
 
 mod surface {
     #[link(name = "tlcs900h", kind = "static")]
@@ -50,6 +52,19 @@ mod surface {
             at: u32,
             length: *mut u32,
         ) -> u8;
+
+        pub fn tlcs900h_request(
+            record: *mut u8,
+            record_length: usize,
+            ram: *mut u8,
+            ram_length: usize,
+            rom: *const u8,
+            rom_length: usize,
+            level: u32,
+            vector: u32,
+            taken: *mut u8,
+            at: *mut u32,
+        ) -> u8;
     }
 }
 
@@ -62,7 +77,7 @@ pub enum Empty {
     Null,
 }
 
-/// The library's four calls. Each takes slices of any length.
+/// The library's five calls. Each takes slices of any length.
 #[derive(Clone, Copy, Debug)]
 pub struct Library {
     pub empty: Empty,
@@ -156,5 +171,34 @@ impl Library {
             )
         };
         (length, number)
+    }
+
+    /// Offers a request, and gives what says whether it was taken, the number
+    /// and the address.
+    pub fn request(
+        self,
+        record: &mut [u8],
+        ram: &mut [u8],
+        rom: &[u8],
+        level: u32,
+        vector: u32,
+    ) -> (u8, u8, u32) {
+        let (mut taken, mut at) = (UNWRITTEN_BYTE, UNWRITTEN);
+        // SAFETY: as for a step; and `taken` is a whole byte of its own.
+        let number = unsafe {
+            surface::tlcs900h_request(
+                self.write(record),
+                record.len(),
+                self.write(ram),
+                ram.len(),
+                self.read(rom),
+                rom.len(),
+                level,
+                vector,
+                &mut taken,
+                &mut at,
+            )
+        };
+        (taken, number, at)
     }
 }
