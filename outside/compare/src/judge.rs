@@ -317,6 +317,7 @@ impl Judge {
             _ => "code:   ",
         };
         println!("  {what} {}", spaced(case.code()));
+        let told = |answer, record: &[u8]| told(case.call, answer, record);
         println!("  library: {}", told(answer, self.record.bytes()));
         println!("  second:  {}", told(other, &self.other_record));
         for (place, ours, others) in differing(self.record.bytes(), &self.other_record) {
@@ -338,7 +339,8 @@ impl Judge {
     pub fn replay(&mut self, case: &Case) -> bool {
         let (answer, other) = self.both(case);
         if self.agree(case, answer, other) {
-            println!("both:      {}", told(answer, self.record.bytes()));
+            let told = told(case.call, answer, self.record.bytes());
+            println!("both:      {told}");
             return true;
         }
         self.narrow(case);
@@ -384,10 +386,14 @@ fn register_at(place: usize) -> String {
     }
 }
 
-fn told(answer: Answer, record: &[u8]) -> String {
+fn told(call: Call, answer: Answer, record: &[u8]) -> String {
     let Answer { count, number, at } = answer;
     let record = hex(record);
-    format!("number {number}, address {at:06X}, count {count}, record {record}")
+    let counted = match call {
+        Call::Request(..) => "taken",
+        _ => "count",
+    };
+    format!("number {number}, address {at:06X}, {counted} {count}, record {record}")
 }
 
 fn spaced(bytes: &[u8]) -> String {

@@ -173,7 +173,7 @@ fn each_level(bench: &mut Bench, layout: Layout, mask: u8) {
 /// Requests from aimed states, one after another: each from what the one before
 /// it left, with another mask now and then. Most are taken.
 pub fn drawn(bench: &mut Bench) {
-    for _ in 0..12_000 * bench.rounds {
+    for _ in 0..22_000 * bench.rounds {
         let layout = Layout::short(&mut bench.chance);
         let mut case = over_noise(&mut bench.chance, layout);
         for turn in 0..60 {
@@ -199,8 +199,9 @@ fn draw_request(chance: &mut Chance, case: &mut Case, layout: Layout) -> (u32, u
     };
     aim::set_mask(&mut case.record, mask);
     let least = u32::from(mask.max(1));
-    let level = match chance.below(6) {
-        0 => chance.below(9),
+    let level = match chance.below(24) {
+        0 => chance.pick(&NO_LEVELS),
+        1..=3 => chance.below(9),
         _ => least + chance.below(8 - least),
     };
     let ram = (layout.ram as u32).saturating_sub(3);
