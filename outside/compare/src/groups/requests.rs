@@ -171,7 +171,7 @@ fn each_level(bench: &mut Bench, layout: Layout, mask: u8) {
 }
 
 /// Requests from aimed states, one after another: each from what the one before
-/// it left, with another mask now and then. Most are taken.
+/// it left, but for the mask and the stack. Most are taken.
 pub fn drawn(bench: &mut Bench) {
     for _ in 0..22_000 * bench.rounds {
         let layout = Layout::short(&mut bench.chance);

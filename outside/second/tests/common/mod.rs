@@ -86,7 +86,7 @@ pub fn offer(
     let state_before = machine.clone();
     let ram_before = ram.to_vec();
     let (taken, number, at) = request(machine, ram, rom, level, vector);
-    assert!(!machine.valid() || address_fits(number, at, ram, rom));
+    assert!(address_fits(number, at, ram, rom), "{number} at {at:06X}");
     if taken {
         assert_eq!((number, at), (0, 0));
         assert!(machine.valid());

@@ -8,9 +8,10 @@ use crate::aim::{self, Layout, BC, XSP};
 use crate::case::{Call, Case};
 use crate::chance::Chance;
 use crate::image::Image;
-use forms::Form;
+use forms::{requests, Form};
 use second::record::COUNTER;
 use second::{Machine, Width};
+use std::collections::BTreeSet;
 
 const LAYOUT: Layout = Layout { ram: 256, rom: 256 };
 /// Where the handlers stand in ROM, and how many bytes each has; where their
@@ -54,16 +55,17 @@ fn a_vector(chance: &mut Chance, rom: &Image) -> u32 {
     TOP - rom.len() as u32 + place as u32
 }
 
-/// Programs of listed instructions and of RETI, with requests offered between
-/// their steps and in the handlers. A refused instruction is left by a jump.
+/// Programs of listed instructions, with requests offered between their steps and
+/// in the handlers: every level at every mask. A refused instruction is left by a
+/// jump.
 pub fn between_steps(bench: &mut Bench) {
     let forms = forms::listed();
-    let mut deepest = 0;
+    let (mut deepest, mut offered) = (0, BTreeSet::new());
     for _ in 0..600 * bench.rounds {
         let mut case = program(&mut bench.chance, &forms);
         let mut depth = 0_i32;
         for _ in 0..100 {
-            depth += a_turn(bench, &mut case);
+            depth += a_turn(bench, &mut case, &mut offered);
             deepest = deepest.max(depth);
         }
         if bench.judge.weary() {
@@ -73,11 +75,16 @@ pub fn between_steps(bench: &mut Bench) {
     bench.judge.expect(deepest > 3, || {
         format!("no request was deeper than {deepest} in others")
     });
+    for (mask, level) in (0..8).flat_map(|mask| requests::LEVELS.map(move |level| (mask, level))) {
+        bench.judge.expect(offered.contains(&(mask, level)), || {
+            format!("level {level} was never offered at mask {mask}")
+        });
+    }
 }
 
-/// One request or none, and then a few steps. By how many more requests were
-/// taken than RETIs done.
-fn a_turn(bench: &mut Bench, case: &mut Case) -> i32 {
+/// One request, and then a few steps or none. The mask and the level are noted.
+/// By how many more requests were taken than RETIs done.
+fn a_turn(bench: &mut Bench, case: &mut Case, offered: &mut BTreeSet<(u8, u32)>) -> i32 {
     let before = aim::nesting(&case.record);
     let chance = &mut bench.chance;
     let level = chance.below(8);
@@ -90,6 +97,7 @@ fn a_turn(bench: &mut Bench, case: &mut Case) -> i32 {
         aim::set_long(&mut case.record, XSP, 0x80 + chance.below(0x70));
         aim::set_mask(&mut case.record, chance.below(4) as u8);
     }
+    offered.insert((aim::mask(&case.record), level));
     offer(bench, case, level, vector);
     case.call = match bench.chance.below(4) {
         0 => Call::Run(bench.chance.below(6)),
