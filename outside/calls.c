@@ -30,6 +30,7 @@ static const struct size whole = {92, 0}, small = {256, 0};
 static struct lent record, ram, rom;
 static uint32_t word[3], kept_word;   /* `done` or `length`, between two others */
 static uint32_t place[3], kept_place; /* `at`, between two others */
+static uint8_t flag[3], kept_flag;    /* `taken`, between two others */
 static uint8_t noise;                 /* 00H, then FFH: a byte written by mistake differs from what stood there in one of them */
 static unsigned long tried, wrong;
 static unsigned passed, failed;
@@ -50,13 +51,13 @@ static void put(uint8_t *to, int bytes, uint32_t value) {
     for (; bytes > 0; bytes--, value >>= 8) *to++ = (uint8_t)value;
 }
 
-/* A valid state's record: all flags 1, bank 2, level 5, F' 91H, no mark, and registers of noise. */
+/* A valid state's record: all flags 1, bank 2, level 5, F' 91H, no mark, a nesting count and registers of noise. */
 static void lend_record(struct size size, uint32_t counter) {
     uint8_t *r = record.bytes + GUARD;
     lend(&record, size);
     put(r + 80, 4, counter);
     put(r + 84, 4, 0x0091DAD7);
-    put(r + 88, 4, 0);
+    put(r + 90, 2, 0);
 }
 
 /* Sets down what all of it is before a call. */
@@ -66,6 +67,7 @@ static void keep(void) {
     memcpy(rom.kept, rom.bytes, SPACE);
     word[0] = word[1] = word[2] = kept_word = 0xDEADBEEF ^ noise;
     place[0] = place[1] = place[2] = kept_place = 0xDEADBEEF ^ noise;
+    flag[0] = flag[1] = flag[2] = kept_flag = 0xA5 ^ noise;
 }
 
 static int same(const struct lent *l) { return memcmp(l->bytes, l->kept, SPACE) == 0; }
@@ -75,13 +77,14 @@ static void held(const char *call, uint8_t number, uint8_t expected) {
     uint32_t beside = 0xDEADBEEF ^ noise;
     int words = word[0] == beside && word[1] == kept_word && word[2] == beside;
     int places = place[0] == beside && place[1] == kept_place && place[2] == beside;
+    int flags = flag[0] == (0xA5 ^ noise) && flag[1] == kept_flag && flag[2] == (0xA5 ^ noise);
     tried++;
-    if (number == expected && same(&record) && same(&ram) && same(&rom) && words && places) return;
+    if (number == expected && same(&record) && same(&ram) && same(&rom) && words && places && flags) return;
     if (wrong++ >= 5) return;
     printf("%s: record %lu, RAM %lu, ROM %lu bytes: number %u, to be %u; count %lu, to be %lu; ", call, (unsigned long)record.length,
            (unsigned long)ram.length, (unsigned long)rom.length, number, expected, (unsigned long)word[1], (unsigned long)kept_word);
-    printf("at %lX, to be %lX; record %s, RAM %s, ROM %s\n", (unsigned long)place[1], (unsigned long)kept_place,
-           same(&record) ? "right" : "wrong", same(&ram) ? "right" : "wrong", same(&rom) ? "right" : "wrong");
+    printf("at %lX, to be %lX; taken %u, to be %u; record %s, RAM %s, ROM %s\n", (unsigned long)place[1], (unsigned long)kept_place,
+           flag[1], kept_flag, same(&record) ? "right" : "wrong", same(&ram) ? "right" : "wrong", same(&rom) ? "right" : "wrong");
 }
 
 static uint8_t reset(void) {
@@ -109,6 +112,15 @@ static uint8_t show(uint32_t address) {
     return tlcs900h_show(at(&ram), ram.length, at(&rom), rom.length, address, &word[1]);
 }
 
+/* A request writes `taken` and `at`: these, which do not stand there before. */
+static uint8_t request_to(uint32_t level, uint32_t vector, uint8_t taken, uint32_t address) {
+    kept_flag = taken;
+    flag[1] = (uint8_t)~taken;
+    kept_place = address;
+    place[1] = ~address;
+    return tlcs900h_request(at(&record), record.length, at(&ram), ram.length, at(&rom), rom.length, level, vector, &flag[1], &place[1]);
+}
+
 static int too_long(void) { return ram.length > 65536 || rom.length > 65536; }
 
 /* Does a thing for every length of the record and of both memories. */
@@ -133,7 +145,7 @@ static void same_number(unsigned long is, unsigned long expected) {
 
 static void constants(void) {
     same_number(TLCS900H_VERSION_MAJOR, 3);
-    same_number(TLCS900H_VERSION_MINOR, 0);
+    same_number(TLCS900H_VERSION_MINOR, 1);
     same_number(TLCS900H_RECORD, 92);
     same_number(TLCS900H_MEMORY, 65536);
     same_number(TLCS900H_LEAST_ROM, 256);
@@ -147,6 +159,7 @@ static void constants(void) {
     same_number(TLCS900H_F, 84);
     same_number(TLCS900H_BANK, 85);
     same_number(TLCS900H_F_PRIME, 86);
+    same_number(TLCS900H_NESTING, 88);
     same_number(TLCS900H_MARKS, 90);
     same_number(TLCS900H_MARK_H, 1);
     same_number(TLCS900H_MARK_V, 2);
@@ -187,7 +200,8 @@ static void numbers(void) {
     same_name(TLCS900H_TO_ROM, 6, "store to ROM");
     same_name(TLCS900H_TOO_MANY, 7, "too many steps");
     same_name(TLCS900H_UNDEFINED, 8, "undefined flag");
-    same_name(9, 9, "no such number");
+    same_name(TLCS900H_BAD_REQUEST, 9, "bad request");
+    same_name(10, 10, "no such number");
     same_name(255, 255, "no such number");
 }
 
@@ -199,7 +213,7 @@ static void reset_once(struct size size) {
     keep();
     number = too_long() ? 1 : rom.length < 256 ? 5 : size.length != 92 ? 2 : 0;
     if (number == 0) {
-        memset(kept(&record), 0, 92); /* no mark is left */
+        memset(kept(&record), 0, 92); /* no mark is left, and no count */
         put(kept(&record) + 76, 4, 0x100);
         put(kept(&record) + 80, 4, 0x543210);
         put(kept(&record) + 84, 2, 0xF800);
@@ -276,6 +290,57 @@ static void show_once(struct size size) {
 
 static void shows(void) { every_length(show_once); }
 
+/* ---- requests: 1, then 2, then 9, then whether it is taken, then 5 for the vector, then 5 or 6 for the stack, which ends with RAM */
+static uint8_t wanted_of(uint32_t level, uint32_t vector, int valid, uint32_t *address) {
+    size_t length = vector == 0 ? ram.length : rom.length; /* of where the vector is */
+    *address = 0;
+    if (too_long()) return 1;
+    if (!valid) return 2;
+    if (level < 1 || level > 7 || vector >= 0x1000000) return 9;
+    if (level < 5) return 0; /* the mask is 5 */
+    *address = vector;
+    if (length == 0) return 5;
+    *address = 0xFFFFFA;
+    if (ram.length == 0) return rom.length == 0 ? 5 : 6;
+    *address = 0;
+    return 0;
+}
+
+static void request_at(struct size size, uint32_t level, uint32_t vector, int broken) {
+    uint32_t address, stack = (uint32_t)ram.length;
+    uint8_t number, taken;
+    lend_record(size, 0x123456);
+    put(record.bytes + GUARD + 76, 4, stack);
+    put(record.bytes + GUARD + TLCS900H_NESTING, 2, 0xFFFF);
+    if (broken) record.bytes[GUARD + 91] = 1;
+    if (ram.length > 0) put(ram.bytes + GUARD, 4, 0x99ABCDEF);
+    if (rom.length > 0) put(rom.bytes + GUARD + rom.length - 4, 4, 0x99ABCDEF);
+    keep();
+    number = wanted_of(level, vector, size.length == 92 && !broken, &address);
+    taken = number == 0 && level >= 5;
+    if (taken) {
+        put(kept(&ram) + stack - 6, 2, 0xDAD7);
+        put(kept(&ram) + stack - 4, 4, 0x123456);
+        put(kept(&record) + 76, 4, stack - 6);
+        put(kept(&record) + 80, 4, 0xABCDEF);
+        kept(&record)[85] = (uint8_t)((kept(&record)[85] & 0x8F) | (level == 7 ? 7 : level + 1) << 4);
+        put(kept(&record) + TLCS900H_NESTING, 2, 0);
+    }
+    held("request", request_to(level, vector, taken, address), number);
+}
+
+static void request_once(struct size size) {
+    static const uint32_t levels[] = {7, 6, 5, 4, 0, 8, 257};
+    size_t i;
+    for (i = 0; i < COUNT(levels); i++) request_at(size, levels[i], i % 2 ? 0 : 0xFFFFFC, 0);
+    request_at(size, 7, 0, 0);
+    request_at(size, 7, 0x1000000, 0);
+    request_at(size, 7, 0, 1);
+    request_at(size, 0, 0xFFFFFFFF, 1);
+}
+
+static void requests(void) { every_length(request_once); }
+
 /* ---- instructions of 1 to 6 bytes, whole or cut off by the end of their memory; and codes that are not listed */
 struct code {
     uint8_t length, bytes[6];
@@ -296,11 +361,18 @@ static void lengths(void) {
                                          {2, {0x21, 0x05}},
                                          {2, {0x17, 0x05}},
                                          {2, {0x17, 0x07}},
+                                         {2, {0x06, 0x00}},
+                                         {2, {0x06, 0x07}},
+                                         {1, {0x02}},
+                                         {1, {0x03}},
+                                         {1, {0x07}},
                                          {3, {0x31, 0x34, 0x12}},
                                          {4, {0x1D, 0x10, 0x20, 0x30}},
                                          {5, {0x43, 0x78, 0x56, 0x34, 0x12}},
                                          {6, {0xE8, 0xC8, 0x78, 0x56, 0x34, 0x12}}};
-    static const struct code unlisted[] = {{1, {0x01}}, {1, {0x2F}}, {2, {0x17, 0x08}}, {3, {0xC9, 0xEC, 0x10}}};
+    static const struct code unlisted[] = {{1, {0x01}},       {1, {0x04}},       {1, {0x05}},
+                                           {1, {0x2F}},       {2, {0x17, 0x08}}, {2, {0x06, 0x08}},
+                                           {2, {0x06, 0xFF}}, {3, {0xC9, 0xEC, 0x10}}};
     size_t i;
     uint8_t there;
     for (i = 0; i < COUNT(listed); i++)
@@ -578,17 +650,19 @@ static void marked_jump(const uint8_t *bytes, uint8_t length, uint8_t marks) {
     held("step", step(), 0);
 }
 
-/* PUSH F, where it would be done, where it would be 5 and where it would be 6 */
-static void marked_push(uint8_t marks, uint32_t pointer, uint8_t number, uint32_t address) {
-    static const uint8_t push[6] = {0x18, 0x01}; /* and a code that is not listed */
+/* PUSH F and PUSH SR, where they would be done, where they would be 5 and where they would be 6: by where their first byte goes */
+static void marked_push(uint8_t code, uint8_t marks, uint32_t first, uint8_t number, uint32_t address) {
+    uint8_t push[6] = {0, 0x01}; /* and a code that is not listed */
+    uint32_t pointer = first + (code == 0x18 ? 1 : 2);
+    push[0] = code;
     lend_marked(push, 0xC3, 0x81, marks);
     put(record.bytes + GUARD + 76, 4, pointer);
     keep();
     if (marks & 3) number = TLCS900H_UNDEFINED, address = 0;
     if (number == 0) {
-        put(kept(&record) + 76, 4, pointer - 1);
+        put(kept(&record) + 76, 4, first);
         put(kept(&record) + 80, 4, 1);
-        kept(&ram)[pointer - 1] = 0xC3;
+        put(kept(&ram) + first, code == 0x18 ? 1 : 2, 0xDAC3);
     }
     held("step", step_to(address), number);
     if (number == 0) return;
@@ -607,11 +681,17 @@ static void mark_refusals(void) {
             marked_jump(jr, 2, marks);
             marked_jump(jrl, 3, marks);
         }
-        marked_push(marks, 0x80, 0, 0);
-        marked_push(marks, 0x101, 5, 0x100);
-        marked_push(marks, 0x12345678, 5, 0x345677);
-        marked_push(marks, 0, 6, 0xFFFFFF);
-        marked_push(marks, 0xFFFF81, 6, 0xFFFF80);
+        for (cc = 0; cc < 2; cc++) {
+            uint8_t push = cc ? 0x02 : 0x18;
+            marked_push(push, marks, 0x80, 0, 0);
+            marked_push(push, marks, 0x100, 5, 0x100);
+            marked_push(push, marks, 0x12345678, 5, 0x345678);
+            marked_push(push, marks, 0xFFFFFFFE, 6, 0xFFFFFE);
+            marked_push(push, marks, 0xFFFF80, 6, 0xFFFF80);
+        }
+        marked_push(0x18, marks, 0xFFFFFFFF, 6, 0xFFFFFF);
+        marked_push(0x02, marks, 0xFFFFFFFF, 5, 0);
+        marked_push(0x02, marks, 0xFF, 5, 0x100);
     }
     /* a run does the steps before it */
     lend_marked(stop, 0xC3, 0x81, 0);
@@ -628,6 +708,227 @@ static void mark_refusals(void) {
     held("run", run(0), 0);
 }
 
+/* ---- EI, POP SR and RETI; the marks of F are cleared, those of F' are not */
+static void ei(void) {
+    uint8_t code[6] = {0x06}, mask;
+    int num;
+    for (num = 0; num < 256; num++)
+        for (mask = 0; mask < 8; mask++) {
+            code[1] = (uint8_t)num;
+            lend_code(0, code, 6);
+            record.bytes[GUARD + 85] = (uint8_t)(0x8A | mask << 4);
+            keep();
+            if (num < 8) {
+                put(kept(&record) + 80, 4, 2);
+                kept(&record)[85] = (uint8_t)(0x8A | num << 4);
+            }
+            held("step", step(), num < 8 ? 0 : 4);
+        }
+}
+
+/* Pops SR, and for RETI the counter above it, from 80H. */
+static void popped(uint8_t code, uint8_t marks, uint16_t word_popped, uint16_t nesting) {
+    uint8_t pop[6] = {0};
+    int reti = code == 0x07;
+    pop[0] = code;
+    lend_marked(pop, 0xC2, 0x81, marks);
+    put(record.bytes + GUARD + 76, 4, 0xAB000080);
+    put(record.bytes + GUARD + TLCS900H_NESTING, 2, nesting);
+    put(ram.bytes + GUARD + 0x80, 2, word_popped);
+    put(ram.bytes + GUARD + 0x82, 4, 0x99ABCDEF);
+    keep();
+    put(kept(&record) + 76, 4, reti ? 0xAB000086 : 0xAB000082);
+    put(kept(&record) + 80, 4, reti ? 0xABCDEF : 1);
+    put(kept(&record) + 84, 2, (word_popped & 0x73D7u) | 0x8800u); /* bits 15 and 11 are 1, bits 10, 5 and 3 are 0 */
+    kept(&record)[TLCS900H_MARKS] = marks & 12;
+    if (reti) put(kept(&record) + TLCS900H_NESTING, 2, nesting - 1u);
+    held("step", step(), 0);
+}
+
+static void pops(void) {
+    static const uint16_t words[] = {0x0000, 0xFFFF, 0x0428, 0x8800, 0xFBD7, 0x77FF, 0xDA14, 0x2600};
+    static const uint16_t counts[] = {0, 1, 0x100, 0x8000, 0xFFFF};
+    uint8_t marks;
+    size_t i;
+    int bit;
+    for (marks = 0; marks < 16; marks++)
+        for (i = 0; i < COUNT(words); i++) {
+            popped(0x03, marks, words[i], 0x1234);
+            popped(0x07, marks, words[i], counts[i % COUNT(counts)]);
+        }
+    for (bit = 0; bit < 16; bit++) {
+        popped(0x03, 0, (uint16_t)(1u << bit), 0);
+        popped(0x07, 0, (uint16_t)(1u << bit), 0);
+    }
+    for (i = 0; i < COUNT(counts); i++) popped(0x07, 0, 0x8800, counts[i]);
+}
+
+/* What POP SR and RETI need is missing, wholly or from some byte on. */
+static void pop_refused(uint8_t code, uint32_t pointer, uint32_t address) {
+    uint8_t pop[6] = {0};
+    pop[0] = code;
+    lend_code(0, pop, 6);
+    put(record.bytes + GUARD + 76, 4, pointer);
+    keep();
+    held("step", step_to(address), 5);
+    kept_word = 0;
+    held("run", run_to(1000, address), 5);
+}
+
+static void pop_refusals(void) {
+    uint32_t inside;
+    pop_refused(0x03, 0xFF, 0x100);
+    pop_refused(0x03, 0xFFFFFFFF, 0);
+    pop_refused(0x03, 0xFFFEFF, 0xFFFEFF);
+    for (inside = 0; inside < 6; inside++) {
+        pop_refused(0x07, 0x100 - inside, 0x100);
+        if (inside > 0) pop_refused(0x07, 0xFF000000 - inside, 0);
+        if (inside > 0) pop_refused(0x07, 0xFFFF00 - inside, 0xFFFF00 - inside);
+    }
+    pop_refused(0x07, 0x12345678, 0x345678);
+}
+
+static void statuses(void) {
+    ei();
+    pops();
+    pop_refusals();
+}
+
+/* ---- requests: at every mask, with every mark, from every end */
+static void lend_request(uint32_t stack, uint8_t mask) {
+    static const uint8_t nop[6] = {0};
+    lend_code(0x123456, nop, 6);
+    put(record.bytes + GUARD + 76, 4, stack);
+    record.bytes[GUARD + 85] = (uint8_t)(0x8A | mask << 4);
+    put(ram.bytes + GUARD + 0x40, 4, 0x99ABCDEF);
+}
+
+/* What a request leaves that is taken, with its stack in RAM. */
+static void keep_taken(uint32_t level) {
+    uint8_t *r = kept(&record);
+    uint32_t first = (record.bytes[GUARD + 76] | (uint32_t)record.bytes[GUARD + 77] << 8) - 6u;
+    uint16_t nesting = (uint16_t)(r[TLCS900H_NESTING] | r[TLCS900H_NESTING + 1] << 8);
+    memcpy(kept(&ram) + first, r + 84, 2);
+    put(kept(&ram) + first + 2, 4, 0x123456);
+    put(r + 76, 2, first);
+    put(r + 80, 4, 0xABCDEF);
+    r[85] = (uint8_t)((r[85] & 0x8F) | (level == 7 ? 7 : level + 1) << 4);
+    put(r + TLCS900H_NESTING, 2, nesting + 1u);
+}
+
+static void request_levels(void) {
+    static const char *const taken_at[8] = {"1234567", "1234567", "234567", "34567", "4567", "567", "67", "7"};
+    static const uint32_t none[] = {0, 8, 9, 15, 255, 256, 257, 263, 65537, 0x80000001, 0xFFFFFFFF};
+    static const uint32_t nowhere[] = {0x1000000, 0x1000040, 0x80000040, 0xFFFFFFFF};
+    uint8_t mask, level;
+    size_t i;
+    for (mask = 0; mask < 8; mask++) {
+        for (level = 1; level < 8; level++) {
+            int taken = strchr(taken_at[mask], '0' + level) != NULL;
+            lend_request(0xAB000080, mask);
+            keep();
+            if (taken) keep_taken(level);
+            held("request", request_to(level, 0x40, (uint8_t)taken, 0), 0);
+            for (i = 0; i < COUNT(nowhere); i++) {
+                lend_request(0x80, mask);
+                keep();
+                held("request", request_to(level, nowhere[i], 0, 0), TLCS900H_BAD_REQUEST);
+            }
+        }
+        for (i = 0; i < COUNT(none); i++) {
+            lend_request(0x80, mask);
+            keep();
+            held("request", request_to(none[i], 0x40, 0, 0), TLCS900H_BAD_REQUEST);
+        }
+    }
+}
+
+/* With every set of marks and some counts: the 0s are pushed and the marks stand. Then RETI leads back, and F is known. */
+static void request_and_back(uint8_t marks, uint16_t nesting) {
+    lend_request(0x80, 3);
+    record.bytes[GUARD + 84] = 0xC3;
+    record.bytes[GUARD + 86] = 0x81;
+    record.bytes[GUARD + TLCS900H_MARKS] = marks;
+    put(record.bytes + GUARD + TLCS900H_NESTING, 2, nesting);
+    put(ram.bytes + GUARD + 0x40, 4, 0x00000010);
+    ram.bytes[GUARD + 0x10] = 0x07; /* RETI */
+    keep();
+    keep_taken(3);
+    put(kept(&record) + 80, 4, 0x10);
+    held("request", request_to(3, 0x40, 1, 0), 0);
+    put(kept(&record) + 76, 4, 0x80);
+    put(kept(&record) + 80, 4, 0x123456);
+    kept(&record)[85] = 0xBA;
+    kept(&record)[TLCS900H_MARKS] = marks & 12;
+    put(kept(&record) + TLCS900H_NESTING, 2, nesting);
+    held("step", step(), 0);
+}
+
+static void requests_and_back(void) {
+    static const uint16_t counts[] = {0, 1, 0xFF, 0x7FFF, 0xFFFF};
+    uint8_t marks;
+    size_t i;
+    for (marks = 0; marks < 16; marks++)
+        for (i = 0; i < COUNT(counts); i++) request_and_back(marks, counts[i]);
+}
+
+/* A request of level 7 with a vector and a stack somewhere; one of level 6, which is not taken, looks for neither. */
+static void request_refused(uint32_t vector, uint32_t stack, uint8_t number, uint32_t address) {
+    lend_request(stack, 7);
+    keep();
+    held("request", request_to(7, vector, 0, address), number);
+    held("request", request_to(7, vector, 0, address), number); /* the same again, while nothing has changed */
+    held("request", request_to(6, vector, 0, 0), 0);
+}
+
+static void request_refusals(void) {
+    uint32_t inside;
+    for (inside = 0; inside < 4; inside++) { /* the vector's bytes that are there */
+        request_refused(0x100 - inside, 0x80, 5, 0x100);
+        request_refused(0x100 - inside, 0x12345678, 5, 0x100);
+        request_refused(0x100 - inside, 0, 5, 0x100);
+        if (inside > 0) request_refused(0x1000000 - inside, 0x80, 5, 0);
+        if (inside > 0) request_refused(0xFFFF00 - inside, 0x80, 5, 0xFFFF00 - inside);
+    }
+    request_refused(0x800000, 0x80, 5, 0x800000);
+    for (inside = 0; inside < 6; inside++) { /* the stack's */
+        request_refused(0x40, 0x106 - inside, 5, 0x100);
+        request_refused(0xFFFF80, 0xAB000106 - inside, 5, 0x100);
+        if (inside > 0) request_refused(0x40, 6 - inside, 5, 0);
+        if (inside > 0) request_refused(0x40, 0xFFFF06 - inside, 5, 0xFFFF00 - inside);
+    }
+    request_refused(0x40, 0x12345678, 5, 0x345672);
+    request_refused(0x40, 0, 6, 0xFFFFFA);
+    request_refused(0x40, 0xFF000000, 6, 0xFFFFFA);
+    request_refused(0xFFFFFC, 0xFFFF06, 6, 0xFFFF00);
+}
+
+/* The vector lies across what is pushed, or beside it; and the ends of both memories are good. */
+static void request_edges(void) {
+    uint32_t vector, stack;
+    for (vector = 0x70; vector < 0x90; vector++) {
+        lend_request(0x80, 7);
+        put(ram.bytes + GUARD + vector, 4, 0x99ABCDEF);
+        keep();
+        keep_taken(7);
+        held("request", request_to(7, vector, 1, 0), 0);
+    }
+    for (stack = 6; stack <= 0x100; stack += 0xFA) {
+        lend_request(stack, 0);
+        put(rom.bytes + GUARD + 252, 4, 0x99ABCDEF);
+        keep();
+        keep_taken(1);
+        held("request", request_to(1, 0xFFFFFC, 1, 0), 0);
+    }
+}
+
+static void all_requests(void) {
+    request_levels();
+    requests_and_back();
+    request_refusals();
+    request_edges();
+}
+
 /* ---- every bit of a record turned over, one at a time: a run of 0 steps tells whether the record is good */
 static int is_good(const uint8_t *r) {
     uint8_t marked_f = (uint8_t)((r[TLCS900H_MARKS] & 1 ? 0x10 : 0) | (r[TLCS900H_MARKS] & 2 ? 0x04 : 0));
@@ -635,7 +936,7 @@ static int is_good(const uint8_t *r) {
     if (r[83] != 0) return 0;                          /* a counter below 2^24 */
     if ((r[84] & 0x28) || (r[86] & 0x28)) return 0;    /* F and F' */
     if ((r[85] & 0x8C) != 0x88) return 0;              /* bank and level */
-    if (r[87] || r[88] || r[89] || r[91]) return 0;    /* zeros */
+    if (r[87] || r[91]) return 0;                      /* zeros; any nesting count will do */
     if (r[TLCS900H_MARKS] > 15) return 0;                          /* four marks, and a marked flag is 0 */
     return (r[84] & marked_f) == 0 && (r[86] & marked_spare) == 0;
 }
@@ -658,6 +959,8 @@ static void turn_bits(uint8_t f, uint8_t spare, uint8_t marks) {
             if (number == 0) continue;
             held("run", run(1), number);
             held("step", step(), number);
+            held("request", request_to(7, 0x40, 0, 0), number);
+            held("request", request_to(0, 0xFFFFFFFF, 0, 0), number);
         }
 }
 
@@ -690,6 +993,7 @@ int main(void) {
     group("step at every length", steps);
     group("run at every length", runs);
     group("show at every length", shows);
+    group("request at every length", requests);
     group("lengths of instructions, whole and cut off", lengths);
     group("refused instructions leave the record and RAM, and tell the address", refusals);
     group("a copy without its source or its target", copies);
@@ -697,7 +1001,9 @@ int main(void) {
     group("a store, F and F' exchanged, LDF 0 to 7", changes);
     group("a run that stops, and the longest", stops);
     group("what sets, clears, keeps and exchanges the marks", mark_changes);
-    group("jumps and PUSH F that read a marked flag", mark_refusals);
+    group("jumps, PUSH F and PUSH SR that read a marked flag", mark_refusals);
+    group("EI, POP SR and RETI", statuses);
+    group("requests of every level, with every mark, at every end", all_requests);
     group("records with one bit turned over", record_bits);
     printf("%u passed, %u failed\n", passed, failed);
     return failed != 0;

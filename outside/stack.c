@@ -1,8 +1,9 @@
 /*
  * How much stack each call takes: it is called on a painted stack, and what is no longer paint was used. Every first byte of
  * an instruction is tried with every byte behind it, and with every byte behind one, two and three others, which are 0; from RAM and from
- * ROM; with registers that point to RAM, to ROM and to neither; with H and V of F and F' marked, and with no mark. The header names a
- * bound; the last line counts the calls that keep below it. Stack that is set aside and never written is not seen. For x86-64.
+ * ROM; with registers that point to RAM, to ROM and to neither; with H and V of F and F' marked, and with no mark. Requests of every
+ * level have their vector in RAM, in ROM and in neither. The header names a bound; the last line counts the calls that keep below it.
+ * Stack that is set aside and never written is not seen. For x86-64.
  */
 #define _XOPEN_SOURCE 700
 #include <stdio.h>
@@ -16,7 +17,8 @@ enum { CASES = 256, MEMORY = 256, SPACE = 65536 };
 static uint8_t records[CASES][TLCS900H_RECORD], rams[CASES][MEMORY], roms[CASES][MEMORY];
 static uint8_t space[SPACE], *top; /* the painted stack; where it stood just before a call */
 static uint32_t counter, count, place;
-static unsigned long answers[9];
+static uint8_t was_taken;
+static unsigned long answers[10], taken_requests;
 static ucontext_t here, there;
 
 /* The stack pointer: what a call pushes for itself lies below it. */
@@ -43,6 +45,17 @@ static void shows(void) {
     for (int i = 0; i < CASES; i++) answers[tlcs900h_show(rams[i], MEMORY, roms[i], MEMORY, counter, &count)]++;
 }
 
+/* Levels 0 to 8, and a vector by turns in each memory and in neither. */
+static void requests(void) {
+    static const uint32_t vectors[] = {0x10, 0xFFFF10, 0x800000, 0x1000000};
+    MARK();
+    for (int i = 0; i < CASES; i++) {
+        uint32_t level = (uint32_t)(i % 3 ? 7 : i % 9), vector = vectors[i % 5 ? i % 2 : i % 4];
+        answers[tlcs900h_request(records[i], TLCS900H_RECORD, rams[i], MEMORY, roms[i], MEMORY, level, vector, &was_taken, &place)]++;
+        taken_requests += was_taken;
+    }
+}
+
 static void put(uint8_t *to, uint32_t value) {
     for (int i = 0; i < 4; i++, value >>= 8) to[i] = (uint8_t)value;
 }
@@ -60,6 +73,7 @@ static void prepare(int first, int behind, int in_rom, uint32_t pointer) {
         for (int r = TLCS900H_XWA; r <= TLCS900H_XSP; r += 4) put(records[i] + r, pointer);
         put(records[i] + TLCS900H_COUNTER, counter);
         put(records[i] + TLCS900H_SR, i % 2 ? 0xF8D7 : 0xF800);
+        put(records[i] + TLCS900H_NESTING, (uint32_t)i); /* and no mark */
         records[i][TLCS900H_MARKS] = i % 4 ? 0 : 0x0F; /* every fourth has all marks, and the flags 0 */
     }
 }
@@ -96,15 +110,15 @@ static int keeps(const char *name, void (*call)(void)) {
     size_t bytes;
     memset(answers, 0, sizeof answers);
     bytes = most(call);
-    printf("%s takes %lu bytes of stack at most; it answered 0 to 6 and 8 so often:", name, (unsigned long)bytes);
+    printf("%s takes %lu bytes of stack at most; it answered 0 to 6, 8 and 9 so often:", name, (unsigned long)bytes);
     for (int number = 0; number <= 6; number++) printf(" %lu", answers[number]);
-    printf(" %lu\n", answers[8]);
+    printf(" %lu %lu\n", answers[8], answers[9]);
     return bytes < TLCS900H_STACK && answers[0] > 0;
 }
 
 int main(void) {
     int passed = keeps("tlcs900h_reset", resets) + keeps("tlcs900h_step", steps) + keeps("tlcs900h_run", runs) +
-                 keeps("tlcs900h_show", shows);
-    printf("%d passed, %d failed\n", passed, 4 - passed);
-    return passed != 4;
+                 keeps("tlcs900h_show", shows) + (keeps("tlcs900h_request", requests) && taken_requests > 0);
+    printf("%d passed, %d failed\n", passed, 5 - passed);
+    return passed != 5;
 }

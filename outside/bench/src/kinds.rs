@@ -4,9 +4,10 @@
 //! before ROM does: there is no jump back, and nothing else is counted.
 
 use crate::scene::{Scene, MOST};
+use second::Width;
 
 /// The most steps of a run. ROM has more places than this for six bytes, and
-/// RAM room for as many pushes, pops and copied words.
+/// RAM room for as many pushes, pops, RETIs and copied words.
 pub const STEPS: u32 = 8_000;
 
 /// One line a kind: its code, where it has no size; else that for bytes, that
@@ -26,6 +27,10 @@ const KINDS: &str = "
     RET           | 0E
     PUSH F        | 18
     POP F         | 19
+    EI n          | 06 03
+    PUSH SR       | 02
+    POP SR        | 03
+    RETI          | 07
     PUSH R        | -              | 2B             | 3B
     POP R         | -              | 4B             | 5B
     LD R,n        | 23 5A          | 33 5A A5       | 43 5A A5 3C C3
@@ -75,6 +80,12 @@ const LONGS: [(u8, u32); 6] = [
     (7, 0x0000_8000),
 ];
 
+/// RETI pops six bytes a step: more than RAM has above where the stack stands
+/// for the others. Among them is the byte that says which 64 KiB it goes to.
+const RETI: [u8; 1] = [0x07];
+const RETI_STACK: u32 = 0x1000;
+const XSP: u8 = 7;
+
 pub struct Kind {
     pub name: &'static str,
     pub codes: Vec<Code>,
@@ -118,7 +129,11 @@ fn code(size: &'static str, digits: &str) -> Code {
 impl Code {
     pub fn scene(&self) -> Scene {
         let rom = self.bytes.iter().copied().cycle().take(MOST).collect();
-        Scene::new(rom, &LONGS)
+        let mut scene = Scene::new(rom, &LONGS);
+        if self.bytes == RETI {
+            lay_returns(&mut scene);
+        }
+        scene
     }
 
     /// Whether every step of a run does this instruction and no other.
@@ -130,4 +145,13 @@ impl Code {
                 && second::step(&mut scene.machine, &mut scene.ram, &scene.rom) == (0, 0)
         })
     }
+}
+
+/// A stack from which every RETI goes on in ROM.
+fn lay_returns(scene: &mut Scene) {
+    let stack = RETI_STACK as usize..scene.ram.len();
+    for frame in scene.ram[stack].chunks_exact_mut(6) {
+        frame[4] = 0xFF;
+    }
+    scene.machine.set(Width::Long, XSP, RETI_STACK);
 }

@@ -10,15 +10,17 @@
 //!
 //! The first prints the table; the counts of machine instructions come from
 //! outside, since a program cannot count its own. `--brief` only sees that
-//! every mix and every kind works, on both machines alike. The others are for
-//! those who count: `--mixes` names the mixes, `--kinds` the kinds and the
-//! sizes of each; `--only` does a mix, or a kind at a size, once.
+//! every mix, every kind and every request works, on both machines alike. The
+//! others are for those who count: `--mixes` names the mixes, `--kinds` the kinds
+//! and the sizes of each, the requests among them; `--only` does a mix, or a kind
+//! at a size, once.
 
 #![forbid(unsafe_code)]
 
 mod kinds;
 mod mixes;
 mod scene;
+mod turns;
 
 use kinds::kinds;
 use library::{Empty, Library};
@@ -26,6 +28,7 @@ use mixes::MIXES;
 use scene::Scene;
 use std::process::ExitCode;
 use std::time::{Duration, Instant};
+use turns::{Turn, TURNS};
 
 /// How many steps a call is asked for: the most there can be.
 const STEPS: u32 = 1_000_000;
@@ -65,6 +68,8 @@ fn main() -> ExitCode {
 /// One of the two machines at work on a mix, from call to call.
 trait Worker {
     fn run(&mut self, steps: u32) -> (u32, u8);
+    fn step(&mut self) -> u8;
+    fn request(&mut self, level: u32, vector: u32) -> (bool, u8);
 }
 
 struct Proved {
@@ -88,6 +93,16 @@ impl Worker for Proved {
         let (done, number, _) = LIBRARY.run(&mut self.record, &mut self.ram, &self.rom, steps);
         (done, number)
     }
+
+    fn step(&mut self) -> u8 {
+        LIBRARY.step(&mut self.record, &mut self.ram, &self.rom).0
+    }
+
+    fn request(&mut self, level: u32, vector: u32) -> (bool, u8) {
+        let (record, ram) = (&mut self.record, &mut self.ram);
+        let (taken, number, _) = LIBRARY.request(record, ram, &self.rom, level, vector);
+        (taken == 1, number)
+    }
 }
 
 impl Worker for Scene {
@@ -95,6 +110,43 @@ impl Worker for Scene {
         let (done, number, _) = second::run(&mut self.machine, &mut self.ram, &self.rom, steps);
         (done, number)
     }
+
+    fn step(&mut self) -> u8 {
+        second::step(&mut self.machine, &mut self.ram, &self.rom).0
+    }
+
+    fn request(&mut self, level: u32, vector: u32) -> (bool, u8) {
+        let (machine, ram) = (&mut self.machine, &mut self.ram);
+        let (taken, number, _) = second::request(machine, ram, &self.rom, level, vector);
+        (taken, number)
+    }
+}
+
+/// What is measured: the steps of a run, or turns.
+enum Task {
+    Steps,
+    Turns(&'static Turn),
+}
+
+impl Task {
+    /// Does it so many times, and insists that all of them were done.
+    fn work(&self, worker: &mut impl Worker, times: u32, name: &str) -> Result<(), String> {
+        match self {
+            Task::Steps => work(worker, times, name),
+            Task::Turns(turn) => {
+                let done = (0..times).all(|_| a_turn(worker, turn));
+                done.then_some(())
+                    .ok_or(format!("{name}: answered otherwise"))
+            }
+        }
+    }
+}
+
+/// Offers a request, and steps if the turn says so: whether all was answered as
+/// it has to be.
+fn a_turn(worker: &mut impl Worker, turn: &Turn) -> bool {
+    worker.request(turn.level, turns::VECTOR) == (turn.taken, 0)
+        && (!turn.returns || worker.step() == 0)
 }
 
 /// Runs, and insists that all the steps were done.
@@ -105,12 +157,12 @@ fn work(worker: &mut dyn Worker, steps: u32, name: &str) -> Result<(), String> {
     }
 }
 
-/// Both machines do so many steps from a scene and end alike.
-fn both_alike(scene: &Scene, steps: u32, name: &str) -> Result<(), String> {
+/// Both machines do a task so many times from a scene and end alike.
+fn both_alike(scene: &Scene, task: Task, times: u32, name: &str) -> Result<(), String> {
     let mut proved = Proved::new(scene.clone());
     let mut other = scene.clone();
-    work(&mut proved, steps, name)?;
-    work(&mut other, steps, name)?;
+    task.work(&mut proved, times, name)?;
+    task.work(&mut other, times, name)?;
     let record = other.machine.to_record();
     if record == Ok(proved.record) && other.ram == proved.ram {
         Ok(())
@@ -121,14 +173,14 @@ fn both_alike(scene: &Scene, steps: u32, name: &str) -> Result<(), String> {
 
 fn brief() -> Result<(), String> {
     for mix in &MIXES {
-        both_alike(&mix.scene(), BRIEF_STEPS, mix.name)?;
+        both_alike(&mix.scene(), Task::Steps, BRIEF_STEPS, mix.name)?;
         println!("bench: {} works", mix.name);
     }
     let mut count = 0;
     for kind in kinds() {
         for code in &kind.codes {
             let name = format!("{} {}", kind.name, code.size);
-            both_alike(&code.scene(), kinds::STEPS, &name)?;
+            both_alike(&code.scene(), Task::Steps, kinds::STEPS, &name)?;
             if !code.alone() {
                 return Err(format!("{name}: another instruction is met"));
             }
@@ -136,6 +188,11 @@ fn brief() -> Result<(), String> {
         }
     }
     println!("bench: {count} instructions work, each by itself");
+    for turn in &TURNS {
+        let times = kinds::STEPS;
+        both_alike(&turns::scene(), Task::Turns(turn), times, turn.name)?;
+        println!("bench: {} works", turn.name);
+    }
     Ok(())
 }
 
@@ -151,24 +208,30 @@ fn name_kinds() -> Result<(), String> {
         let sizes: Vec<&str> = kind.codes.iter().map(|code| code.size).collect();
         println!("{}:{}", kind.name, sizes.join(" "));
     }
+    for turn in &TURNS {
+        println!("{}:plain", turn.name);
+    }
     Ok(())
 }
 
-/// The scene of a mix, or of a kind and a size.
-fn scene_of(name: &str) -> Option<Scene> {
+/// The scene of a mix, or of a kind and a size, and what is done there.
+fn task_of(name: &str) -> Option<(Scene, Task)> {
     if let Some(mix) = MIXES.iter().find(|mix| mix.name == name) {
-        return Some(mix.scene());
+        return Some((mix.scene(), Task::Steps));
     }
     let (kind, size) = name.rsplit_once(' ')?;
+    if let Some(turn) = TURNS.iter().find(|turn| turn.name == kind) {
+        return (size == "plain").then(|| (turns::scene(), Task::Turns(turn)));
+    }
     let kind = kinds().into_iter().find(|known| known.name == kind)?;
     let code = kind.codes.iter().find(|known| known.size == size)?;
-    Some(code.scene())
+    Some((code.scene(), Task::Steps))
 }
 
-fn only(name: &str, steps: &str) -> Result<(), String> {
-    let scene = scene_of(name).ok_or(format!("bench: nothing is called {name}"))?;
-    let steps = steps.parse().map_err(|_| "bench: how many steps?")?;
-    work(&mut Proved::new(scene), steps, name)
+fn only(name: &str, times: &str) -> Result<(), String> {
+    let (scene, task) = task_of(name).ok_or(format!("bench: nothing is called {name}"))?;
+    let times = times.parse().map_err(|_| "bench: how many times?")?;
+    task.work(&mut Proved::new(scene), times, name)
 }
 
 /// Steps a second, from as many calls as fill the time.
@@ -192,7 +255,7 @@ fn table(instructions: &[&str], how: &str) -> Result<(), String> {
         "mix", "steps/s", "second's", "ratio", "boards", "instructions"
     );
     for (place, mix) in MIXES.iter().enumerate() {
-        both_alike(&mix.scene(), STEPS, mix.name)?;
+        both_alike(&mix.scene(), Task::Steps, STEPS, mix.name)?;
         let ours = pace(&mut Proved::new(mix.scene()), mix.name)?;
         let others = pace(&mut mix.scene(), mix.name)?;
         println!(

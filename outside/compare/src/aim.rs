@@ -3,7 +3,7 @@
 use crate::chance::Chance;
 use crate::image::Image;
 use forms::{Form, Slot};
-use second::record::{self, BANK, COUNTER, F, F_PRIME, LENGTH, MARKS, ZEROS};
+use second::record::{self, BANK, COUNTER, F, F_PRIME, LENGTH, MARKS, NESTING, ZEROS};
 use second::Width;
 
 /// The values at which arithmetic of some width turns.
@@ -146,7 +146,35 @@ pub fn record(chance: &mut Chance, layout: Layout) -> Vec<u8> {
     put_long(&mut record, COUNTER, counter);
     record[BANK] = 0x88 | chance.below(4) as u8 | (chance.below(8) as u8) << 4;
     draw_flags(chance, &mut record);
+    draw_nesting(chance, &mut record);
     record
+}
+
+/// Draws the nesting count: none, at a turn, or any.
+pub fn draw_nesting(chance: &mut Chance, record: &mut [u8]) {
+    let nesting = match chance.below(4) {
+        0 => 0,
+        1 => chance.pick(&[1, 0xFE, 0xFF, 0x100, 0x7FFF, 0x8000, 0xFFFE, 0xFFFF]),
+        _ => chance.long() as u16,
+    };
+    set_nesting(record, nesting);
+}
+
+pub fn set_nesting(record: &mut [u8], nesting: u16) {
+    record[NESTING..MARKS].copy_from_slice(&nesting.to_le_bytes());
+}
+
+pub fn nesting(record: &[u8]) -> u16 {
+    u16::from_le_bytes([record[NESTING], record[NESTING + 1]])
+}
+
+/// The mask: the level of a state.
+pub fn mask(record: &[u8]) -> u8 {
+    record[BANK] >> 4 & 7
+}
+
+pub fn set_mask(record: &mut [u8], mask: u8) {
+    record[BANK] = record[BANK] & 0x8F | mask << 4;
 }
 
 /// Draws F and F' anew, and their marks.

@@ -3,13 +3,15 @@
 use crate::image::{hex, unhex, Image};
 use second::record::{COUNTER, SR};
 
-/// Which of the four calls.
+/// Which of the five calls.
 #[derive(Clone, Copy, Debug, PartialEq, Eq)]
 pub enum Call {
     Reset,
     Step,
     Run(u32),
     Show(u32),
+    /// A level and the address of a vector.
+    Request(u32, u32),
 }
 
 /// A call and what it is given. `Show` takes no record.
@@ -29,6 +31,7 @@ impl Case {
             Call::Step => "step".to_string(),
             Call::Run(steps) => format!("run:{steps}"),
             Call::Show(at) => format!("show:{at}"),
+            Call::Request(level, vector) => format!("request:{level}:{vector}"),
         };
         format!(
             "{call} record={} ram={} rom={}",
@@ -51,11 +54,11 @@ impl Case {
         })
     }
 
-    /// The bytes from the counter on, or from the address to show: at most
-    /// six, fewer at a memory's end.
+    /// The bytes from the counter on, or from the address to show, or from the
+    /// vector on: at most six, fewer at a memory's end.
     pub fn code(&self) -> &[u8] {
         let at = match self.call {
-            Call::Show(at) => at as usize,
+            Call::Show(at) | Call::Request(_, at) => at as usize,
             _ => match self.record.get(COUNTER..SR) {
                 Some(counter) => u32::from_le_bytes(counter.try_into().expect("four")) as usize,
                 None => return &[],
@@ -74,13 +77,17 @@ impl Case {
 }
 
 fn parse_call(word: &str) -> Option<Call> {
-    let (name, number) = word.split_once(':').unwrap_or((word, "0"));
-    let number = number.parse().ok()?;
-    match name {
-        "reset" => Some(Call::Reset),
-        "step" => Some(Call::Step),
-        "run" => Some(Call::Run(number)),
-        "show" => Some(Call::Show(number)),
+    let (name, numbers) = word.split_once(':').unwrap_or((word, ""));
+    let numbers: Option<Vec<u32>> = numbers
+        .split_terminator(':')
+        .map(|number| number.parse().ok())
+        .collect();
+    match (name, &numbers?[..]) {
+        ("reset", []) => Some(Call::Reset),
+        ("step", []) => Some(Call::Step),
+        ("run", &[steps]) => Some(Call::Run(steps)),
+        ("show", &[at]) => Some(Call::Show(at)),
+        ("request", &[level, vector]) => Some(Call::Request(level, vector)),
         _ => None,
     }
 }

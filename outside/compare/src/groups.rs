@@ -10,6 +10,7 @@ mod marks;
 mod memories;
 mod misuse;
 mod records;
+mod requests;
 mod runs;
 mod straddles;
 
@@ -39,6 +40,7 @@ pub const GROUPS: &[Group] = &[
     Group("counts-shifts-extensions", arithmetic::one_operand),
     Group("conditions", flow::conditions),
     Group("flag-codes", flow::flag_codes),
+    Group("every-word-as-sr", flow::every_status),
     Group("far-jumps", flow::far_jumps),
     Group("operands-at-the-ends", ends::operands),
     Group("stack-at-the-ends", ends::stack),
@@ -59,6 +61,14 @@ pub const GROUPS: &[Group] = &[
     Group("repeats-by-hand", blocks::repeats_by_hand),
     Group("repeats-cut-short", blocks::repeats_cut_short),
     Group("large-repeats", blocks::large_repeats),
+    Group("request-levels", requests::levels),
+    Group("requests-drawn", requests::drawn),
+    Group("request-vectors-and-stacks", requests::vectors_and_stacks),
+    Group("vector-in-the-stack", requests::overlaps),
+    Group("requests-nested", requests::nested),
+    Group("requests-and-marks", requests::marks),
+    Group("requests-between-steps", requests::between_steps),
+    Group("requests-in-repeats", requests::in_repeats),
     Group("record-bits", records::bits),
     Group("record-lengths", records::lengths),
     Group("memory-lengths", memories::lengths),

@@ -4,7 +4,9 @@ use crate::case::{Call, Case};
 use crate::image::hex;
 use crate::reference;
 use library::{Empty, Library};
-use second::record::{self, BANK, BANK_SIZE, COUNTER, F, F_PRIME, LONGS, MARKS, SHARED, SR};
+use second::record::{
+    self, BANK, BANK_SIZE, COUNTER, F, F_PRIME, LONGS, MARKS, NESTING, SHARED, SR,
+};
 use second::Width;
 
 /// Bytes on each side of what is lent to the library, which it must not
@@ -46,8 +48,9 @@ impl Guarded {
 }
 
 /// What a call answered. The count is the steps of a run and the length of
-/// what is shown; the address is a step's or a run's. A call that has no
-/// count, or no address, has 0 there.
+/// what is shown, and 1 for a request that was taken; the address is a step's,
+/// a run's or a request's. A call that has no count, or no address, has 0
+/// there.
 #[derive(Clone, Copy, Debug, PartialEq, Eq)]
 pub struct Answer {
     pub count: u32,
@@ -71,6 +74,11 @@ impl Answer {
         Answer { count, number, at }
     }
 
+    /// The answer of a request.
+    pub fn request((taken, number, at): (u8, u8, u32)) -> Answer {
+        Answer::run((u32::from(taken), number, at))
+    }
+
     /// The answer that has no address, as that of a show.
     pub fn counted((count, number): (u32, u8)) -> Answer {
         Answer::run((count, number, 0))
@@ -84,12 +92,18 @@ pub struct Tally {
     pub single: u64,
     /// Calls of `run`.
     pub runs: u64,
+    /// Calls of `request`.
+    pub requests: u64,
+    /// Requests that were taken.
+    pub taken: u64,
+    /// Requests that were not taken, and not refused.
+    pub left: u64,
     /// Other calls.
     pub others: u64,
     /// Steps that the library did, by either call.
     pub done: u64,
     /// How often each number was answered.
-    pub met: [u64; 9],
+    pub met: [u64; 10],
 }
 
 impl Tally {
@@ -97,6 +111,9 @@ impl Tally {
     pub fn and(mut self, other: Tally) -> Tally {
         self.single += other.single;
         self.runs += other.runs;
+        self.requests += other.requests;
+        self.taken += other.taken;
+        self.left += other.left;
         self.others += other.others;
         self.done += other.done;
         for (met, more) in self.met.iter_mut().zip(other.met) {
@@ -114,6 +131,12 @@ impl Tally {
             Call::Run(_) => {
                 self.runs += 1;
                 self.done += u64::from(answer.count);
+            }
+            Call::Request(..) => {
+                self.requests += 1;
+                let done = answer.number == 0;
+                self.taken += u64::from(done && answer.count == 1);
+                self.left += u64::from(done && answer.count == 0);
             }
             Call::Reset | Call::Show(_) => self.others += 1,
         }
@@ -186,7 +209,8 @@ impl Judge {
         answer
     }
 
-    fn carry(&self, case: &mut Case) {
+    /// A case takes what the last call left.
+    pub fn carry(&self, case: &mut Case) {
         case.record.copy_from_slice(self.record.bytes());
         case.ram.bytes.copy_from_slice(self.ram.bytes());
     }
@@ -217,6 +241,9 @@ impl Judge {
             Call::Step => Answer::step(self.library.step(record, ram, rom)),
             Call::Run(steps) => Answer::run(self.library.run(record, ram, rom, steps)),
             Call::Show(at) => Answer::counted(self.library.show(ram, rom, at)),
+            Call::Request(level, vector) => {
+                Answer::request(self.library.request(record, ram, rom, level, vector))
+            }
         };
 
         self.other_record.clone_from(&case.record);
@@ -285,7 +312,12 @@ impl Judge {
         let (answer, other) = self.both(case);
         println!("DISAGREE");
         println!("  --case '{}'", case.text());
-        println!("  code:    {}", spaced(case.code()));
+        let what = match case.call {
+            Call::Request(..) => "vector: ",
+            _ => "code:   ",
+        };
+        println!("  {what} {}", spaced(case.code()));
+        let told = |answer, record: &[u8]| told(case.call, answer, record);
         println!("  library: {}", told(answer, self.record.bytes()));
         println!("  second:  {}", told(other, &self.other_record));
         for (place, ours, others) in differing(self.record.bytes(), &self.other_record) {
@@ -307,7 +339,8 @@ impl Judge {
     pub fn replay(&mut self, case: &Case) -> bool {
         let (answer, other) = self.both(case);
         if self.agree(case, answer, other) {
-            println!("both:      {}", told(answer, self.record.bytes()));
+            let told = told(case.call, answer, self.record.bytes());
+            println!("both:      {told}");
             return true;
         }
         self.narrow(case);
@@ -331,6 +364,9 @@ fn field(place: usize) -> String {
         BANK => "bank and level".to_string(),
         F_PRIME => "F'".to_string(),
         MARKS => "marks".to_string(),
+        _ if (NESTING..MARKS).contains(&place) => {
+            format!("byte {} of the nesting count", place - NESTING)
+        }
         _ if place < COUNTER => register_at(place),
         _ if place < SR => format!("byte {} of the counter", place - COUNTER),
         _ => format!("byte {place} of the record"),
@@ -350,10 +386,14 @@ fn register_at(place: usize) -> String {
     }
 }
 
-fn told(answer: Answer, record: &[u8]) -> String {
+fn told(call: Call, answer: Answer, record: &[u8]) -> String {
     let Answer { count, number, at } = answer;
     let record = hex(record);
-    format!("number {number}, address {at:06X}, count {count}, record {record}")
+    let counted = match call {
+        Call::Request(..) => "taken",
+        _ => "count",
+    };
+    format!("number {number}, address {at:06X}, {counted} {count}, record {record}")
 }
 
 fn spaced(bytes: &[u8]) -> String {

@@ -1,7 +1,7 @@
 //! The proved library and the second interpreter, held against each other.
 //!
-//! Both are given the same record, memories and call; number, address, count,
-//! record and RAM must be the same afterwards. The second interpreter is
+//! Both are given the same record, memories and call; number, address, count or
+//! whether it was taken, record and RAM must be the same afterwards. The second interpreter is
 //! unproved; that the two agree proves nothing, but where they differ one is
 //! wrong.
 //!
@@ -106,7 +106,11 @@ fn compare(wish: &Wish) -> bool {
         "compare: {} steps done by the library; {} single steps, {} runs and {} other calls compared",
         all.done, all.single, all.runs, all.others
     );
-    println!("compare: numbers 0 to 8 answered {:?} times", all.met);
+    println!(
+        "compare: {} requests offered, {} taken and {} not taken",
+        all.requests, all.taken, all.left
+    );
+    println!("compare: numbers 0 to 9 answered {:?} times", all.met);
     if wish.group.is_none() {
         let enough = enough(&all);
         passed += usize::from(enough);
@@ -130,7 +134,9 @@ fn side_by_side(groups: &[&Group], wish: &Wish) -> Vec<Judge> {
     let processors = thread::available_parallelism().map_or(1, usize::from);
     thread::scope(|scope| {
         let workers: Vec<_> = (0..processors).map(|_| scope.spawn(work)).collect();
-        let ended = |worker: thread::ScopedJoinHandle<'_, Vec<Judge>>| worker.join().expect("a group that ends");
+        let ended = |worker: thread::ScopedJoinHandle<'_, Vec<Judge>>| {
+            worker.join().expect("a group that ends")
+        };
         workers.into_iter().flat_map(ended).collect()
     })
 }
@@ -145,21 +151,29 @@ fn judged(Group(name, work): &Group, wish: &Wish) -> Judge {
         rounds: wish.rounds,
     });
     println!(
-        "{:>26}: {:>8} single steps, {:>8} steps in all, {:>5.1} s, {}",
+        "{:>26}: {:>8} single steps, {:>8} steps in all, {:>7} requests, {:>5.1} s, {}",
         name,
         judge.tally.single,
         judge.tally.done,
+        judge.tally.requests,
         start.elapsed().as_secs_f64(),
-        if judge.failures == 0 { "agreed" } else { "FAILED" }
+        if judge.failures == 0 {
+            "agreed"
+        } else {
+            "FAILED"
+        }
     );
     judge
 }
 
 /// Whether enough was compared for the agreement to say anything: millions
-/// of steps, and every number answered.
+/// of steps, a million requests, half of them taken, and every number answered.
 fn enough(all: &Tally) -> bool {
     let enough = all.done >= 5_000_000
         && all.single >= 1_000_000
+        && all.requests >= 1_000_000
+        && 2 * all.taken >= all.requests
+        && all.left >= 50_000
         && all.met.iter().all(|&times| times > 100);
     if !enough {
         println!("WRONG: too little was compared");

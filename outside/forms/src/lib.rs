@@ -8,6 +8,7 @@
 #![forbid(unsafe_code)]
 
 pub mod marks;
+pub mod requests;
 
 /// One line for each form, in hex: bytes or ranges of bytes; `n` for a byte of
 /// a constant, `a` of an address, `d` of a displacement. Where forms differ
@@ -22,6 +23,10 @@ const LISTED: &str = "
     EX F,F'             | 16
     PUSH F              | 18
     POP F               | 19
+    EI n                | 06 00-07
+    PUSH SR             | 02
+    POP SR              | 03
+    RETI                | 07
 
     LD R,n8             | 20-27 n
     LD R,n16            | 30-37 n n

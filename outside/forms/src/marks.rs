@@ -1,6 +1,6 @@
 //! What the listed codes do to the marks of K6, as data to test with.
 //!
-//! Written from K6 and the flag lines of 000 alone. Marks stand in the bits of a
+//! Written from K6, K8 and the flag lines of 000 alone. Marks stand in the bits of a
 //! record's byte: bit 0 for H of F, bit 1 for V of F, bit 2 for H of F', bit 3
 //! for V of F'.
 
@@ -45,11 +45,11 @@ pub fn after(code: &[u8], marks: u8) -> u8 {
     }
 }
 
-/// Whether a listed code is refused with 8: PUSH F for either mark of F, a jump
-/// with a condition that reads V for V's.
+/// Whether a listed code is refused with 8: PUSH F and PUSH SR for either mark
+/// of F, a jump with a condition that reads V for V's.
 pub fn refused(code: &[u8], marks: u8) -> bool {
     match code[0] {
-        0x18 => marks & BOTH != 0,
+        0x02 | 0x18 => marks & BOTH != 0,
         first @ 0x60..=0x7F => marks & V != 0 && reads_v(first & 0x0F),
         _ => false,
     }
@@ -65,7 +65,8 @@ fn fate(code: &[u8]) -> Fate {
         [0x10 | 0x11] => Fate::HDefined,
         [0x12 | 0x13] => Fate::HUndefined,
         [0x16] => Fate::Exchanged,
-        [0x19] => Fate::Defined,
+        // POP SR, RETI, POP F
+        [0x03 | 0x07 | 0x19] => Fate::Defined,
         [first @ (0xC8..=0xCF | 0xD8..=0xDF | 0xE8..=0xEF), second, ..] => {
             of_register_form(first, second)
         }

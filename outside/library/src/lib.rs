@@ -7,6 +7,10 @@
 /// What a count or an address holds before a call that must write it: no call
 /// answers this.
 const UNWRITTEN: u32 = 0xDEAD_BEEF;
+/// The same for what is 0 or 1; it stands in the middle of others, which no call
+/// may write.
+const UNWRITTEN_BYTE: u8 = 0xEE;
+const MIDDLE: usize = 4;
 
 mod surface {
     #[link(name = "tlcs900h", kind = "static")]
@@ -50,6 +54,19 @@ mod surface {
             at: u32,
             length: *mut u32,
         ) -> u8;
+
+        pub fn tlcs900h_request(
+            record: *mut u8,
+            record_length: usize,
+            ram: *mut u8,
+            ram_length: usize,
+            rom: *const u8,
+            rom_length: usize,
+            level: u32,
+            vector: u32,
+            taken: *mut u8,
+            at: *mut u32,
+        ) -> u8;
     }
 }
 
@@ -62,13 +79,15 @@ pub enum Empty {
     Null,
 }
 
-/// The library's four calls. Each takes slices of any length.
+/// The library's five calls. Each takes slices of any length. Those of which the
+/// benchmark counts every call are compiled into it, to add little to the count.
 #[derive(Clone, Copy, Debug)]
 pub struct Library {
     pub empty: Empty,
 }
 
 impl Library {
+    #[inline]
     fn read(self, bytes: &[u8]) -> *const u8 {
         match self.empty {
             Empty::Null if bytes.is_empty() => std::ptr::null(),
@@ -76,6 +95,7 @@ impl Library {
         }
     }
 
+    #[inline]
     fn write(self, bytes: &mut [u8]) -> *mut u8 {
         match self.empty {
             Empty::Null if bytes.is_empty() => std::ptr::null_mut(),
@@ -100,6 +120,7 @@ impl Library {
     }
 
     /// Does one step, and gives the number and the address.
+    #[inline]
     pub fn step(self, record: &mut [u8], ram: &mut [u8], rom: &[u8]) -> (u8, u32) {
         let mut at = UNWRITTEN;
         // SAFETY: each pointer and length is one whole slice, lent for the
@@ -156,5 +177,38 @@ impl Library {
             )
         };
         (length, number)
+    }
+
+    /// Offers a request, and gives what says whether it was taken, the number
+    /// and the address.
+    #[inline]
+    pub fn request(
+        self,
+        record: &mut [u8],
+        ram: &mut [u8],
+        rom: &[u8],
+        level: u32,
+        vector: u32,
+    ) -> (u8, u8, u32) {
+        let (mut bytes, mut at) = ([UNWRITTEN_BYTE; 2 * MIDDLE], UNWRITTEN);
+        // SAFETY: as for a step; and `taken` is a byte of an array that is lent
+        // alone.
+        let number = unsafe {
+            surface::tlcs900h_request(
+                self.write(record),
+                record.len(),
+                self.write(ram),
+                ram.len(),
+                self.read(rom),
+                rom.len(),
+                level,
+                vector,
+                bytes.as_mut_ptr().add(MIDDLE),
+                &mut at,
+            )
+        };
+        let taken = std::mem::replace(&mut bytes[MIDDLE], UNWRITTEN_BYTE);
+        let alone = bytes == [UNWRITTEN_BYTE; 2 * MIDDLE];
+        (if alone { taken } else { UNWRITTEN_BYTE }, number, at)
     }
 }

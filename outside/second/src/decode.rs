@@ -32,6 +32,12 @@ pub(crate) enum Instruction {
     Jump(u8, Target),
     Call(Target),
     Return,
+    /// EI: the level as it stands in the code, 0 to 7.
+    SetLevel(u8),
+    PushStatus,
+    PopStatus,
+    /// RETI.
+    ReturnFromRequest,
     /// `left` becomes the operation of `left` with `right`.
     Combine {
         operation: Operation,
@@ -180,6 +186,13 @@ fn first(code: &mut Code) -> Decoded {
     use Width::{Byte, Long, Word};
     Ok(match code.octal()? {
         (0, 0, 0) => Instruction::Nothing,
+        (0, 0, 2) => Instruction::PushStatus,
+        (0, 0, 3) => Instruction::PopStatus,
+        (0, 0, 6) => match code.byte()? {
+            num @ 0..=7 => Instruction::SetLevel(num),
+            _ => return NOT_LISTED,
+        },
+        (0, 0, 7) => Instruction::ReturnFromRequest,
         (0, 1, 4) => Instruction::MoveBank(1),
         (0, 1, 5) => Instruction::MoveBank(3),
         (0, 1, 6) => Instruction::Return,

@@ -1,16 +1,17 @@
 //! Worked examples as data: the books' execution examples ([`book`]), the
 //! cases P1 to P12 of document 01 ([`cases`]), and more of our own, worked by
 //! hand from document 01 and the requests that have landed, for the codes that
-//! those leave out ([`hand`]); those for the marks of K6 have a table to
-//! themselves ([`marks`]). They stand in four tables of plain text, to be held
-//! beside the books.
+//! those leave out ([`hand`]); those for the marks of K6 and for the
+//! interrupts of K8 have tables to themselves ([`marks`], [`interrupts`]). They
+//! stand in five tables of plain text, to be held beside the books.
 //!
 //! They are public so that any implementation that speaks in records and
 //! memories can be run over them: [`Example::start`] gives what to begin
 //! with, [`Example::end`] all that must be found after [`Example::steps`]
-//! steps. Each of these is done, but for the last where the example says that
-//! it is refused ([`Example::refused`]). An example names everything that
-//! changes, so both are complete, byte for byte.
+//! steps, and after the request that comes before them where there is one
+//! ([`Example::request`]). Each of these is done, but for the last where the
+//! example says that it is refused ([`Example::refused`]). An example names
+//! everything that changes, so both are complete, byte for byte.
 //!
 //! What an example does not give is zero. RAM has its full 65,536 bytes and
 //! holds the code at [`Example::at`]; ROM is empty, or of zeros where an example
@@ -25,7 +26,7 @@
 mod table;
 
 use crate::flags::Marks;
-use crate::record::{self, BANK, COUNTER, F, F_PRIME, LENGTH, MARKS, SR};
+use crate::record::{self, BANK, COUNTER, F, F_PRIME, LENGTH, MARKS, NESTING, SR};
 
 /// The books' execution examples.
 pub fn book() -> Vec<Example> {
@@ -47,10 +48,15 @@ pub fn marks() -> Vec<Example> {
     table::read("marks.txt", include_str!("examples/marks.txt"))
 }
 
+/// Examples for the interrupts of K8, worked by hand.
+pub fn interrupts() -> Vec<Example> {
+    table::read("interrupts.txt", include_str!("examples/interrupts.txt"))
+}
+
 /// Every example: the books', then the cases, then those worked by hand, the
-/// marks last.
+/// marks and the interrupts last.
 pub fn all() -> Vec<Example> {
-    [book(), cases(), hand(), marks()].concat()
+    [book(), cases(), hand(), marks(), interrupts()].concat()
 }
 
 /// One thing that a state or RAM holds.
@@ -68,6 +74,10 @@ pub enum Part {
     SpareMarks(Marks),
     /// The current bank's number.
     Bank(u8),
+    /// The interrupt level.
+    Level(u8),
+    /// The nesting count.
+    Nesting(u16),
     /// The program counter.
     Counter(u32),
     /// The byte of RAM at an address.
@@ -76,7 +86,18 @@ pub enum Part {
     Rom(u16),
 }
 
-/// How a refused step ends.
+/// A request, and whether it is taken.
+#[derive(Clone, Copy, Debug, PartialEq, Eq)]
+pub struct Request {
+    /// The level.
+    pub level: u32,
+    /// The address of the vector.
+    pub vector: u32,
+    /// Whether it is taken.
+    pub taken: bool,
+}
+
+/// How a refused step ends, or a refused request.
 #[derive(Clone, Copy, Debug, PartialEq, Eq)]
 pub struct Refused {
     /// Its number.
@@ -92,6 +113,8 @@ pub struct Example {
     pub name: &'static str,
     /// The document and line it is taken from.
     pub source: &'static str,
+    /// What is offered before the first step, if anything is.
+    pub request: Option<Request>,
     /// The address of the first code byte.
     pub at: u16,
     /// The code bytes.
@@ -100,7 +123,8 @@ pub struct Example {
     pub before: Vec<Part>,
     /// How many steps are asked for.
     pub steps: u32,
-    /// How the last of them is refused, if it is.
+    /// How the last of them is refused, if it is; the request, where no step
+    /// is asked for.
     pub refused: Option<Refused>,
     /// What is different or stated after.
     pub after: Vec<Part>,
@@ -145,9 +169,19 @@ impl Example {
     /// the address.
     pub fn answer(&self) -> (u32, u8, u32) {
         match self.refused {
-            Some(Refused { number, at }) => (self.steps - 1, number, at),
-            None => (self.steps, 0, 0),
+            Some(Refused { number, at }) if self.steps > 0 => (self.steps - 1, number, at),
+            _ => (self.steps, 0, 0),
         }
+    }
+
+    /// What the request answers, where there is one: whether it was taken, the
+    /// number and the address.
+    pub fn request_answer(&self) -> Option<(bool, u8, u32)> {
+        let taken = self.request?.taken;
+        Some(match self.refused {
+            Some(Refused { number, at }) if self.steps == 0 => (taken, number, at),
+            _ => (taken, 0, 0),
+        })
     }
 }
 
@@ -169,6 +203,10 @@ impl Scene {
             Part::Counter(value) => self.record[COUNTER..SR].copy_from_slice(&value.to_le_bytes()),
             Part::F(value) => self.record[F] = value,
             Part::Bank(value) => self.record[BANK] = self.record[BANK] & 0xFC | value,
+            Part::Level(value) => self.record[BANK] = self.record[BANK] & 0x8F | value << 4,
+            Part::Nesting(value) => {
+                self.record[NESTING..MARKS].copy_from_slice(&value.to_le_bytes())
+            }
             Part::SpareF(value) => self.record[F_PRIME] = value,
             Part::Marks(marks) => self.record[MARKS] = self.record[MARKS] & 0xFC | marks.to_bits(),
             Part::SpareMarks(marks) => {

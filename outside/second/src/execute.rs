@@ -7,7 +7,8 @@ use crate::machine::{address, Machine, BC, XSP};
 use crate::memory::{check_lengths, code_from, Memories};
 use crate::number;
 use crate::refusal::Refusal;
-use crate::width::Width;
+use crate::request::{count_on, FRAME};
+use crate::width::{gather, Width};
 
 /// How many steps a run may be asked for.
 pub const MOST_STEPS: u32 = 1_000_000;
@@ -42,7 +43,8 @@ pub fn run(machine: &mut Machine, ram: &mut [u8], rom: &[u8], steps: u32) -> (u3
     (steps, number::DONE, 0)
 }
 
-fn check(machine: &Machine, ram: &[u8], rom: &[u8]) -> Result<(), u8> {
+/// Number 1 or 2, where there is something against the memories or the state.
+pub(crate) fn check(machine: &Machine, ram: &[u8], rom: &[u8]) -> Result<(), u8> {
     check_lengths(ram, rom)?;
     if machine.valid() {
         Ok(())
@@ -119,6 +121,13 @@ impl Work<'_> {
                 let whole = self.pop(Width::Long)?;
                 self.go(Target::At(whole));
             }
+            Instruction::SetLevel(num) => self.machine.level = num,
+            Instruction::PushStatus => self.push_status()?,
+            Instruction::PopStatus => {
+                let status = self.pop(Width::Word)?;
+                self.machine.set_status(status);
+            }
+            Instruction::ReturnFromRequest => self.return_from_request()?,
             Instruction::Combine {
                 operation,
                 width,
@@ -222,6 +231,27 @@ impl Work<'_> {
             return Err(number::UNDEFINED.into());
         }
         self.push(Width::Byte, u32::from(self.machine.f))
+    }
+
+    /// SR holds all of F, so the same goes for it.
+    fn push_status(&mut self) -> Outcome {
+        if self.machine.marks.any() {
+            return Err(number::UNDEFINED.into());
+        }
+        self.push(Width::Word, self.machine.status())
+    }
+
+    /// Takes back what an accepted request pushed: SR below, the counter above
+    /// it, all of them one operand.
+    fn return_from_request(&mut self) -> Outcome {
+        let frame = self.memories.bytes(self.pointed(XSP), FRAME)?;
+        let (status, counter) = frame.split_at(Width::Word.bytes());
+        let (status, counter) = (gather(status), gather(counter));
+        self.machine.shove(Width::Long, XSP, FRAME as i64);
+        self.machine.set_status(status);
+        self.go(Target::At(counter));
+        self.machine.nesting = count_on(self.machine.nesting, -1);
+        Ok(())
     }
 
     /// S, Z and V stay, V's mark too; N becomes 0. So does H after RCF and

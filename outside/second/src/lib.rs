@@ -20,8 +20,9 @@
 //! long, 2 a state, address or record that breaks its rules, 3 code bytes
 //! missing, 4 a code not listed, 5 an operand missing, 6 a store to ROM. K6
 //! adds 8, for a flag that is read and that 000 leaves undefined; it comes
-//! after 4 and before 5. To 5 and 6 a step or a run adds the address that K3
-//! names; with any other number it adds 0.
+//! after 4 and before 5. K8 adds 9, for a request that there cannot be; it
+//! comes after 2. To 5 and 6 a step, a run or a request adds the address that
+//! K3 names; with any other number it adds 0.
 
 #![forbid(unsafe_code)]
 
@@ -35,6 +36,7 @@ mod memory;
 mod program;
 pub mod record;
 mod refusal;
+mod request;
 mod width;
 
 /// The numbers by which a call says how it ended.
@@ -57,6 +59,8 @@ pub mod number {
     pub const TOO_MANY: u8 = 7;
     /// A flag is read that 000 leaves undefined.
     pub const UNDEFINED: u8 = 8;
+    /// A request has no level from 1 to 7, or no address for its vector.
+    pub const BAD_REQUEST: u8 = 9;
 }
 
 pub use execute::{run, step, MOST_STEPS};
@@ -64,4 +68,5 @@ pub use flags::Marks;
 pub use machine::Machine;
 pub use memory::{show, MOST_BYTES};
 pub use program::{line, reset};
+pub use request::request;
 pub use width::Width;

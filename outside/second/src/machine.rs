@@ -2,7 +2,7 @@
 
 use crate::flags::{Flags, Marks};
 use crate::number;
-use crate::record::{self, COUNTER, F_PRIME, LENGTH, MARKS, SR, ZEROS};
+use crate::record::{self, COUNTER, F_PRIME, LENGTH, MARKS, NESTING, SR, ZEROS};
 use crate::width::{gather, scatter, Width};
 
 /// How many addresses there are: every address is taken modulo this.
@@ -50,11 +50,14 @@ pub struct Machine {
     pub marks: Marks,
     /// Which flags of F' are undefined. Their bits are 0.
     pub marks_prime: Marks,
+    /// The nesting count: requests taken, less RETIs done. It goes round at
+    /// its 16 bits.
+    pub nesting: u16,
 }
 
 impl Machine {
-    /// The state with every register, the counter, the bank, the level and
-    /// both flag registers zero, and no mark.
+    /// The state with every register, the counter, the bank, the level, both
+    /// flag registers and the nesting count zero, and no mark.
     pub fn zero() -> Machine {
         Machine {
             file: [0; FILE],
@@ -65,6 +68,7 @@ impl Machine {
             f_prime: 0,
             marks: Marks::default(),
             marks_prime: Marks::default(),
+            nesting: 0,
         }
     }
 
@@ -96,11 +100,11 @@ impl Machine {
         machine.file.copy_from_slice(&record[..FILE]);
         machine.counter = gather(&record[COUNTER..SR]);
         machine.f = (status % 256) as u8;
-        machine.bank = (status / 256 % 4) as u8;
-        machine.level = (status / 4096 % 8) as u8;
+        machine.set_upper_status(status);
         machine.f_prime = record[F_PRIME];
         machine.marks = Marks::from_bits(marks % 4);
         machine.marks_prime = Marks::from_bits(marks / 4);
+        machine.nesting = gather(&record[NESTING..MARKS]) as u16;
         if machine.valid() {
             Ok(machine)
         } else {
@@ -118,6 +122,7 @@ impl Machine {
         scatter(self.counter, &mut record[COUNTER..SR]);
         scatter(self.status(), &mut record[SR..F_PRIME]);
         record[F_PRIME] = self.f_prime;
+        scatter(u32::from(self.nesting), &mut record[NESTING..MARKS]);
         record[MARKS] = self.marks.to_bits() + 4 * self.marks_prime.to_bits();
         Ok(record)
     }
@@ -129,6 +134,20 @@ impl Machine {
             + u32::from(self.f)
             + u32::from(self.bank % 4) * 256
             + u32::from(self.level % 8) * 4096
+    }
+
+    /// Takes the bank and the level from SR. Its other upper bits have one
+    /// value each, whatever is tried.
+    fn set_upper_status(&mut self, status: u32) {
+        self.bank = (status / 256 % 4) as u8;
+        self.level = (status / 4096 % 8) as u8;
+    }
+
+    /// Takes SR as it was popped. Its flags count as known.
+    pub(crate) fn set_status(&mut self, status: u32) {
+        let byte = (status % 256) as u8;
+        self.set_flags(Flags::from_byte(byte, Marks::default()));
+        self.set_upper_status(status);
     }
 
     /// What the register of this width and code (0 to 7) holds, in the

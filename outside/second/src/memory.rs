@@ -66,20 +66,33 @@ pub(crate) struct Memories<'a> {
 impl Memories<'_> {
     /// The operand that begins at an address; 5 if it is missing.
     pub fn read(&self, first: u32, width: Width) -> Result<u32, Refusal> {
-        let part = self.operand(first, width)?;
+        Ok(gather(self.bytes(first, width.bytes())?))
+    }
+
+    /// An operand of any size, as its bytes.
+    pub fn bytes(&self, first: u32, size: usize) -> Result<&[u8], Refusal> {
+        let part = self.operand(first, size)?;
         Ok(match part.memory {
-            Memory::Ram => gather(&self.ram[part.places]),
-            Memory::Rom => gather(&self.rom[part.places]),
+            Memory::Ram => &self.ram[part.places],
+            Memory::Rom => &self.rom[part.places],
         })
     }
 
     /// Stores a value from an address on; 5 if there is no room for it, 6 if
     /// it is ROM, and then at the first byte.
     pub fn store(&mut self, first: u32, width: Width, value: u32) -> Result<(), Refusal> {
-        let part = self.operand(first, width)?;
+        let mut bytes = [0; 4];
+        let bytes = &mut bytes[..width.bytes()];
+        scatter(value, bytes);
+        self.store_bytes(first, bytes)
+    }
+
+    /// Stores an operand of any size, given as its bytes.
+    pub fn store_bytes(&mut self, first: u32, bytes: &[u8]) -> Result<(), Refusal> {
+        let part = self.operand(first, bytes.len())?;
         match part.memory {
             Memory::Ram => {
-                scatter(value, &mut self.ram[part.places]);
+                self.ram[part.places].copy_from_slice(bytes);
                 Ok(())
             }
             Memory::Rom => Err(Refusal {
@@ -89,8 +102,8 @@ impl Memories<'_> {
         }
     }
 
-    fn operand(&self, first: u32, width: Width) -> Result<Part, Refusal> {
-        find(self.ram, self.rom, first, width.bytes()).map_err(|at| Refusal {
+    fn operand(&self, first: u32, size: usize) -> Result<Part, Refusal> {
+        find(self.ram, self.rom, first, size).map_err(|at| Refusal {
             number: number::MISSING,
             at,
         })
@@ -192,6 +205,23 @@ mod tests {
         (0, 0, 0x12_3456, 2, 0x12_3456),
         (0, 0, 0xFF_FFFF, 1, 0xFF_FFFF),
         (0, 0, 0xFF_FFFF, 4, 0xFF_FFFF),
+        // Six bytes, as a request pushes them: over the end of RAM with 5 to 1
+        // inside, behind it, over the start of ROM and over the top.
+        (0x100, 0x100, 0x00_00FB, 6, 0x00_0100),
+        (0x100, 0x100, 0x00_00FC, 6, 0x00_0100),
+        (0x100, 0x100, 0x00_00FD, 6, 0x00_0100),
+        (0x100, 0x100, 0x00_00FE, 6, 0x00_0100),
+        (0x100, 0x100, 0x00_00FF, 6, 0x00_0100),
+        (0x100, 0x100, 0x00_0100, 6, 0x00_0100),
+        (5, 0x100, 0x00_0000, 6, 0x00_0005),
+        (0x100, 0x100, 0xFF_FEFB, 6, 0xFF_FEFB),
+        (0x100, 0x100, 0xFF_FEFF, 6, 0xFF_FEFF),
+        (0x100, 0x100, 0xFF_FFFB, 6, 0x00_0000),
+        (0x100, 0x100, 0xFF_FFFF, 6, 0x00_0000),
+        (0x100, 5, 0xFF_FFFB, 6, 0x00_0000),
+        (0x100, 5, 0xFF_FFFA, 6, 0xFF_FFFA),
+        (0x100, 0, 0xFF_FFFB, 6, 0xFF_FFFB),
+        (0x1_0000, 0x1_0000, 0x00_FFFB, 6, 0x01_0000),
         // As much RAM as there may be, and as much ROM.
         (0x1_0000, 0x1_0000, 0x00_FFFF, 2, 0x01_0000),
         (0x1_0000, 0x1_0000, 0x00_FFFD, 4, 0x01_0000),
@@ -219,12 +249,16 @@ mod tests {
             (0x100, 0x100, 0x00_00FF, 1, Memory::Ram, 0xFF),
             (0x100, 0x100, 0x00_00FE, 2, Memory::Ram, 0xFE),
             (0x100, 0x100, 0x00_00FC, 4, Memory::Ram, 0xFC),
+            (0x100, 0x100, 0x00_00FA, 6, Memory::Ram, 0xFA),
+            (6, 0x100, 0x00_0000, 6, Memory::Ram, 0),
             (0x1_0000, 0, 0x00_FFFC, 4, Memory::Ram, 0xFFFC),
             (0, 1, 0xFF_FFFF, 1, Memory::Rom, 0),
             (0x100, 0x100, 0xFF_FF00, 4, Memory::Rom, 0),
             (0x100, 0x100, 0xFF_FFFF, 1, Memory::Rom, 0xFF),
             (0x100, 0x100, 0xFF_FFFE, 2, Memory::Rom, 0xFE),
             (0x100, 0x100, 0xFF_FFFC, 4, Memory::Rom, 0xFC),
+            (0x100, 0x100, 0xFF_FFFA, 6, Memory::Rom, 0xFA),
+            (0x100, 6, 0xFF_FFFA, 6, Memory::Rom, 0),
             (0, 0x1_0000, 0xFF_0000, 4, Memory::Rom, 0),
         ] {
             let places = place..place + size;

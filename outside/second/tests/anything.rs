@@ -2,7 +2,7 @@
 
 mod common;
 
-use common::{rom_start, step_at, step_once, Chance};
+use common::{offer, rom_start, step_at, step_once, Chance};
 use second::{run, show, Machine, Marks, Width};
 
 /// Pointers that mostly point at something.
@@ -27,6 +27,7 @@ fn any_machine(chance: &mut Chance, ram: &[u8], rom: &[u8]) -> Machine {
     }
     machine.f = chance.byte() & 0xD7 & !machine.marks.flags();
     machine.f_prime = chance.byte() & 0xD7 & !machine.marks_prime.flags();
+    machine.nesting = chance.next() as u16;
     for code in 0..8 {
         let value = pointer(chance, ram.len(), rom.len());
         machine.set(Width::Long, code, value);
@@ -64,6 +65,35 @@ fn any_step_answers_and_refuses_cleanly() {
     for number in [0, 3, 4, 5, 6, 8] {
         assert!(met[number] > 100, "number {number} was met {met:?}");
     }
+}
+
+#[test]
+fn any_request_answers_and_refuses_cleanly() {
+    let mut chance = Chance(44);
+    let (mut met, mut taken_in_all) = ([0u32; 10], 0);
+    for _ in 0..150_000 {
+        let (ram_length, rom_length) = (chance.below(40) as usize, chance.below(40) as usize);
+        let mut ram: Vec<u8> = (0..ram_length).map(|_| chance.byte()).collect();
+        let rom: Vec<u8> = (0..rom_length).map(|_| chance.byte()).collect();
+        let mut machine = any_machine(&mut chance, &ram, &rom);
+        let level = chance.below(9);
+        let vector = pointer(&mut chance, ram_length, rom_length) % 0x100_0010;
+        let nesting = machine.nesting;
+        let (taken, number, _) = offer(&mut machine, &mut ram, &rom, level, vector);
+        if taken {
+            assert_eq!(machine.nesting, nesting.wrapping_add(1));
+            taken_in_all += 1;
+        }
+        assert_eq!(
+            Machine::from_record(&machine.to_record().unwrap()),
+            Ok(machine)
+        );
+        met[usize::from(number)] += 1;
+    }
+    for number in [0, 5, 6, 9] {
+        assert!(met[number] > 100, "number {number} was met {met:?}");
+    }
+    assert!(taken_in_all > 1_000 && met[0] - taken_in_all > 1_000);
 }
 
 /// A run is so many steps, or those before the first refused one.

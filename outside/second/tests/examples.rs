@@ -1,7 +1,7 @@
 //! Runs every worked example through records and memories alone.
 
-use second::examples::{all, book, cases, hand, marks, Example};
-use second::{run, show, step, Machine};
+use second::examples::{all, book, cases, hand, interrupts, marks, Example};
+use second::{request, run, show, step, Machine};
 
 /// Whether the example is of a state that is not valid.
 fn is_invalid(example: &Example) -> bool {
@@ -18,6 +18,11 @@ fn check(example: &Example) {
         return;
     }
     let mut machine = Machine::from_record(&scene.record).expect(&label);
+    let offered = example.request.map(|offered| {
+        let (level, vector) = (offered.level, offered.vector);
+        request(&mut machine, &mut scene.ram, &scene.rom, level, vector)
+    });
+    assert_eq!(offered, example.request_answer(), "{label}");
     let ended = run(&mut machine, &mut scene.ram, &scene.rom, example.steps);
     assert_eq!(ended, example.answer(), "{label}");
     assert_eq!(
@@ -59,20 +64,45 @@ fn the_marks() {
     marks().iter().for_each(check);
 }
 
+#[test]
+fn the_interrupts() {
+    assert_eq!(interrupts().len(), 217);
+    interrupts().iter().for_each(check);
+}
+
+/// How often each number is what the examples end with.
+fn refused_in(examples: &[Example]) -> [u32; 10] {
+    let mut met = [0; 10];
+    let refused = examples.iter().filter_map(|example| example.refused);
+    for refusal in refused {
+        met[usize::from(refusal.number)] += 1;
+    }
+    met
+}
+
 /// The books' examples, the cases and those for all codes are done; 8 is what
-/// the table of the marks is there for.
+/// the table of the marks is there for, and 9 that of the interrupts.
 #[test]
 fn what_is_refused() {
-    let refused_in = |examples: Vec<Example>| {
-        let numbers = examples.iter().map(|example| example.answer().1);
-        numbers.filter(|&number| number != 0).collect::<Vec<u8>>()
+    assert_eq!(refused_in(&[book(), cases(), hand()].concat()), [0; 10]);
+    assert_eq!(refused_in(&marks()), [0, 0, 9, 2, 1, 2, 2, 0, 33, 0]);
+    assert_eq!(refused_in(&interrupts()), [0, 0, 0, 2, 5, 45, 5, 0, 10, 15]);
+}
+
+/// Of the requests so many are taken; the others are refused, or are not taken.
+#[test]
+fn what_is_taken() {
+    let answers: Vec<_> = interrupts()
+        .iter()
+        .filter_map(Example::request_answer)
+        .collect();
+    let count = |wanted: fn(&(bool, u8, u32)) -> bool| {
+        answers.iter().filter(|answer| wanted(answer)).count()
     };
-    assert_eq!(refused_in([book(), cases(), hand()].concat()), []);
-    let mut met = [0; 9];
-    for number in refused_in(marks()) {
-        met[usize::from(number)] += 1;
-    }
-    assert_eq!(met, [0, 0, 9, 2, 1, 2, 2, 0, 33]);
+    assert_eq!(answers.len(), 141);
+    assert_eq!(count(|&answer| answer == (true, 0, 0)), 70);
+    assert_eq!(count(|&answer| answer == (false, 0, 0)), 27);
+    assert_eq!(count(|&(taken, number, _)| !taken && number != 0), 44);
 }
 
 /// An example of one step has exactly one instruction as its code, but for
@@ -80,7 +110,8 @@ fn what_is_refused() {
 #[test]
 fn the_code_is_shown_whole() {
     for example in all() {
-        if example.steps == 1 && !matches!(example.answer().1, 3 | 4) {
+        let at_once = example.steps == 1 && example.request.is_none();
+        if at_once && !matches!(example.answer().1, 3 | 4) {
             let scene = example.start();
             let at = u32::from(example.at);
             let (bytes, number) = show(&scene.ram, &scene.rom, at);
@@ -91,12 +122,14 @@ fn the_code_is_shown_whole() {
 
 /// The same in ROM: the code moves there, its operands stay in RAM, and
 /// nothing else differs but the counter. What is refused for its code or its
-/// operand is left out: a ROM so long changes where these end.
+/// operand is left out: a ROM so long changes where these end. So is what begins
+/// with a request, which pushes the counter.
 #[test]
 fn the_code_may_lie_in_rom() {
     for example in all() {
         let (done, number, _) = example.answer();
-        if is_invalid(&example) || matches!(number, 3 | 5 | 6) {
+        let left_out = is_invalid(&example) || example.request.is_some();
+        if left_out || matches!(number, 3 | 5 | 6) {
             continue;
         }
         let mut scene = example.start();
@@ -104,6 +137,7 @@ fn the_code_may_lie_in_rom() {
         let mut in_rom = in_ram.clone();
         let mut ram = scene.ram.clone();
         let mut rom = vec![0; 65_536];
+        // A pop from ROM finds its zeros still.
         let first = usize::from(example.at);
         rom[first..first + example.code.len()].copy_from_slice(&example.code);
         in_rom.counter += 0xFF_0000;
@@ -114,7 +148,7 @@ fn the_code_may_lie_in_rom() {
             let ended = step(&mut in_rom, &mut ram, &rom);
             assert_eq!(ended, wanted, "{}", example.name);
         }
-        let jumps = matches!(example.code[0], 0x0E | 0x1A..=0x1D);
+        let jumps = matches!(example.code[0], 0x07 | 0x0E | 0x1A..=0x1D);
         let calls = matches!(example.code[0], 0x1C..=0x1E);
         if !jumps {
             let moved = (in_ram.counter + 0xFF_0000) % 0x100_0000;

@@ -1,5 +1,5 @@
 //! The marks of K6: what sets, clears, keeps and reads them, over every listed
-//! code.
+//! code, K8's too.
 
 mod common;
 
@@ -77,8 +77,8 @@ fn every_listed_code() {
             refused += (0..6).filter(stops).count();
         }
     }
-    // PUSH F with a mark of F, and twelve jumps with V's.
-    assert_eq!(refused, 6 * (12 + 12 * 8));
+    // PUSH F and PUSH SR with a mark of F, and twelve jumps with V's.
+    assert_eq!(refused, 6 * (2 * 12 + 12 * 8));
     let setting = |mark: u8| {
         let sets = |kind: &&Form| marks::after(&code(&mut Chance(1), kind), 0) == mark;
         kinds.iter().filter(sets).count()

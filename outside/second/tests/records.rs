@@ -3,7 +3,7 @@
 mod common;
 
 use common::{Chance, XSP, XWA};
-use second::record::{self, BANK, COUNTER, F, F_PRIME, LAST, LATER, LENGTH, MARKS, SR, ZERO};
+use second::record::{self, BANK, COUNTER, F, F_PRIME, LAST, LENGTH, MARKS, NESTING, SR, ZERO};
 use second::{run, Machine, Marks, Width};
 
 /// Each mark's bit in its byte, with the byte and the bit of its flag.
@@ -17,7 +17,6 @@ fn fixed_bit(byte: usize, bit: usize) -> Option<bool> {
         (BANK, 3 | 7) => Some(true), // SR bits 11 and 15
         (ZERO | LAST, _) => Some(false),
         (MARKS, 4..) => Some(false),
-        _ if byte == LATER || byte == LATER + 1 => Some(false),
         _ if byte == COUNTER + 3 => Some(false), // the counter has 24 bits
         _ => None,
     }
@@ -104,6 +103,8 @@ fn any_bytes_read_back_or_are_refused() {
             *byte |= chance.byte();
         }
         record[MARKS] = chance.byte() & 0x0F;
+        record[NESTING] = chance.byte();
+        record[NESTING + 1] = chance.byte();
         // Most such records are wrong somewhere: bring half of them right.
         if round % 2 == 0 {
             let wild = record;
@@ -176,8 +177,8 @@ fn only_92_bytes_are_a_record() {
 /// The offsets as numbers, by document 01: banks 0 to 3 (XWA, XBC, XDE, XHL
 /// each), XIX, XIY, XIZ, XSP, the counter in four bytes, SR in two, F' in one,
 /// a zero byte. A word is the low half of its long; W, B, D, H are the high
-/// bytes of that word. Behind these 88 bytes: two zero bytes, the marks, a zero
-/// byte.
+/// bytes of that word. Behind these 88 bytes: the nesting count in two, the
+/// marks, a zero byte.
 #[test]
 fn where_everything_lies() {
     let longs = [
@@ -203,8 +204,8 @@ fn where_everything_lies() {
         }
     }
     assert_eq!((COUNTER, SR, F, BANK, F_PRIME), (80, 84, 84, 85, 86));
-    assert_eq!((ZERO, LATER, MARKS, LAST, LENGTH), (87, 88, 90, 91, 92));
-    assert_eq!(record::ZEROS, [87, 88, 89, 91]);
+    assert_eq!((ZERO, NESTING, MARKS, LAST, LENGTH), (87, 88, 90, 91, 92));
+    assert_eq!(record::ZEROS, [87, 91]);
 }
 
 /// The registers by code 0 to 7, as document 01 names them.
@@ -236,6 +237,7 @@ fn a_state_in_its_record() {
     machine.f_prime = 0x44;
     machine.marks.v = true;
     machine.marks_prime.h = true;
+    machine.nesting = 0xABCD;
     machine.set(Width::Long, XWA, 0x0403_0201);
     machine.set(Width::Long, XSP, 0x0807_0605);
     let record = machine.to_record().unwrap();
@@ -243,11 +245,27 @@ fn a_state_in_its_record() {
     assert_eq!(record[record::register(Width::Long, XSP, 2)], [5, 6, 7, 8]);
     assert_eq!(
         record[COUNTER..],
-        [0x56, 0x34, 0x12, 0x00, 0xD3, 0xDA, 0x44, 0x00, 0x00, 0x00, 0x06, 0x00]
+        [0x56, 0x34, 0x12, 0x00, 0xD3, 0xDA, 0x44, 0x00, 0xCD, 0xAB, 0x06, 0x00]
     );
     let others = record[..COUNTER].iter().filter(|&&byte| byte != 0).count();
     assert_eq!(others, 8);
     assert_eq!(machine.status(), 0xDAD3);
+}
+
+/// Any nesting count is a state's, low byte first.
+#[test]
+fn every_nesting_count() {
+    for nesting in 0..=0xFFFF {
+        let mut machine = Machine::zero();
+        machine.nesting = nesting;
+        assert!(machine.valid());
+        let record = machine.to_record().unwrap();
+        assert_eq!(
+            record[NESTING..MARKS],
+            [nesting as u8, (nesting >> 8) as u8]
+        );
+        assert_eq!(Machine::from_record(&record), Ok(machine));
+    }
 }
 
 #[test]

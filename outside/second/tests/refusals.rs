@@ -116,6 +116,11 @@ fn numbers_3_and_4_at_the_byte_that_forces_them() {
         (&[0x17], 3),
         (&[0x17, 0x08], 4),
         (&[0x17, 0xFF], 4),
+        (&[0x04], 4),
+        (&[0x05], 4),
+        (&[0x06], 3),
+        (&[0x06, 0x08], 4),
+        (&[0x06, 0xFF], 4),
         (&[0x40, 0x00, 0x00, 0x00], 3),
         (&[0xC9], 3),
         (&[0xC9, 0x12], 4),
@@ -177,6 +182,8 @@ fn number_5_for_a_read() {
         &[0xEF, 0x9C, 0x19], // LD XSP,XIX; POP F
         &[0xEF, 0x9C, 0x48], // LD XSP,XIX; POP WA
         &[0xEF, 0x9C, 0x58], // LD XSP,XIX; POP XWA
+        &[0xEF, 0x9C, 0x03], // LD XSP,XIX; POP SR
+        &[0xEF, 0x9C, 0x07], // LD XSP,XIX; RETI
     ];
     for &code in reading {
         let rom = [0; 8];
@@ -211,6 +218,7 @@ fn numbers_5_and_6_for_a_store() {
         &[0x18],                   // PUSH F
         &[0x28],                   // PUSH WA
         &[0x38],                   // PUSH XWA
+        &[0x02],                   // PUSH SR
         &[0x1C, 0x00, 0x00],       // CALL 0
         &[0x1D, 0x00, 0x00, 0x00], // CALL 0
         &[0x1E, 0xFD, 0xFF],       // CALR itself

@@ -33,10 +33,12 @@ fn memory_form(width: Width) -> u8 {
     }
 }
 
-/// A step at the start of RAM; which flags are marked is drawn.
+/// A step at the start of RAM; which flags are marked, and the nesting count, is
+/// drawn.
 fn hold_step(bench: &mut Bench, machine: &Machine, code: &[u8], operand: u32) {
     let mut case = step_of(machine, code, operand);
     aim::draw_marks(&mut bench.chance, &mut case.record);
+    aim::draw_nesting(&mut bench.chance, &mut case.record);
     bench.judge.hold(&case);
 }
 
@@ -60,6 +62,7 @@ pub fn all_byte_pairs(bench: &mut Bench) {
         let both = record::register(Width::Word, WA, 0);
         let mut case = step_of(&Machine::zero(), &[], 0);
         case.ram = Image::of(&code);
+        aim::draw_nesting(&mut bench.chance, &mut case.record);
         for carry in [0, 1] {
             for pair in 0..=0xFFFF_u16 {
                 case.record[both.clone()].copy_from_slice(&pair.to_le_bytes());

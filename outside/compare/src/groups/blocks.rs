@@ -20,7 +20,7 @@ const ROM_LENGTH: usize = 300;
 const ROM_START: u32 = (1 << 24) - ROM_LENGTH as u32;
 
 /// The copies and the compares.
-fn block_forms() -> [Form; 2] {
+pub fn block_forms() -> [Form; 2] {
     ["LDI LDIR LDD LDDR", "CPI CPIR CPD CPDR"].map(forms::named)
 }
 
@@ -38,7 +38,7 @@ pub fn rounds(bench: &mut Bench) {
 }
 
 /// A repeating block code.
-fn repeating_code(chance: &mut Chance, forms: &[Form; 2]) -> [u8; 2] {
+pub fn repeating_code(chance: &mut Chance, forms: &[Form; 2]) -> [u8; 2] {
     let form = &forms[chance.below(2) as usize];
     let nowhere = Layout { ram: 0, rom: 0 };
     let code = aim::code(chance, form, nowhere);
@@ -48,7 +48,7 @@ fn repeating_code(chance: &mut Chance, forms: &[Form; 2]) -> [u8; 2] {
 
 /// A case whose code stands at the start of a short ROM. Behind it stands
 /// FF, which is listed nowhere, so that a run ends with 4 right there. The
-/// flags are drawn.
+/// flags and the nesting count are drawn.
 fn in_rom(chance: &mut Chance, machine: &Machine, code: &[u8], ram: Image, call: Call) -> Case {
     let mut machine = machine.clone();
     machine.counter = ROM_START;
@@ -59,6 +59,7 @@ fn in_rom(chance: &mut Chance, machine: &Machine, code: &[u8], ram: Image, call:
         rom: rom_with(code),
     };
     aim::draw_flags(chance, &mut case.record);
+    aim::draw_nesting(chance, &mut case.record);
     case
 }
 

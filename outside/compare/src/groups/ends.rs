@@ -100,10 +100,10 @@ fn operand(bench: &mut Bench, layout: Layout, address: u32, by_register: u8, fix
     }
 }
 
-/// Pushes, pops, calls and returns with XSP at each address, with and
-/// without a highest byte that no address has.
+/// Pushes, pops, calls and returns, those of SR too, with XSP at each address,
+/// with and without a highest byte that no address has.
 pub fn stack(bench: &mut Bench) {
-    const CODES: [&[u8]; 10] = [
+    const CODES: [&[u8]; 13] = [
         &[0x18],
         &[0x19],
         &[0x29],
@@ -114,6 +114,9 @@ pub fn stack(bench: &mut Bench) {
         &[0x1D, 0x34, 0x12, 0xFF],
         &[0x1E, 0xFD, 0xFF],
         &[0x0E],
+        &[0x02],
+        &[0x03],
+        &[0x07],
     ];
     for layout in LAYOUTS {
         for address in around_the_ends(layout) {

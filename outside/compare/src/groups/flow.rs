@@ -4,7 +4,9 @@ use super::Bench;
 use crate::aim::{self, Layout, FLAGS, XSP};
 use crate::case::{Call, Case};
 use crate::image::Image;
-use second::record::{BANK, COUNTER, F, F_PRIME};
+use crate::judge::Answer;
+use forms::requests;
+use second::record::{BANK, COUNTER, F, F_PRIME, SR};
 
 const LAYOUT: Layout = Layout { ram: 64, rom: 64 };
 
@@ -50,13 +52,16 @@ pub fn conditions(bench: &mut Bench) {
     }
 }
 
-/// The codes that touch only the flags or the bank: every F, several F' and
-/// every bank; POP F of every byte; and LDF with every second byte, from every
-/// bank. The level and the marks are drawn; for POP F and LDF so are F and F'.
+/// The codes that touch only the flags or the bank, and those of SR: every F,
+/// several F' and every bank; POP F of every byte; LDF with every second byte,
+/// from every bank; and EI with every second byte, from every level. The level
+/// and the marks are drawn; for POP F, LDF and EI so are F and F'.
 pub fn flag_codes(bench: &mut Bench) {
     for f in all_flags() {
         for spare in [0, f ^ FLAGS, bench.chance.byte() & FLAGS] {
-            for code in [0x00, 0x0C, 0x0D, 0x10, 0x11, 0x12, 0x13, 0x16, 0x18, 0x19] {
+            for code in [
+                0x00, 0x02, 0x03, 0x07, 0x0C, 0x0D, 0x10, 0x11, 0x12, 0x13, 0x16, 0x18, 0x19,
+            ] {
                 for bank in 0..4 {
                     let mut case = near_the_top(bench, &[code], 1);
                     let level = bench.chance.below(8) as u8;
@@ -78,6 +83,37 @@ pub fn flag_codes(bench: &mut Bench) {
             let mut case = near_the_top(bench, &[0x17, byte], 2);
             case.record[BANK] = case.record[BANK] & 0xFC | bank;
             bench.judge.hold(&case);
+        }
+        for level in 0..8 {
+            let mut case = near_the_top(bench, &[0x06, byte], 2);
+            aim::set_mask(&mut case.record, level);
+            bench.judge.hold(&case);
+        }
+    }
+}
+
+/// POP SR and RETI of every word; the rest of what RETI pops is drawn. Both
+/// machines are held to what K8 says of the bits that have one value.
+pub fn every_status(bench: &mut Bench) {
+    const STACK: usize = 7;
+    for code in [0x03, 0x07] {
+        let mut case = near_the_top(bench, &[code], 1);
+        aim::set_long(&mut case.record, XSP, STACK as u32);
+        for word in 0..=0xFFFF_u16 {
+            aim::draw_flags(&mut bench.chance, &mut case.record);
+            let counter = bench.chance.long();
+            case.ram.put(STACK, &word.to_le_bytes());
+            case.ram.put(STACK + 2, &counter.to_le_bytes());
+            let answer = bench.judge.hold(&case);
+            let (record, _) = bench.judge.left();
+            let status = u16::from_le_bytes([record[SR], record[SR + 1]]);
+            let right = answer == Answer::number(0) && status == requests::popped(word);
+            bench.judge.expect(right, || {
+                format!("SR is {status:04X}: --case '{}'", case.text())
+            });
+        }
+        if bench.judge.weary() {
+            return;
         }
     }
 }

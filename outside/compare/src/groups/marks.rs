@@ -17,10 +17,11 @@ use met::{Met, Sort};
 use operation::{operations, prepared, Prepared, LAYOUT, MIDDLE};
 use second::record::{COUNTER, MARKS};
 
-const PUSH_F: [u8; 1] = [0x18];
+/// PUSH F and PUSH SR, and how many bytes they push.
+const PUSHES: [([u8; 1], u32); 2] = [([0x18], 1), ([0x02], 2)];
 const EXCHANGE: [u8; 1] = [0x16];
 
-/// Where XSP puts what PUSH F pushes, and what a push there answers if no mark
+/// Where XSP puts what they push, and what a push there answers if no mark
 /// refuses it: in RAM, behind RAM, in ROM.
 const STACKS: [(u32, u8); 3] = [
     (MIDDLE, 0),
@@ -105,15 +106,23 @@ fn read_by_jumps(bench: &mut Bench, case: &mut Case, was: u8, met: &mut Met) {
     }
 }
 
-/// PUSH F from a state, with XSP in each place.
+/// PUSH F and PUSH SR from a state, with XSP in each place.
 fn read_by_pushes(bench: &mut Bench, case: &mut Case, was: u8, met: &mut Met) {
     for (place, (first, number)) in STACKS.into_iter().enumerate() {
-        let highest = bench.chance.long() << 24;
-        aim::set_long(&mut case.record, XSP, highest | (first + 1));
-        let at = if number == 0 { 0 } else { first };
-        let answer = read(bench, case, &PUSH_F, Answer::step((number, at)));
-        met.note(&PUSH_F, place, was, case.record[MARKS], answer);
+        for (code, size) in PUSHES {
+            let highest = bench.chance.long() << 24;
+            aim::set_long(&mut case.record, XSP, highest | (first + size));
+            let at = if number == 0 { 0 } else { first };
+            let answer = read(bench, case, &code, Answer::step((number, at)));
+            met.note(&code, place, was, case.record[MARKS], answer);
+        }
     }
+}
+
+/// Both pushes in each place.
+fn all_pushes() -> impl Iterator<Item = (Vec<u8>, usize)> {
+    let places = 0..STACKS.len();
+    places.flat_map(|place| PUSHES.map(|(code, _)| (code.to_vec(), place)))
 }
 
 /// Every jump behind every operation: 8 where it reads a marked V, also where
@@ -138,25 +147,25 @@ pub fn jumps(bench: &mut Bench) {
     }
 }
 
-/// PUSH F behind every operation: 8 where it would be done, where it would be 5
-/// and where it would be 6; and each of these where the operation has cleared
-/// the marks.
+/// PUSH F and PUSH SR behind every operation: 8 where it would be done, where it
+/// would be 5 and where it would be 6; and each of these where the operation has
+/// cleared the marks.
 pub fn pushes(bench: &mut Bench) {
     let mut met = Met::default();
     each_operation(bench, |bench, operation, before| {
         let mut case = done(bench, operation, before);
         read_by_pushes(bench, &mut case, before, &mut met);
     });
-    for place in 0..STACKS.len() {
+    for (code, place) in all_pushes() {
         for of_f in [marks::H, marks::V, marks::BOTH] {
-            met.expect(bench.judge, &PUSH_F, place, Sort::Refused(of_f));
+            met.expect(bench.judge, &code, place, Sort::Refused(of_f));
         }
-        met.expect(bench.judge, &PUSH_F, place, Sort::Cleared);
+        met.expect(bench.judge, &code, place, Sort::Cleared);
     }
 }
 
-/// EX F,F' behind every operation, and then every jump and PUSH F. What is
-/// noted is what the exchange has changed: a mark came in, or went out.
+/// EX F,F' behind every operation, and then every jump and every push of flags.
+/// What is noted is what the exchange has changed: a mark came in, or went out.
 pub fn exchanges(bench: &mut Bench) {
     let mut met = Met::default();
     each_operation(bench, |bench, operation, before| {
@@ -168,8 +177,7 @@ pub fn exchanges(bench: &mut Bench) {
         read_by_pushes(bench, &mut case, was, &mut met);
     });
     let jumps = signed_jumps().map(|code| (code, 0));
-    let pushes = (0..STACKS.len()).map(|place| (PUSH_F.to_vec(), place));
-    for (code, place) in jumps.chain(pushes) {
+    for (code, place) in jumps.chain(all_pushes()) {
         met.expect(bench.judge, &code, place, Sort::CameIn);
         met.expect(bench.judge, &code, place, Sort::Cleared);
     }
@@ -177,7 +185,8 @@ pub fn exchanges(bench: &mut Bench) {
 
 /// Every operation and a reader in one run; and long strings of both.
 pub fn runs(bench: &mut Bench) {
-    let readers: Vec<Vec<u8>> = all_jumps().chain([PUSH_F.to_vec()]).collect();
+    let pushes = PUSHES.map(|(code, _)| code.to_vec());
+    let readers: Vec<Vec<u8>> = all_jumps().chain(pushes).collect();
     each_operation(bench, |bench, operation, before| {
         let reader = bench.chance.below(readers.len() as u32) as usize;
         two_steps(bench, operation, before, &readers[reader]);
@@ -193,7 +202,9 @@ pub fn runs(bench: &mut Bench) {
         Sort::Refused(marks::V),
         Sort::Cleared,
     ] {
-        met.expect(bench.judge, &PUSH_F, 0, sort);
+        for (code, _) in PUSHES {
+            met.expect(bench.judge, &code, 0, sort);
+        }
     }
 }
 
@@ -233,7 +244,7 @@ fn strung(bench: &mut Bench, met: &mut Met) {
                 aim::code(chance, &operations[one], runs::LAYOUT)
             }
             5..=7 => jumps[chance.below(32) as usize].clone(),
-            8 => PUSH_F.to_vec(),
+            8 => chance.pick(&PUSHES).0.to_vec(),
             _ => EXCHANGE.to_vec(),
         });
         let mut case = Case {
@@ -266,8 +277,9 @@ fn leg(bench: &mut Bench, case: &mut Case, met: &mut Met) {
         let code = stepped.code().to_vec();
         let now = stepped.record[MARKS];
         let answer = bench.judge.hold_and_carry(&mut stepped);
-        // PUSH F or a jump; and it is a run's only where steps came before.
-        if all.count > 0 && matches!(code.first(), Some(0x18 | 0x60..=0x7F)) {
+        // A push of flags or a jump; and it is a run's only where steps came
+        // before.
+        if all.count > 0 && matches!(code.first(), Some(0x02 | 0x18 | 0x60..=0x7F)) {
             met.note(&code, 0, was, now, answer);
         }
         was |= now;

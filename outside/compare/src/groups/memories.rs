@@ -20,7 +20,7 @@ fn over_noise(bench: &mut Bench, ram: usize, rom: usize) -> Case {
 }
 
 /// Every pair of lengths with every call, with good states and bad ones, so
-/// that the order of 7, 1 and 2 shows.
+/// that the order of 7, 1, 2 and 9 shows.
 pub fn lengths(bench: &mut Bench) {
     for ram in LENGTHS {
         for rom in LENGTHS {
@@ -53,6 +53,11 @@ fn each_call(bench: &mut Bench, case: &mut Case) {
         Call::Show(0),
         Call::Show(0xFF_FFFF),
         Call::Show(0x100_0000),
+        Call::Request(7, 0),
+        Call::Request(1, 0xFF_FFFC),
+        Call::Request(7, 0xFF_FFFF),
+        Call::Request(0, 0),
+        Call::Request(7, 0x100_0000),
     ] {
         case.call = call;
         bench.judge.hold(case);
@@ -96,8 +101,8 @@ pub fn reset(bench: &mut Bench) {
     }
 }
 
-/// Show at every address near an end, near 2^24 and far above it; and LDF
-/// with every second byte, in RAM and in ROM.
+/// Show at every address near an end, near 2^24 and far above it; and LDF and
+/// EI with every second byte, in RAM and in ROM.
 pub fn show(bench: &mut Bench) {
     for _ in 0..400 * bench.rounds {
         let layout = Layout::short(&mut bench.chance);
@@ -117,13 +122,15 @@ pub fn show(bench: &mut Bench) {
             return;
         }
     }
-    for byte in 0..=255 {
-        let mut case = over_noise(bench, 2, 2);
-        case.ram.put(0, &[0x17, byte]);
-        case.rom.put(0, &[0x17, byte]);
-        for at in [0, 0xFF_FFFE] {
-            case.call = Call::Show(at);
-            bench.judge.hold(&case);
+    for first in [0x17, 0x06] {
+        for byte in 0..=255 {
+            let mut case = over_noise(bench, 2, 2);
+            case.ram.put(0, &[first, byte]);
+            case.rom.put(0, &[first, byte]);
+            for at in [0, 0xFF_FFFE] {
+                case.call = Call::Show(at);
+                bench.judge.hold(&case);
+            }
         }
     }
 }

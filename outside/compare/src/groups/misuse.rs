@@ -7,7 +7,7 @@ use crate::image::Image;
 use library::Empty;
 use second::record::LENGTH;
 
-const CALLS: [Call; 8] = [
+const CALLS: [Call; 13] = [
     Call::Reset,
     Call::Step,
     Call::Run(0),
@@ -16,6 +16,11 @@ const CALLS: [Call; 8] = [
     Call::Show(0),
     Call::Show(0xFF_FFFF),
     Call::Show(0xFFFF_FFFF),
+    Call::Request(7, 0),
+    Call::Request(1, 0xFF_FF00),
+    Call::Request(7, 0xFF_FFFF),
+    Call::Request(8, 0),
+    Call::Request(0xFFFF_FFFF, 0xFFFF_FFFF),
 ];
 
 const LAYOUT: Layout = Layout { ram: 300, rom: 300 };

@@ -7,7 +7,14 @@ use crate::image::Image;
 use second::record::{COUNTER, F, F_PRIME, LENGTH, MARKS};
 
 const LAYOUT: Layout = Layout { ram: 32, rom: 32 };
-const CALLS: [Call; 4] = [Call::Step, Call::Run(0), Call::Run(2), Call::Run(1_000_001)];
+const CALLS: [Call; 6] = [
+    Call::Step,
+    Call::Run(0),
+    Call::Run(2),
+    Call::Run(1_000_001),
+    Call::Request(7, 0),
+    Call::Request(8, 0),
+];
 
 fn with_record(record: Vec<u8>) -> Case {
     Case {

@@ -84,14 +84,14 @@ pub fn string(chance: &mut Chance, draw: impl Fn(&mut Chance) -> Vec<u8>) -> Ima
     rom
 }
 
-/// A listed instruction that does not jump far: jumps to an address and RET
-/// would mostly end the run at once.
+/// A listed instruction that does not jump far: jumps to an address, RET and
+/// RETI would mostly end the run at once.
 fn drawn(chance: &mut Chance, forms: &[Form]) -> Vec<u8> {
     loop {
         let form = &forms[chance.below(forms.len() as u32) as usize];
         let mut code = aim::code(chance, form, LAYOUT);
         match code[0] {
-            0x0E | 0x1A..=0x1D => continue,
+            0x07 | 0x0E | 0x1A..=0x1D => continue,
             0x1E | 0x70..=0x7F => code[2] = 0,
             0x60..=0x6F => {}
             _ => return code,

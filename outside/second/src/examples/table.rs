@@ -11,10 +11,13 @@
 //!
 //! Every number is hexadecimal. The code lies at 8000 and one step is done;
 //! `@2000` before the code is another address, `x3` after it another number
-//! of steps. Before and after stand:
+//! of steps. Before all of it may stand `?3@1000`, a request of level 3 with a
+//! vector at 1000, which is offered first; then there may be no code, and no
+//! step is done. Before and after stand:
 //!
 //! - `HL=1234`: a register by its book name, `F=42` and `F'=42` the flags,
-//!   `BANK=3` the current bank;
+//!   `BANK=3` the current bank, `LEVEL=7` the level, `NEST=0001` the nesting
+//!   count;
 //! - `F?=H`, `F?=V`, `F?=HV`, `F?=-`: which flags of F are marked as undefined,
 //!   or that none is; `F'?=H` and so on those of F';
 //! - `PC=002034`: the counter, and `+2` the counter two past the first byte of
@@ -24,12 +27,13 @@
 //!
 //! After stands, too, how the last step is refused, if it is: `!8` by its
 //! number, `!5@010000` with the address that goes with it. The steps before it
-//! are done.
+//! are done. Where no step is done it is the request that is refused. After
+//! also stands `taken` if the request is.
 //!
 //! A line whose first three columns are empty goes on with the example above
 //! it. Empty lines, and those that begin with `#`, are for the reader only.
 
-use super::{Example, Part, Refused};
+use super::{Example, Part, Refused, Request};
 use crate::flags::Marks;
 use crate::record;
 
@@ -55,15 +59,11 @@ fn add(examples: &mut Vec<Example>, line: &'static str) -> Option<()> {
         examples.push(begin(name, source, code)?);
     }
     let example = examples.last_mut()?;
-    let (refusals, after): (Vec<&str>, Vec<&str>) = after
+    let (answers, after): (Vec<&str>, Vec<&str>) = after
         .split_whitespace()
-        .partition(|word| word.starts_with('!'));
-    for word in refusals {
-        let again = example.refused.replace(refusal(word)?);
-        // Only one step can be the refused one, and there has to be one.
-        if again.is_some() || example.steps == 0 {
-            return None;
-        }
+        .partition(|word| *word == TAKEN || word.starts_with('!'));
+    for word in answers {
+        answer(example, word)?;
     }
     let before = before.split_whitespace().collect();
     example.before.append(&mut parts(before, example.at)?);
@@ -71,9 +71,35 @@ fn add(examples: &mut Vec<Example>, line: &'static str) -> Option<()> {
     Some(())
 }
 
+const TAKEN: &str = "taken";
+
+/// What an example says of the answers: that its request is taken, or how
+/// something is refused. Either is said only once, and of what is there.
+fn answer(example: &mut Example, word: &str) -> Option<()> {
+    if word == TAKEN {
+        let request = example.request.as_mut()?;
+        let again = std::mem::replace(&mut request.taken, true);
+        return (!again).then_some(());
+    }
+    let again = example.refused.replace(refusal(word)?);
+    let anything = example.steps > 0 || example.request.is_some();
+    (again.is_none() && anything).then_some(())
+}
+
 /// An example with nothing before and after it yet.
 fn begin(name: &'static str, source: &'static str, code: &str) -> Option<Example> {
     let mut words: Vec<&str> = code.split_whitespace().collect();
+    let request = match words.first()?.strip_prefix('?') {
+        Some(offered) => {
+            words.remove(0);
+            Some(self::request(offered)?)
+        }
+        None => None,
+    };
+    if request.is_some() && words.is_empty() {
+        // It stands alone, and no step is done.
+        words.push("x0");
+    }
     let mut at = 0x8000;
     if let Some(other) = words.first()?.strip_prefix('@') {
         at = number(other, 4)?;
@@ -84,18 +110,30 @@ fn begin(name: &'static str, source: &'static str, code: &str) -> Option<Example
         steps = number(other, 8)?;
         words.pop();
     }
-    if name.is_empty() || source.is_empty() || words.is_empty() {
+    let nothing = words.is_empty() && (request.is_none() || steps != 0);
+    if name.is_empty() || source.is_empty() || nothing {
         return None;
     }
     Some(Example {
         name,
         source,
+        request,
         at,
         code: words.into_iter().map(byte).collect::<Option<_>>()?,
         before: Vec::new(),
         steps,
         refused: None,
         after: Vec::new(),
+    })
+}
+
+/// A level and the address of a vector. Either may be one that is refused.
+fn request(word: &str) -> Option<Request> {
+    let (level, vector) = word.split_once('@')?;
+    Some(Request {
+        level: number(level, 8)?,
+        vector: number(vector, 8)?,
+        taken: false,
     })
 }
 
@@ -145,6 +183,8 @@ fn named(name: &'static str, value: &str) -> Option<Part> {
         "F'?" => Part::SpareMarks(marks(value)?),
         "ROM" => Part::Rom(number(value, 4)?),
         "BANK" => Part::Bank(number(value, 1).filter(|&bank| bank < 4)?),
+        "LEVEL" => Part::Level(number(value, 1).filter(|&level| level < 8)?),
+        "NEST" => Part::Nesting(number(value, 4)?),
         "PC" => Part::Counter(number(value, 6)?),
         _ => {
             let size = record::named(name)?.len();
@@ -189,8 +229,13 @@ mod tests {
                   |       |                | [3456]=11,22                    | +2\n\
             EX #2 | there | 16             |                                 | +1\n\
             three | there | 00 18 x2       | F?=HV F'?=H ROM=10              | +1 !8\n\
-            four  | there | 18             | F?=- F'?=V                      | !5@012345\n";
-        let [one, two, three, four] = <[Example; 4]>::try_from(read("table", text)).unwrap();
+            four  | there | 18             | F?=- F'?=V                      | !5@012345\n\
+            five  | there | ?3@1000        | LEVEL=5 NEST=1234               | taken\n\
+            six   | there | ?8@1000000     |                                 | !9\n\
+            seven | there | ?7@20 @10 00   |                                 | !3 taken\n";
+        let [one, two, three, four, others @ ..] = &read("table", text)[..] else {
+            panic!("too few examples");
+        };
         assert_eq!((one.name, one.source), ("one", "here"));
         assert_eq!((one.at, one.steps), (0x2000, 3));
         assert_eq!(one.code, [0x68, 0x32]);
@@ -219,6 +264,30 @@ mod tests {
         assert_eq!(four.before, [marks(none), spare(v)]);
         assert!(four.after.is_empty());
         assert_eq!(four.answer(), (0, 5, 0x01_2345));
+        assert_eq!(one.request_answer(), None);
+        requests(others);
+    }
+
+    /// What the last lines above say of requests.
+    fn requests(examples: &[Example]) {
+        let [five, six, seven] = examples else {
+            panic!("{} examples", examples.len());
+        };
+        let offered = |example: &Example| {
+            let request = example.request.expect("a request");
+            (request.level, request.vector)
+        };
+        assert_eq!(offered(five), (3, 0x1000));
+        assert_eq!((five.at, five.steps, five.code.len()), (0x8000, 0, 0));
+        assert_eq!(five.before, [Part::Level(5), Part::Nesting(0x1234)]);
+        assert_eq!(five.request_answer(), Some((true, 0, 0)));
+        assert_eq!(five.answer(), (0, 0, 0));
+        assert_eq!(offered(six), (8, 0x100_0000));
+        assert_eq!(six.request_answer(), Some((false, 9, 0)));
+        assert_eq!(six.answer(), (0, 0, 0));
+        assert_eq!((seven.at, seven.steps), (0x10, 1));
+        assert_eq!(seven.request_answer(), Some((true, 0, 0)));
+        assert_eq!(seven.answer(), (0, 3, 0));
     }
 
     #[test]
@@ -280,6 +349,21 @@ mod tests {
             "NOP | 01 | 00 | | !5@1000000",
             "NOP | 01 | 00 | | !8 !8",
             "NOP | 01 | 00 x0 | | !8",
+            "NOP | 01 | 00 | LEVEL=8 | +1",
+            "NOP | 01 | 00 | NEST=10000 | +1",
+            "NOP | 01 | 00 | | taken",
+            "NOP | 01 | 00 | taken | +1",
+            "NOP | 01 | ?3@1000 00 | | taken taken",
+            "NOP | 01 | ?3@1000 | | !9 !9",
+            "NOP | 01 | ?3 00 | | +1",
+            "NOP | 01 | ?@1000 00 | | +1",
+            "NOP | 01 | ?3@ 00 | | +1",
+            "NOP | 01 | ?123456789@0 | | +1",
+            "NOP | 01 | ?1@123456789 | | +1",
+            "NOP | 01 | 00 ?3@1000 | | +1",
+            "NOP | 01 | @2000 ?3@1000 00 | | +1",
+            "NOP | 01 | ?3@1000 @2000 | | +1",
+            "NOP | 01 | ?3@1000 x1 | | +1",
         ];
         for slip in slips {
             let mut examples = read("table", "NOP | 01 | 00 | | +1");

@@ -1,7 +1,7 @@
 //! What the tests share.
 #![allow(dead_code)] // not every test file uses everything
 
-use second::{step, Machine, Width};
+use second::{request, step, Machine, Width};
 
 /// Codes of registers.
 pub const A: u8 = 1;
@@ -72,6 +72,29 @@ pub fn step_at(machine: &mut Machine, ram: &mut [u8], rom: &[u8]) -> (u8, u32) {
         assert!(ram == ram_before, "a refusal changed RAM");
     }
     (number, at)
+}
+
+/// Offers a request, and checks that one which is not taken changes nothing at
+/// all and that the address fits the number.
+pub fn offer(
+    machine: &mut Machine,
+    ram: &mut [u8],
+    rom: &[u8],
+    level: u32,
+    vector: u32,
+) -> (bool, u8, u32) {
+    let state_before = machine.clone();
+    let ram_before = ram.to_vec();
+    let (taken, number, at) = request(machine, ram, rom, level, vector);
+    assert!(address_fits(number, at, ram, rom), "{number} at {at:06X}");
+    if taken {
+        assert_eq!((number, at), (0, 0));
+        assert!(machine.valid());
+    } else {
+        assert_eq!(*machine, state_before, "the state changed");
+        assert!(ram == ram_before, "RAM changed");
+    }
+    (taken, number, at)
 }
 
 /// Numbers that are always the same ones, spread over all 32 bits.

@@ -16,10 +16,10 @@ pub const MIDDLE: u32 = 0xA0;
 const PLACE: usize = 0x10;
 
 /// Everything listed, in each size, that goes on to the next instruction and is
-/// not PUSH F: that reads the marks, and comes behind.
+/// not PUSH F or PUSH SR: these read the marks, and come behind.
 pub fn operations() -> Vec<Form> {
     let mut kinds: Vec<Form> = forms::listed().iter().flat_map(Form::kinds).collect();
-    let elsewhere = [0x0E, 0x18, 0x1A, 0x1B, 0x1C, 0x1D, 0x1E];
+    let elsewhere = [0x02, 0x07, 0x0E, 0x18, 0x1A, 0x1B, 0x1C, 0x1D, 0x1E];
     let jumps = |first: u8| elsewhere.contains(&first) || (0x60..=0x7F).contains(&first);
     kinds.retain(|kind| match &kind.slots[0] {
         Slot::One(bytes) => !bytes.iter().any(|&first| jumps(first)),

@@ -48,10 +48,11 @@ impl Kind {
         Kind::CopyToRom,
     ];
 
-    /// The sizes that document 01 has for it.
+    /// The sizes that document 01 has for it; RETI's is K8's.
     pub fn sizes(self) -> &'static [u32] {
         match self {
-            Kind::Call | Kind::Return => &[4],
+            Kind::Call => &[4],
+            Kind::Return => &[4, 6],
             Kind::Read | Kind::Store | Kind::ReadAndStore | Kind::Push | Kind::Pop => &[1, 2, 4],
             _ => &[1, 2],
         }
@@ -78,6 +79,7 @@ enum Way {
 const BYTE: &[u32] = &[1];
 const WORD: &[u32] = &[2];
 const LONG: &[u32] = &[4];
+const SIX: &[u32] = &[6];
 const SHORT: &[u32] = &[1, 2];
 const ANY: &[u32] = &[1, 2, 4];
 
@@ -87,7 +89,7 @@ const COPIES: &str = "LDI LDIR LDD LDDR";
 /// Every form that has an operand in memory, what it does with it, and its
 /// sizes. CP of memory with R only reads. INC, DEC and shifts are not here:
 /// document 01 lists these for registers alone.
-const TRIED: [(&str, Kind, Way, &[u32]); 36] = [
+const TRIED: [(&str, Kind, Way, &[u32]); 39] = [
     ("LD R,(R)", Kind::Read, Way::Pointer, ANY),
     ("ADD to CP R,(R)", Kind::Read, Way::Pointer, ANY),
     ("ADD to CP (R),R", Kind::Read, Way::Pointer, ANY),
@@ -108,15 +110,18 @@ const TRIED: [(&str, Kind, Way, &[u32]); 36] = [
     ("LD to CP with (n24)", Kind::ReadAndStore, Way::Fixed, ANY),
     ("LD (n24),R", Kind::Store, Way::Fixed, ANY),
     ("PUSH F", Kind::Push, Way::Push, BYTE),
+    ("PUSH SR", Kind::Push, Way::Push, WORD),
     ("PUSH R, word", Kind::Push, Way::Push, WORD),
     ("PUSH R, long", Kind::Push, Way::Push, LONG),
     ("CALL n16", Kind::Call, Way::Push, LONG),
     ("CALL n24", Kind::Call, Way::Push, LONG),
     ("CALR d16", Kind::Call, Way::Push, LONG),
     ("POP F", Kind::Pop, Way::Pop, BYTE),
+    ("POP SR", Kind::Pop, Way::Pop, WORD),
     ("POP R, word", Kind::Pop, Way::Pop, WORD),
     ("POP R, long", Kind::Pop, Way::Pop, LONG),
     ("RET", Kind::Return, Way::Pop, LONG),
+    ("RETI", Kind::Return, Way::Pop, SIX),
     (COMPARES, Kind::Compare, Way::Compare, SHORT),
     (COPIES, Kind::CopyFrom, Way::Copy, SHORT),
     (COPIES, Kind::CopyFromToNowhere, Way::Copy, SHORT),
@@ -266,7 +271,8 @@ fn size(code: &[u8]) -> u32 {
     let size_in = |byte: u8| 1 << (byte >> 4 & 3);
     match code[0] {
         0x18 | 0x19 => 1,
-        0x28..=0x2E | 0x48..=0x4E => 2,
+        0x02 | 0x03 | 0x28..=0x2E | 0x48..=0x4E => 2,
+        0x07 => 6,
         0x0E | 0x1C..=0x1E | 0x38..=0x3E | 0x58..=0x5E => 4,
         0xB0..=0xBF | 0xF0..=0xF2 => size_in(code[code.len() - 1]),
         first => size_in(first),

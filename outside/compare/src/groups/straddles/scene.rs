@@ -7,6 +7,8 @@ use crate::chance::Chance;
 use second::record::{COUNTER, MARKS};
 
 const PUSH_F: u8 = 0x18;
+const PUSH_SR: u8 = 0x02;
+const RETI: u8 = 0x07;
 
 /// How many NOPs stand before the code.
 pub const MOST_LED: u32 = 3;
@@ -61,7 +63,7 @@ impl Scene {
     /// a jump goes back to it.
     pub fn set(&mut self, chance: &mut Chance, access: &Access, led: u32, rounds: u32) {
         self.case.record = aim::record(chance, self.layout);
-        if access.code[0] == PUSH_F {
+        if matches!(access.code[0], PUSH_F | PUSH_SR) {
             // With a mark it would be refused before the stack is looked at.
             let of_spare = self.case.record[MARKS] & 0x0C;
             aim::put_marks(&mut self.case.record, of_spare);
@@ -80,9 +82,12 @@ impl Scene {
         code.extend_from_slice(&[0x68, back]);
         self.put(self.home, &code);
         if access.kind == Kind::Return {
+            // RETI pops SR first, and any will do.
+            let below = if access.code[0] == RETI { 2 } else { 0 };
             for round in 1..=rounds {
                 let popped = self.home.to_le_bytes();
-                self.put(access.first.wrapping_sub(4 * round), &popped);
+                let first = access.first.wrapping_sub(access.size * round);
+                self.put(first.wrapping_add(below), &popped);
             }
         }
     }
