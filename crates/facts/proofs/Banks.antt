@@ -7,17 +7,19 @@ use lib.ListN.{length}
 use borrow.Author.Tests.{lt-ltb}
 use Rattle.little.specs.declared.Size.the-variants.{Byte}
 use Rattle.state.specs.State.{withBank, withCounter, banked}
+use Rattle.code.specs.declared.Op.{Op}
 use Rattle.code.specs.declared.Op.the-variants.{Controls}
 use Rattle.code.specs.declared.Control.the-variants.{Ldf}
 use Rattle.code.specs.declared.Operand.the-variants.{Constant}
 use Rattle.code.specs.declared.Instruction.{Instruction}
 use Rattle.code.specs.declared.Decoded.the-variants as decoded
-use Rattle.code.specs.Listed.{bankNumberRows, firstRows, decodeOf}
+use Rattle.code.specs.Rows.{byRows}
+use Rattle.code.specs.Listed.{upToSevenRows, firstRows, decodeOf}
 use Rattle.code.specs.Written.{codeOf}
 use Rattle.code.proofs.Exact.{reads-back}
 use Rattle.code.proofs.FirstRows.{first}
 use Rattle.code.proofs.Judge.{run-unlisted}
-use Rattle.code.proofs.Says.{byte}
+use Rattle.code.proofs.Says.{Lists, byte}
 use Rattle.control.specs.Control.{controlOf}
 use Rattle.exec.specs.Exec.{pastOf, effectOf, executedOf}
 use Rattle.step.specs.Show.{showAnswerOf, shownOf}
@@ -33,9 +35,14 @@ is-ldf : (n : ℕ) (rest : List ℕ) → n < 8 → decodeOf (0x17 ∷ n ∷ rest
 unfolding codeOf
 is-ldf n rest h = reads-back (Controls Ldf) Byte (Constant n) rest (rw (lt-ltb n 8 h) refl)
 
+-- an operation and a byte past 07 is not listed
+pub past-seven : (op : Op) (b : ℕ) → Lists firstRows b (byRows (upToSevenRows op)) → (n : ℕ) (rest : List ℕ) → 8 ≤ n → decodeOf (b ∷ n ∷ rest) ≡ decoded.Unlisted
+unfolding decodeOf upToSevenRows
+past-seven op b e n rest h = byte firstRows b e .judged [] (n ∷ rest) ∙ sym (run-unlisted 7 _ (b ∷ n ∷ rest) 1 (omega arith) (omega arith))
+
 no-ldf : (n : ℕ) (rest : List ℕ) → 8 ≤ n → decodeOf (0x17 ∷ n ∷ rest) ≡ decoded.Unlisted
-unfolding decodeOf first bankNumberRows
-no-ldf n rest h = byte firstRows 0x17 refl .judged [] (n ∷ rest) ∙ sym (run-unlisted 7 _ (0x17 ∷ n ∷ rest) 1 (omega arith) (omega arith))
+unfolding first
+no-ldf = past-seven (Controls Ldf) 0x17 refl
 
 pub ldf-selects : LdfSelects
 unfolding pastOf withCounter executedOf effectOf controlOf withBank

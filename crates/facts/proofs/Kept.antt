@@ -13,16 +13,16 @@ use Rattle.flags.proofs.Fits.{Fits}
 use Rattle.flags.proofs.Packed.{packed-lt}
 use Rattle.operand.proofs.Flags.{valid-fits, fits-valid}
 use Rattle.memory.specs.Access.{codeAt}
-use Rattle.state.specs.State.{withCounter, withBank, withFlags, withBothFlags}
+use Rattle.state.specs.State.{withCounter, withBank, withLevel, withNesting, withFlags, withBothFlags}
 use Rattle.state.specs.Register.{setRegister}
 use Rattle.state.specs.Sound.{Sound}
 use Rattle.state.specs.declared.State.{State}
-use Rattle.state.proofs.Sound.{sound-lent}
+use Rattle.state.proofs.Sound.{sound-lent, sound-nested}
 use Rattle.state.proofs.Laws.{sound-register}
-use Rattle.state.proofs.Valid.{Valid, valid-says, valid-from, valid-register, valid-counter, valid-bank, valid-flags, valid-both}
+use Rattle.state.proofs.Valid.{Valid, valid-says, valid-from, valid-register, valid-counter, valid-bank, valid-level, valid-nesting, valid-flags, valid-both}
 use Rattle.code.specs.declared.Form.{Form}
 use Rattle.code.specs.declared.Op.{Op}
-use Rattle.code.specs.declared.Op.the-variants.{Controls, Stacks, Puts, Sets, Blocks}
+use Rattle.code.specs.declared.Op.the-variants.{Controls, Stacks, Puts, Sets, Blocks, Interrupts}
 use Rattle.code.specs.declared.Instruction.{Instruction}
 use Rattle.code.specs.declared.Decoded.{Decoded}
 use Rattle.code.specs.declared.Decoded.the-variants as decoded
@@ -33,7 +33,7 @@ use Rattle.block.specs.Block.{copied, compared, roundOf}
 use Rattle.exec.specs.Exec.{pastOf, executedOf, done}
 use Rattle.turn.specs.Once.{onceOf}
 use Rattle.facts.specs.Touched.{Span, none, bytes, usesMarked, readOf, storedOf, KeepsRest}
-use Rattle.facts.proofs.Touched.{Kept, past-kept, copied-kept, compared-kept, Gives, GivesBy, fair-round, fair-effect}
+use Rattle.facts.proofs.Touched.{Kept, Recounted, past-kept, copied-kept, compared-kept, Gives, GivesBy, fair-round, fair-effect}
 
 -- ---- validity
 valid-register-kept : (s : State) (z : Size) (r v : ℕ) → Valid s → Valid (setRegister s z r v)
@@ -49,10 +49,14 @@ valid-kept =
       registers = valid-register-kept;
       counters = valid-counter;
       banks = valid-bank;
+      levels = valid-level;
       fitting = λ s ok. valid-fits (s .flags) (ok .flags);
       flags = valid-flagged;
       exchanges = λ s ok. valid-both s _ _ (ok .spare) (ok .flags) ok;
     }
+
+pub valid-recounted : (op : Op) → Recounted Valid op
+valid-recounted op e = valid-nesting
 
 pub copied-valid : (f : Form) (s : State) → Valid s → Valid (copied f s)
 copied-valid f s ok = copied-kept Valid valid-kept f s ok
@@ -70,6 +74,14 @@ sound-bank : (s : State) (b : ℕ) → Sound s → Sound (withBank s b)
 unfolding withBank
 sound-bank s b ok =
     sound-lent s (s .registers) (s .counter) (b % 4) (s .flags) (s .spare) ok (ok .twenty) (ok .fit) (ok .counter-fit) (omega arith) (ok .flags-fit) (ok .spare-fit)
+
+sound-level : (s : State) (l : ℕ) → Sound s → Sound (withLevel s l)
+unfolding withLevel
+sound-level s l ok = sound-nested s (l % 8) (s .nesting) ok (omega arith) (ok .nesting-fit)
+
+sound-nesting : (s : State) (n : ℕ) → Sound s → Sound (withNesting s n)
+unfolding withNesting
+sound-nesting s n ok = sound-nested s (s .level .0) (n % 2 ^ 16) ok (ok .level-fit) (omega arith)
 
 packed-fits : (f : Flags) → f .marks < 2 ^ 8 → packedOf f < 2 ^ 16
 unfolding packedOf
@@ -95,10 +107,14 @@ whole-kept =
       registers = λ s z r v ok. (valid-kept .registers s z r v (ok .0), sound-register s z r v (ok .1));
       counters = λ s c ok. (valid-kept .counters s c (ok .0), sound-counter s c (ok .1));
       banks = λ s b ok. (valid-kept .banks s b (ok .0), sound-bank s b (ok .1));
+      levels = λ s l ok. (valid-kept .levels s l (ok .0), sound-level s l (ok .1));
       fitting = λ s ok. valid-kept .fitting s (ok .0);
       flags = λ s f x ok. (valid-kept .flags s f x (ok .0), sound-flagged s f (omega (arith, x .few)) (ok .1));
       exchanges = λ s ok. (valid-kept .exchanges s (ok .0), sound-exchanged s (ok .1));
     }
+
+pub whole-recounted : (op : Op) → Recounted Whole op
+whole-recounted op e s n ok = (valid-nesting s n (ok .0), sound-nesting s n (ok .1))
 
 -- ---- what a step leaves
 pub spares-length : (g : Span) (ram m : List ℕ) → KeepsRest g ram m → length m ≡ length ram
@@ -113,16 +129,17 @@ past-uses (Stacks what) n s = refl
 past-uses (Puts how) n s = refl
 past-uses (Sets r) n s = refl
 past-uses (Blocks f) n s = refl
+past-uses (Interrupts what) n s = refl
 
 pub executed-fair :
-    (P : State → Type 0) (i : Instruction) (s : State) (ram rom : List ℕ) → Kept P → P s
+    (P : State → Type 0) (i : Instruction) (s : State) (ram rom : List ℕ) → Kept P → Recounted P (i .op) → P s
     → GivesBy P ram rom (usesMarked (i .op) s) (readOf (i .op) (i .size) (i .operand) (pastOf (i .length) s)) (storedOf (i .op) (i .size) (i .operand) (pastOf (i .length) s)) (executedOf i s ram rom)
 unfolding executedOf
-executed-fair P i s ram rom k ok =
+executed-fair P i s ram rom k c ok =
     let t = pastOf (i .length) s in
     subst (λ (b : Bool). GivesBy P ram rom b (readOf (i .op) (i .size) (i .operand) t) (storedOf (i .op) (i .size) (i .operand) t) (executedOf i s ram rom))
     (past-uses (i .op) (i .length) s)
-    (fair-effect P ram rom (i .op) (i .size) (i .operand) (s .counter) t k (past-kept P k (i .length) s ok))
+    (fair-effect P ram rom (i .op) (i .size) (i .operand) (s .counter) t k c (past-kept P k (i .length) s ok))
 
 unfoldable pub Keeps : List ℕ → Try → Type 0
 Keeps ram (did t m) = Valid t × (length m ≡ length ram)
@@ -143,4 +160,4 @@ keeps-once ram rom s ok = go (decodeOf (codeAt ram rom (s .counter)))
     go : (d : Decoded) → Keeps ram (done d s ram rom)
     go decoded.Short = tt
     go decoded.Unlisted = tt
-    go (decoded.Whole i) = keeps-fair ram rom _ _ (executedOf i s ram rom) (executed-fair Valid i s ram rom valid-kept ok)
+    go (decoded.Whole i) = keeps-fair ram rom _ _ (executedOf i s ram rom) (executed-fair Valid i s ram rom valid-kept (valid-recounted (i .op)) ok)

@@ -5,3 +5,4 @@ pub mod Shown
 pub mod Banks
 pub mod Where
 pub mod Marks
+pub mod Levels

@@ -3,7 +3,7 @@ use Prim.Native.Nat.{ℕ, _<_}
 use mathlib.Core.Path.{_≡_, refl, ap, ap₂, sym, _∙_}
 use mathlib.Core.List.{List}
 use mathlib.Core.Bool.{Bool, true, false, not, _||_}
-use mathlib.Core.Logic.{inl}
+use mathlib.Core.Logic.{inl, ⊎-elim}
 use native.Mathlib.Omega.{arith}
 use lib.Dec.{eqb}
 use borrow.Author.Tests.{eqb-true}
@@ -21,6 +21,9 @@ use Rattle.state.specs.State.{flagsValid, marksOf, withBothFlags}
 use Rattle.state.specs.declared.State.{State}
 use Rattle.state.proofs.Valid.{valid-says}
 use Rattle.code.specs.declared.Op.{Op}
+use Rattle.code.specs.declared.Op.the-variants.{Stacks, Interrupts}
+use Rattle.code.specs.declared.Stack.the-variants.{PushF}
+use Rattle.code.specs.declared.Interrupt.the-variants.{PushSr}
 use Rattle.code.specs.declared.Instruction.{Instruction}
 use Rattle.code.specs.declared.Decoded.the-variants.{Whole}
 use Rattle.code.specs.Listed.{decodeOf}
@@ -88,4 +91,5 @@ none-marked n e = eqb-true n 0 (turned (eqb n 0) e)
 pub push-stores-defined : PushStoresDefined
 unfolding usesMarked
 push-stores-defined s ram rom i d e =
-    none-marked (flagsIn s .marks) (sym (ap (λ (op : Op). usesMarked op s) e) ∙ done-unused s ram rom i d)
+    let unused-by : (op : Op) → i .op ≡ op → usesMarked op s ≡ false = λ op h. sym (ap (λ (x : Op). usesMarked x s) h) ∙ done-unused s ram rom i d in
+    none-marked (flagsIn s .marks) (⊎-elim (unused-by (Stacks PushF)) (unused-by (Interrupts PushSr)) e)

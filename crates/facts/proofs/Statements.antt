@@ -9,7 +9,7 @@ use lib.ListN.{length}
 use lib.Dec.{ltb}
 use borrow.Author.Tests.{ltb-true, ltb-false, le-ltb}
 use Rattle.answer.specs.declared.Why.{Why}
-use Rattle.answer.specs.declared.Why.the-variants.{TooMany, TooLong, Invalid, NoCode, Unlisted, Undefined, Missing, ToRom}
+use Rattle.answer.specs.declared.Why.the-variants.{TooMany, TooLong, Invalid, BadRequest, NoCode, Unlisted, Undefined, Missing, ToRom}
 use Rattle.answer.specs.declared.Answer.{Answer}
 use Rattle.answer.specs.declared.Answer.the-variants.{Done, Refused}
 use Rattle.answer.specs.Number.{whyNumber, numberOf, firstRefusal}
@@ -36,8 +36,8 @@ use Rattle.step.specs.Step.{tooLong, guarded, tryOf, stepOf}
 use Rattle.step.specs.Reset.{resetOf, resetFrom}
 use Rattle.facts.specs.Touched.{Span, none, bytes, usesMarked, readOf, storedOf, loadTo, readAnswer, storeAnswer, operandsAnswer, answerBy, KeepsRest}
 use Rattle.facts.specs.Statements.{_⇔_, RefusedChangesNothing, Within, Passed, RefusedWhen, KeepsValid, StoresOnlyThere, Settled, ResetMissing, single, RoundIsSingle}
-use Rattle.facts.proofs.Touched.{Kept, Gives}
-use Rattle.facts.proofs.Kept.{valid-kept, Whole, whole-kept, spares-length, executed-fair}
+use Rattle.facts.proofs.Touched.{Kept, Recounted, Gives}
+use Rattle.facts.proofs.Kept.{valid-kept, valid-recounted, Whole, whole-kept, whole-recounted, spares-length, executed-fair}
 
 -- ---- the limits
 longer : (a b : ℕ) → tooLong a b ≡ true → (2 ^ 16 < a) ⊎ (2 ^ 16 < b)
@@ -65,6 +65,7 @@ pub some : (w : Why) → 1 ≤ whyNumber w
 some TooMany = omega arith
 some TooLong = omega arith
 some Invalid = omega arith
+some BadRequest = omega arith
 some NoCode = omega arith
 some Unlisted = omega arith
 some Undefined = omega arith
@@ -161,13 +162,13 @@ module _ (s : State) (ram rom : List ℕ) where
   answered i p e =
       ap answerIn (step-whole i p e)
       ∙ fair-answer Valid s ram rom (operated-by i) (target i) (executedOf i s ram rom)
-      (executed-fair Valid i s ram rom valid-kept (valid-says s (p .1)))
+      (executed-fair Valid i s ram rom valid-kept (valid-recounted (i .op)) (valid-says s (p .1)))
 
-  left : (P : State → Type 0) → Kept P → P s → (i : Instruction) → Passed s ram rom → judged ≡ decoded.Whole i → answer ≡ Done → P (stepOf s ram rom .state) × KeepsRest (target i) ram (stepOf s ram rom .ram)
-  left P k ok i p e d =
+  pub left : (P : State → Type 0) → Kept P → P s → (i : Instruction) → Recounted P (i .op) → Passed s ram rom → judged ≡ decoded.Whole i → answer ≡ Done → P (stepOf s ram rom .state) × KeepsRest (target i) ram (stepOf s ram rom .ram)
+  left P k ok i c p e d =
       let w = step-whole i p e in
       subst (λ (o : Outcome). P (o .state) × KeepsRest (target i) ram (o .ram)) (sym w)
-      (fair-done P s ram rom (operated-by i) (target i) (executedOf i s ram rom) (executed-fair P i s ram rom k ok) (sym (ap answerIn w) ∙ d))
+      (fair-done P s ram rom (operated-by i) (target i) (executedOf i s ram rom) (executed-fair P i s ram rom k c ok) (sym (ap answerIn w) ∙ d))
 
   -- the five courses of a step
   data Course : Type 0 where
@@ -352,8 +353,8 @@ keeps-valid s ram rom e = go (operated s ram rom Done (inl refl) e)
         (i : Instruction) × (Passed s ram rom × (decodeOf (codeAt ram rom (s .counter)) ≡ decoded.Whole i))
         → (validOf (stepOf s ram rom .state) ≡ true) × (length (stepOf s ram rom .ram) ≡ length ram) × (Sound s → Sound (stepOf s ram rom .state))
     go (i, (p, d)) =
-        let v = left s ram rom Valid valid-kept (valid-says s (p .1)) i p d e in
-        (valid-from (stepOf s ram rom .state) (v .0), spares-length (storedOf (i .op) (i .size) (i .operand) (pastOf (i .length) s)) ram (stepOf s ram rom .ram) (v .1), λ ok. left s ram rom Whole whole-kept (valid-says s (p .1), ok) i p d e .0 .1)
+        let v = left s ram rom Valid valid-kept (valid-says s (p .1)) i (valid-recounted (i .op)) p d e in
+        (valid-from (stepOf s ram rom .state) (v .0), spares-length (storedOf (i .op) (i .size) (i .operand) (pastOf (i .length) s)) ram (stepOf s ram rom .ram) (v .1), λ ok. left s ram rom Whole whole-kept (valid-says s (p .1), ok) i (whole-recounted (i .op)) p d e .0 .1)
 
 pub stores-only-there : StoresOnlyThere
 stores-only-there s ram rom i e d = go (operated s ram rom Done (inl refl) e)
@@ -361,7 +362,7 @@ stores-only-there s ram rom i e d = go (operated s ram rom Done (inl refl) e)
     go :
         (j : Instruction) × (Passed s ram rom × (decodeOf (codeAt ram rom (s .counter)) ≡ decoded.Whole j))
         → KeepsRest (storedOf (i .op) (i .size) (i .operand) (pastOf (i .length) s)) ram (stepOf s ram rom .ram)
-    go (j, (p, f)) = left s ram rom Valid valid-kept (valid-says s (p .1)) i p d e .1
+    go (j, (p, f)) = left s ram rom Valid valid-kept (valid-says s (p .1)) i (valid-recounted (i .op)) p d e .1
 
 -- the result in an outcome
 abbrev given : Outcome → Stepped

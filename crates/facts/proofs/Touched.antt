@@ -20,22 +20,25 @@ use Rattle.flags.specs.declared.Flags.{Flags}
 use Rattle.flags.specs.declared.Computed.{Computed}
 use Rattle.alu.specs.declared.Arith.{Arith}
 use Rattle.alu.specs.Change.{changed}
-use Rattle.memory.specs.Access.{loadOf, loadFrom, storeOf, ramAfter, operandAt}
+use Rattle.memory.specs.Access.{bytesAt, loadBytes, loadOf, loadFrom, storeBytes, storeOf, ramBytes, ramAfter}
 use Rattle.memory.specs.declared.Place.{Place}
 use Rattle.memory.specs.declared.Place.the-variants.{Ram, Rom, Missing}
-use Rattle.memory.proofs.Laws.{after-length, after-below, after-above}
-use Rattle.state.specs.State.{withCounter, withBank, withFlags, withBothFlags}
+use Rattle.memory.proofs.Laws.{bytes-length, bytes-below, bytes-above}
+use Rattle.state.specs.State.{withCounter, withBank, withLevel, withNesting, withFlags, withBothFlags}
+use Rattle.state.specs.Sr.{fIn}
 use Rattle.state.specs.Register.{getRegister, setRegister}
 use Rattle.state.specs.declared.State.{State}
 use Rattle.code.specs.declared.Form.{Form}
 use Rattle.code.specs.declared.Operand.{Operand}
 use Rattle.code.specs.declared.Operand.the-variants.{Register, Constant, Memory}
 use Rattle.code.specs.declared.Op.{Op}
-use Rattle.code.specs.declared.Op.the-variants.{Controls, Stacks, Puts, Sets, Blocks}
+use Rattle.code.specs.declared.Op.the-variants.{Controls, Stacks, Puts, Sets, Blocks, Interrupts}
 use Rattle.code.specs.declared.Control.{Control}
-use Rattle.code.specs.declared.Control.the-variants.{Nop, Incf, Decf, Ldf, Rcf, Scf, Ccf, Zcf, Exf, Jp16, Jp24, Jr, Jrl}
+use Rattle.code.specs.declared.Control.the-variants.{Nop, Incf, Decf, Ldf, Rcf, Scf, Ccf, Zcf, Exf, Jp16, Jp24, Jr, Jrl, Ei}
 use Rattle.code.specs.declared.Stack.{Stack}
 use Rattle.code.specs.declared.Stack.the-variants.{PushF, PopF, Push, Pop, Call16, Call24, Calr, Ret}
+use Rattle.code.specs.declared.Interrupt.{Interrupt}
+use Rattle.code.specs.declared.Interrupt.the-variants.{PushSr, PopSr, Reti}
 use Rattle.code.specs.declared.Use.{Use}
 use Rattle.code.specs.declared.Use.the-variants.{Number, From, Load, Compute, Changed}
 use Rattle.code.specs.declared.Side.the-variants.{First, Second, With}
@@ -43,16 +46,17 @@ use Rattle.flags.specs.Condition.{holdsOf, readsV, readsMarked}
 use Rattle.flags.proofs.Fits.{Fits, difference-fits, carried-fits, copied-fits, compared-fits}
 use Rattle.alu.proofs.Fits.{operated-fits, changed-fits}
 use Rattle.operand.specs.Try.{Try, did, no, andThen, withLoaded}
-use Rattle.operand.specs.Operand.{pointerOf, valueAt, valueIn, storing, storedBy, putAt}
+use Rattle.operand.specs.Operand.{pointerOf, valueAt, valueIn, storing, storingBytes, storedBy, putAt}
 use Rattle.operand.specs.Round.{plus}
-use Rattle.stack.specs.Stack.{pushOf, pushFOf, popOf, stackOf}
+use Rattle.stack.specs.Stack.{pushBytes, pushOf, pushFOf, popBytes, popOf, stackOf}
+use Rattle.interrupt.specs.Interrupt.{withSr, pushSrOf, returned, interruptOf}
 use Rattle.operand.specs.Flag.{flagsIn, flagged, exchanged}
 use Rattle.control.specs.Control.{jumpOf, controlOf}
 use Rattle.compute.specs.Compute.{computed, resultIn, storesOf, answerIn, putsOf}
 use Rattle.flags.specs.Sums.{differenceOf}
 use Rattle.block.specs.Block.{moreIn, counted, moved, accumulator, copied, compared, roundOf, goesOn, endsAt}
 use Rattle.exec.specs.Exec.{pastOf, effectOf}
-use Rattle.facts.specs.Touched.{Span, none, bytes, operandSpan, onStack, belowStack, stackRead, stackStored, useRead, useStored, readOf, storedOf, loadTo, readAnswer, storeAnswer, operandsAnswer, answerBy, conditionIn, storesF, usesMarked, KeepsRest}
+use Rattle.facts.specs.Touched.{Span, none, bytes, operandSpan, onStack, belowStack, stackRead, stackStored, interruptRead, interruptStored, useRead, useStored, readOf, storedOf, loadTo, readAnswer, storeAnswer, operandsAnswer, answerBy, conditionIn, storesF, storesSr, usesMarked, KeepsRest}
 
 -- F alone is the flags with no mark
 unmarked : Flags → Flags
@@ -71,9 +75,14 @@ pub record Kept (P : State → Type 0) : Type 0 where
   pub registers : (s : State) (z : Size) (r v : ℕ) → P s → P (setRegister s z r v)
   pub counters : (s : State) (c : ℕ) → P s → P (withCounter s c)
   pub banks : (s : State) (b : ℕ) → P s → P (withBank s b)
+  pub levels : (s : State) (l : ℕ) → P s → P (withLevel s l)
   pub fitting : (s : State) → P s → Fits (flagsIn s)
   pub flags : (s : State) (f : Flags) → Fits f → P s → P (flagged s f)
   pub exchanges : (s : State) → P s → P (exchanged s)
+
+-- nor, where an operation is RETI, a change of the nesting count: no other touches it
+abbrev pub Recounted : (State → Type 0) → Op → Type 0
+Recounted P op = op ≡ Interrupts Reti → (s : State) (n : ℕ) → P s → P (withNesting s n)
 
 module _ (P : State → Type 0) (k : Kept P) where
   pub past-kept : (n : ℕ) (s : State) → P s → P (pastOf n s)
@@ -90,6 +99,14 @@ module _ (P : State → Type 0) (k : Kept P) where
   byte-kept : (s : State) (v : ℕ) → P s → P (withFlags s (byteOf (flagsOf v)))
   unfolding flagged
   byte-kept s v ok = subst (λ (n : ℕ). P (withFlags s n)) (byte-packed (flagsOf v)) (k .flags s (unmarked (flagsOf v)) (unmarked-fits (flagsOf v)) ok)
+
+  sr-kept : (s : State) (v : ℕ) → P s → P (withSr s v)
+  unfolding withSr
+  sr-kept s v ok = byte-kept _ (fIn v) (k .banks _ _ (k .levels s _ ok))
+
+  returned-kept : Recounted P (Interrupts Reti) → (s : State) (v : ℕ) → P s → P (returned s v)
+  unfolding returned
+  returned-kept c s v ok = k .counters _ _ (sr-kept _ _ (c refl s _ ok))
 
   moved-kept : (f : Form) (r : ℕ) (s : State) → P s → P (moved f r s)
   unfolding moved
@@ -141,33 +158,41 @@ module _ (P : State → Type 0) (ram rom : List ℕ) where
   unfolding Gives operandsAnswer
   fair-did s ok = (ok, (refl, refl))
 
-  fair-storing : (t : State) (a : ℕ) (z : Size) (v : ℕ) → P t → Fair none (bytes a (bytesOf z)) (storing t ram rom a z v)
-  unfolding storing Gives operandsAnswer storeOf
-  fair-storing t a z v ok = go (storeOf ram rom a z) refl
+  fair-storing-bytes : (t : State) (a n v : ℕ) → P t → Fair none (bytes a n) (storingBytes t ram rom a n v)
+  unfolding Gives operandsAnswer
+  fair-storing-bytes t a n v ok = go (storeBytes ram rom a n) refl
     where
-      spared : (i : ℕ) → (i < a) ⊎ (a + bytesOf z ≤ i) → getD (ramAfter ram rom a z v) i 0 ≡ getD ram i 0
-      spared i h = ⊎-elim (after-below ram rom a z v i) (after-above ram rom a z v i) h
+      spared : (i : ℕ) → (i < a) ⊎ (a + n ≤ i) → getD (ramBytes ram rom a n v) i 0 ≡ getD ram i 0
+      spared i h = ⊎-elim (bytes-below ram rom a n v i) (bytes-above ram rom a n v i) h
 
-      go : (r : Answer) → storeOf ram rom a z ≡ r → Fair none (bytes a (bytesOf z)) (storedBy r t (ramAfter ram rom a z v))
-      go Done e = (ok, ((after-length ram rom a z v, spared), e))
+      go : (r : Answer) → storeBytes ram rom a n ≡ r → Fair none (bytes a n) (storedBy r t (ramBytes ram rom a n v))
+      go Done e = (ok, ((bytes-length ram rom a n v, spared), e))
       go (Refused w) e = e
+
+  fair-storing : (t : State) (a : ℕ) (z : Size) (v : ℕ) → P t → Fair none (bytes a (bytesOf z)) (storing t ram rom a z v)
+  unfolding storing
+  fair-storing t a z v ok = fair-storing-bytes t a (bytesOf z) v ok
 
   fair-put : (s : State) (z : Size) (o : Operand) (v : ℕ) → Kept P → P s → Fair none (operandSpan s z o) (putAt s ram rom z o v)
   fair-put s z (Register r) v k ok = fair-did _ (k .registers s z r v ok)
   fair-put s z (Constant n) v k ok = fair-did s ok
   fair-put s z (Memory m) v k ok = fair-storing s _ z v ok
 
-  fair-loaded : (a : ℕ) (z : Size) (g : Span) (f : ℕ → Try) → ((v : ℕ) → Fair none g (f v)) → Fair (bytes a (bytesOf z)) g (withLoaded (loadOf ram rom a z) f)
-  unfolding loadOf Gives operandsAnswer
-  fair-loaded a z g f h = go (operandAt ram rom a z) refl
+  fair-loaded-bytes : (a n : ℕ) (g : Span) (f : ℕ → Try) → ((v : ℕ) → Fair none g (f v)) → Fair (bytes a n) g (withLoaded (loadBytes ram rom a n) f)
+  unfolding Gives operandsAnswer
+  fair-loaded-bytes a n g f h = go (bytesAt ram rom a n) refl
     where
-      there : (v : ℕ) → readAnswer ram rom (bytes a (bytesOf z)) ≡ Done → Fair (bytes a (bytesOf z)) g (f v)
-      there v e = read-first (bytes a (bytesOf z)) g (f v) e (h v)
+      there : (v : ℕ) → readAnswer ram rom (bytes a n) ≡ Done → Fair (bytes a n) g (f v)
+      there v e = read-first (bytes a n) g (f v) e (h v)
 
-      go : (p : Place) → operandAt ram rom a z ≡ p → Fair (bytes a (bytesOf z)) g (withLoaded (loadFrom p ram rom (bytesOf z)) f)
-      go (Ram o) e = there (valueOf (take (bytesOf z) (drop o ram))) (ap loadTo e)
-      go (Rom o) e = there (valueOf (take (bytesOf z) (drop o rom))) (ap loadTo e)
+      go : (p : Place) → bytesAt ram rom a n ≡ p → Fair (bytes a n) g (withLoaded (loadFrom p ram rom n) f)
+      go (Ram o) e = there (valueOf (take n (drop o ram))) (ap loadTo e)
+      go (Rom o) e = there (valueOf (take n (drop o rom))) (ap loadTo e)
       go (Missing x) e = ap (λ (p : Place). firstRefusal (loadTo p) (storeAnswer ram rom g)) e
+
+  fair-loaded : (a : ℕ) (z : Size) (g : Span) (f : ℕ → Try) → ((v : ℕ) → Fair none g (f v)) → Fair (bytes a (bytesOf z)) g (withLoaded (loadOf ram rom a z) f)
+  unfolding loadOf
+  fair-loaded a z g f h = fair-loaded-bytes a (bytesOf z) g f h
 
   fair-value : (s : State) (z : Size) (o : Operand) (g : Span) (f : ℕ → Try) → ((v : ℕ) → Fair none g (f v)) → Fair (operandSpan s z o) g (withLoaded (valueAt s ram rom z o) f)
   unfolding valueIn
@@ -182,17 +207,22 @@ module _ (P : State → Type 0) (ram rom : List ℕ) where
 
   fair-push : (s : State) (z : Size) (v : ℕ) → Kept P → P s → Fair none (belowStack s (bytesOf z)) (pushOf s ram rom z v)
   unfolding pushOf
-  fair-push s z v k ok = fair-storing _ _ z v (k .registers s Long 7 _ ok)
+  fair-push s z v k ok = fair-storing-bytes _ _ (bytesOf z) v (k .registers s Long 7 _ ok)
 
   fair-call : (s : State) (to : ℕ) → Kept P → P s → Fair none (belowStack s 4) (andThen (pushOf s ram rom Long (s .counter)) (λ t. withCounter t to))
   fair-call s to k ok = fair-then none _ (pushOf s ram rom Long (s .counter)) _ (fair-push s Long _ k ok) (λ t h. k .counters t to h)
+
+  fair-pop-bytes :
+      (s : State) (n : ℕ) (rest : State → ℕ → State) → ((t : State) (v : ℕ) → P t → P (rest t v)) → Kept P → P s
+      → Fair (onStack s n) none (popBytes s ram rom n rest)
+  fair-pop-bytes s n rest h k ok =
+      fair-loaded-bytes (pointerOf s 7) n none _ (λ v. fair-did _ (h _ v (k .registers s Long 7 (plus 32 (getRegister s Long 7) n) ok)))
 
   fair-pop :
       (s : State) (z : Size) (rest : State → ℕ → State) → ((t : State) (v : ℕ) → P t → P (rest t v)) → Kept P → P s
       → Fair (onStack s (bytesOf z)) none (popOf s ram rom z rest)
   unfolding popOf
-  fair-pop s z rest h k ok =
-      fair-loaded (pointerOf s 7) z none _ (λ v. fair-did _ (h _ v (k .registers s Long 7 (plus 32 (getRegister s Long 7) (bytesOf z)) ok)))
+  fair-pop s z rest h k ok = fair-pop-bytes s (bytesOf z) rest h k ok
 
   -- new flags move no operand
   span-flags : (s : State) (f : ℕ) (z : Size) (o : Operand) → operandSpan (withFlags s f) z o ≡ operandSpan s z o
@@ -279,6 +309,7 @@ module _ (P : State → Type 0) (ram rom : List ℕ) where
   fair-control Jp24 n s k ok = fair-never s _ (k .counters s _ ok)
   fair-control (Jr cc) n s k ok = fair-jump s cc _ k ok
   fair-control (Jrl cc) n s k ok = fair-jump s cc _ k ok
+  fair-control Ei n s k ok = fair-never s _ (k .levels s _ ok)
 
   fair-push-f : (s : State) → Kept P → P s → GivesBy (anyMarked (flagsIn s)) none (belowStack s 1) (pushFOf s ram rom)
   unfolding pushFOf
@@ -297,6 +328,14 @@ module _ (P : State → Type 0) (ram rom : List ℕ) where
   fair-stack Calr z o s k ok = fair-call s _ k ok
   fair-stack Ret z o s k ok = fair-pop s Long _ (λ t v h. k .counters t v h) k ok
 
+  fair-interrupt :
+      (what : Interrupt) (s : State) → Kept P → Recounted P (Interrupts what) → P s
+      → GivesBy (storesSr what && anyMarked (flagsIn s)) (interruptRead what s) (interruptStored what s) (interruptOf what s ram rom)
+  unfolding interruptOf pushSrOf
+  fair-interrupt PushSr s k c ok = fair-marked (anyMarked (flagsIn s)) none (belowStack s 2) _ (fair-push s Word _ k ok)
+  fair-interrupt PopSr s k c ok = fair-pop s Word _ (λ t v h. sr-kept P k t v h) k ok
+  fair-interrupt Reti s k c ok = fair-pop-bytes s 6 _ (λ t v h. returned-kept P k c t v h) k ok
+
   fair-puts : (how : Use) (z : Size) (o : Operand) (s : State) → Kept P → P s → Fair (useRead how (operandSpan s z o)) (useStored how (operandSpan s z o)) (putsOf how z o s ram rom)
   unfolding putsOf
   fair-puts (Number n) z o s k ok = fair-put s z o n k ok
@@ -308,11 +347,12 @@ module _ (P : State → Type 0) (ram rom : List ℕ) where
   fair-puts (Changed how) z o s k ok = fair-value s z o _ _ (λ v. fair-result s z o (changed how (bitsOf z) v (flagsIn s)) (changed-fits how (bitsOf z) v (flagsIn s) (k .fitting s ok)) k ok)
 
   pub fair-effect :
-      (op : Op) (z : Size) (o : Operand) (at : ℕ) (s : State) → Kept P → P s
+      (op : Op) (z : Size) (o : Operand) (at : ℕ) (s : State) → Kept P → Recounted P op → P s
       → GivesBy (usesMarked op s) (readOf op z o s) (storedOf op z o s) (effectOf op z o at s ram rom)
   unfolding effectOf usesMarked readOf storedOf
-  fair-effect (Controls what) z o at s k ok = fair-control what _ s k ok
-  fair-effect (Stacks what) z o at s k ok = fair-stack what z o s k ok
-  fair-effect (Puts how) z o at s k ok = fair-puts how z o s k ok
-  fair-effect (Sets r) z o at s k ok = fair-did _ (k .registers s z r _ ok)
-  fair-effect (Blocks f) z o at s k ok = fair-then _ _ (roundOf f s ram rom) (endsAt f at) (fair-round f s k ok) (λ t h. ends-kept P k f at t h)
+  fair-effect (Controls what) z o at s k c ok = fair-control what _ s k ok
+  fair-effect (Stacks what) z o at s k c ok = fair-stack what z o s k ok
+  fair-effect (Puts how) z o at s k c ok = fair-puts how z o s k ok
+  fair-effect (Sets r) z o at s k c ok = fair-did _ (k .registers s z r _ ok)
+  fair-effect (Blocks f) z o at s k c ok = fair-then _ _ (roundOf f s ram rom) (endsAt f at) (fair-round f s k ok) (λ t h. ends-kept P k f at t h)
+  fair-effect (Interrupts what) z o at s k c ok = fair-interrupt what s k c ok

@@ -30,8 +30,10 @@ use Rattle.code.specs.declared.Base.the-variants.{Indirect, Displaced, Absolute
 use Rattle.code.specs.declared.Operand.{Operand}
 use Rattle.code.specs.declared.Operand.the-variants.{Register, Constant, Memory}
 use Rattle.code.specs.declared.Op.{Op}
-use Rattle.code.specs.declared.Op.the-variants.{Controls, Stacks, Puts, Sets, Blocks}
+use Rattle.code.specs.declared.Op.the-variants.{Controls, Stacks, Puts, Sets, Blocks, Interrupts}
 use Rattle.code.specs.declared.Stack.{Stack}
+use Rattle.code.specs.declared.Interrupt.{Interrupt}
+use Rattle.code.specs.declared.Interrupt.the-variants.{PushSr, PopSr, Reti}
 use Rattle.code.specs.declared.Stack.the-variants.{PushF, PopF, Push, Pop, Call16, Call24, Calr, Ret}
 use Rattle.code.specs.declared.Use.{Use}
 use Rattle.code.specs.declared.Use.the-variants.{Number, From, Load, Compute, Changed}
@@ -43,7 +45,7 @@ use Rattle.operand.specs.Operand.{addressFrom, addressIn}
 use Rattle.compute.specs.Compute.{storesOf}
 use Rattle.exec.specs.Exec.{pastOf}
 use Rattle.step.specs.Step.{stepOf}
-use Rattle.facts.specs.Touched.{Span, none, bytes, operandSpan, onStack, belowStack, stackRead, stackStored, useRead, useStored, readOf, storedOf, loadTo, readAnswer, storeAnswer, operandsAnswer, answerBy, usesMarked}
+use Rattle.facts.specs.Touched.{Span, none, bytes, operandSpan, onStack, belowStack, stackRead, stackStored, interruptRead, interruptStored, useRead, useStored, readOf, storedOf, loadTo, readAnswer, storeAnswer, operandsAnswer, answerBy, usesMarked}
 use Rattle.facts.specs.Statements.{Within, Passed}
 use Rattle.facts.specs.Where.{InRom, FirstApart, OneApart, Reads, Stores, FiveTells, SixTells}
 use Rattle.facts.proofs.Statements.{operated, refused-when}
@@ -166,6 +168,16 @@ stack-stored-fits Call24 z s = below-fits s 4 (omega arith)
 stack-stored-fits Calr z s = below-fits s 4 (omega arith)
 stack-stored-fits Ret z s = fits-none
 
+interrupt-read-fits : (what : Interrupt) (s : State) → Fits (interruptRead what s)
+interrupt-read-fits PushSr s = fits-none
+interrupt-read-fits PopSr s = on-fits s 2 (omega arith)
+interrupt-read-fits Reti s = on-fits s 6 (omega arith)
+
+interrupt-stored-fits : (what : Interrupt) (s : State) → Fits (interruptStored what s)
+interrupt-stored-fits PushSr s = below-fits s 2 (omega arith)
+interrupt-stored-fits PopSr s = fits-none
+interrupt-stored-fits Reti s = fits-none
+
 use-read-fits : (how : Use) (x : Span) → Fits x → Fits (useRead how x)
 use-read-fits (Number n) x h = fits-none
 use-read-fits (From r) x h = fits-none
@@ -189,6 +201,7 @@ read-fits (Stacks what) z o s = stack-read-fits what z s
 read-fits (Puts how) z o s = use-read-fits how _ (operand-fits s z o)
 read-fits (Sets r) z o s = fits-none
 read-fits (Blocks f) z o s = fits-bytes (round _) (size-some (f .size))
+read-fits (Interrupts what) z o s = interrupt-read-fits what s
 
 stored-fits : (op : Op) (z : Size) (o : Operand) (s : State) → Fits (storedOf op z o s)
 unfolding storedOf
@@ -197,6 +210,7 @@ stored-fits (Stacks what) z o s = stack-stored-fits what z s
 stored-fits (Puts how) z o s = use-stored-fits how _ (operand-fits s z o)
 stored-fits (Sets r) z o s = fits-none
 stored-fits (Blocks f) z o s = either-fits (f .copies) _ (fits-bytes (round _) (size-some (f .size)))
+stored-fits (Interrupts what) z o s = interrupt-stored-fits what s
 
 -- ---- what an answer says of the place
 -- a refusal of what is read, or of what is stored

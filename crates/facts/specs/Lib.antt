@@ -3,3 +3,4 @@ pub mod Statements
 pub mod Banks
 pub mod Where
 pub mod Marks
+pub mod Levels

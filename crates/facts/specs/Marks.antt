@@ -1,11 +1,11 @@
--- What a step can do with a marked flag (request K6). Each statement is proved in proofs/Marks.antt.
-use Rattle.little.specs.Words.{ℕ, _<_, _≡_, List, true}
+-- What a step can do with a marked flag (requests K6 and K8). Each statement is proved in proofs/Marks.antt.
+use Rattle.little.specs.Words.{ℕ, _<_, _≡_, _⊎_, List, true}
 use Rattle.answer.specs.declared.Answer.the-variants.{Done}
 use Rattle.flags.specs.{declared.Flags.Flags, Flag.flagsOf, Condition.holdsOf, Known.Alike}
 use Rattle.memory.specs.Access.{codeAt}
 use Rattle.state.specs.{declared.State.State, State.validOf, State.marksOf, State.withBothFlags}
-use Rattle.code.specs.{declared.Instruction.Instruction, declared.Control.Control, declared.Stack.the-variants.PushF}
-use Rattle.code.specs.{declared.Op.the-variants.Controls, declared.Op.the-variants.Stacks, declared.Decoded.the-variants.Whole, Listed.decodeOf}
+use Rattle.code.specs.{declared.Instruction.Instruction, declared.Control.Control, declared.Stack.the-variants.PushF, declared.Interrupt.the-variants.PushSr}
+use Rattle.code.specs.{declared.Op.the-variants.Controls, declared.Op.the-variants.Stacks, declared.Op.the-variants.Interrupts, declared.Decoded.the-variants.Whole, Listed.decodeOf}
 use Rattle.operand.specs.Flag.{flagsIn}
 use Rattle.step.specs.Step.{stepOf}
 use Rattle.facts.specs.Touched.{conditionIn}
@@ -30,6 +30,8 @@ JumpReadsDefined =
     (s : State) (ram rom : List ℕ) (i : Instruction) (what : Control) → DoneAt s ram rom i → i .op ≡ Controls what →
     (g : Flags) → Alike (flagsIn s) g → holdsOf (flagsIn s) (conditionIn what) ≡ holdsOf g (conditionIn what)
 
--- a PUSH F that is done stores defined flags alone
+-- a PUSH F or a PUSH SR that is done stores defined flags alone
 abbrev pub PushStoresDefined : Type 0
-PushStoresDefined = (s : State) (ram rom : List ℕ) (i : Instruction) → DoneAt s ram rom i → i .op ≡ Stacks PushF → flagsIn s .marks ≡ 0
+PushStoresDefined =
+    (s : State) (ram rom : List ℕ) (i : Instruction) → DoneAt s ram rom i → (i .op ≡ Stacks PushF) ⊎ (i .op ≡ Interrupts PushSr) →
+    flagsIn s .marks ≡ 0

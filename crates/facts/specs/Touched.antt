@@ -6,11 +6,12 @@ use Rattle.memory.specs.{declared.Place.Place, Access.storeTo, Place.placeOf}
 use Rattle.memory.specs.declared.Place.the-variants.{Ram, Rom, Missing}
 use Rattle.state.specs.{declared.State.State, Register.getRegister}
 use Rattle.flags.specs.{Condition.readsMarked, Flag.anyMarked}
-use Rattle.code.specs.declared.{Operand.Operand, Op.Op, Control.Control, Stack.Stack, Use.Use}
+use Rattle.code.specs.declared.{Operand.Operand, Op.Op, Control.Control, Stack.Stack, Interrupt.Interrupt, Use.Use}
 use Rattle.code.specs.declared.Operand.the-variants.{Register, Constant, Memory}
-use Rattle.code.specs.declared.Op.the-variants.{Controls, Stacks, Puts, Sets, Blocks}
-use Rattle.code.specs.declared.Control.the-variants.{Nop, Incf, Decf, Ldf, Rcf, Scf, Ccf, Zcf, Exf, Jp16, Jp24, Jr, Jrl}
+use Rattle.code.specs.declared.Op.the-variants.{Controls, Stacks, Puts, Sets, Blocks, Interrupts}
+use Rattle.code.specs.declared.Control.the-variants.{Nop, Incf, Decf, Ldf, Rcf, Scf, Ccf, Zcf, Exf, Jp16, Jp24, Jr, Jrl, Ei}
 use Rattle.code.specs.declared.Stack.the-variants.{PushF, PopF, Push, Pop, Call16, Call24, Calr, Ret}
+use Rattle.code.specs.declared.Interrupt.the-variants.{PushSr, PopSr, Reti}
 use Rattle.code.specs.declared.Use.the-variants.{Number, From, Load, Compute, Changed}
 use Rattle.code.specs.declared.Side.the-variants.{First, Second, With}
 use Rattle.operand.specs.{Operand.pointerOf, Operand.addressOf, Round.less, Flag.flagsIn}
@@ -33,6 +34,7 @@ conditionIn Jp16 = 0
 conditionIn Jp24 = 0
 conditionIn (Jr cc) = cc
 conditionIn (Jrl cc) = cc
+conditionIn Ei = 0
 
 -- PUSH F stores F
 abbrev pub storesF : Stack → Bool
@@ -45,6 +47,12 @@ storesF Call24 = false
 storesF Calr = false
 storesF Ret = false
 
+-- and PUSH SR, whose low byte F is
+abbrev pub storesSr : Interrupt → Bool
+storesSr PushSr = true
+storesSr PopSr = false
+storesSr Reti = false
+
 -- it decides by a marked flag, or stores one
 unfoldable pub usesMarked : Op → State → Bool
 usesMarked (Controls what) s = readsMarked (flagsIn s) (conditionIn what)
@@ -52,6 +60,7 @@ usesMarked (Stacks what) s = storesF what && anyMarked (flagsIn s)
 usesMarked (Puts how) s = false
 usesMarked (Sets r) s = false
 usesMarked (Blocks f) s = false
+usesMarked (Interrupts what) s = storesSr what && anyMarked (flagsIn s)
 
 -- ---- bytes
 -- no byte, or so many bytes from an address on
@@ -85,6 +94,11 @@ stackRead Call24 z s = none
 stackRead Calr z s = none
 stackRead Ret z s = onStack s 4
 
+abbrev pub interruptRead : Interrupt → State → Span
+interruptRead PushSr s = none
+interruptRead PopSr s = onStack s 2
+interruptRead Reti s = onStack s 6
+
 abbrev pub useRead : Use → Span → Span
 useRead (Number n) operand = none
 useRead (From r) operand = none
@@ -98,6 +112,7 @@ readOf (Stacks what) z o s = stackRead what z s
 readOf (Puts how) z o s = useRead how (operandSpan s z o)
 readOf (Sets r) z o s = none
 readOf (Blocks f) z o s = bytes (pointerOf s (f .from)) (bytesOf (f .size))
+readOf (Interrupts what) z o s = interruptRead what s
 
 -- where it stores: a push or a call below the stack, a copy at its other pointer, the others at their operand; CP nowhere
 abbrev pub stackStored : Stack → Size → State → Span
@@ -109,6 +124,11 @@ stackStored Call16 z s = belowStack s 4
 stackStored Call24 z s = belowStack s 4
 stackStored Calr z s = belowStack s 4
 stackStored Ret z s = none
+
+abbrev pub interruptStored : Interrupt → State → Span
+interruptStored PushSr s = belowStack s 2
+interruptStored PopSr s = none
+interruptStored Reti s = none
 
 abbrev pub useStored : Use → Span → Span
 useStored (Number n) operand = operand
@@ -125,6 +145,7 @@ storedOf (Stacks what) z o s = stackStored what z s
 storedOf (Puts how) z o s = useStored how (operandSpan s z o)
 storedOf (Sets r) z o s = none
 storedOf (Blocks f) z o s = cond (f .copies) (bytes (pointerOf s (f .to)) (bytesOf (f .size))) none
+storedOf (Interrupts what) z o s = interruptStored what s
 
 -- what is read has to be there
 abbrev pub loadTo : Place → Answer
