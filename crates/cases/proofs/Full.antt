@@ -20,7 +20,7 @@ use Rattle.state.proofs.Sound.{fits}
 use Rattle.code.specs.Said.{judge}
 use Rattle.code.specs.Rows.{lookup}
 use Rattle.code.specs.Memory.{memoryRows, copies, compares, blocks, indirectRows}
-use Rattle.code.specs.Listed.{bankRows, flagRows, constantRows, stackRows, jumpRows, relativeRows, registerFormRows, absoluteRows, memoryFormRows, memoryAtRows, storeFormRows, aloneRows, memoryFirstRows, firstRows, decodeOf}
+use Rattle.code.specs.Listed.{bankRows, flagRows, constantRows, stackRows, jumpRows, relativeRows, interruptRows, registerFormRows, absoluteRows, memoryFormRows, memoryAtRows, storeFormRows, aloneRows, memoryFirstRows, firstRows, decodeOf}
 use Rattle.run.specs.Demand.{At, Spares, EqualAt, Passes, atCount, countOf, passed, elementOf, targetOf, elementPlace}
 use Rattle.cases.specs.Table.{machine, begin}
 use Rattle.cases.specs.Evidence.{ldir, cpir, fullRam, fullRom, seekRom, fullCopy, fullSeek, StartMet, tells}
@@ -48,11 +48,11 @@ unfolding countOf fullSeek begin resetState longOf withLong withCounter withBoth
 seek-count = refl
 
 copy-at : At ldir fullCopy fullRam fullRom
-unfolding fits fullRam fullRom fullCopy begin resetState validOf longOf withLong withCounter withBothFlags withFlags getBits setBits slotIn setSlot slotOf registerAt setRegister placeOf codeAt judge lookup memoryRows copies compares blocks indirectRows bankRows flagRows constantRows stackRows jumpRows relativeRows registerFormRows absoluteRows memoryFormRows memoryAtRows storeFormRows aloneRows memoryFirstRows firstRows decodeOf
+unfolding fits fullRam fullRom fullCopy begin resetState validOf longOf withLong withCounter withBothFlags withFlags getBits setBits slotIn setSlot slotOf registerAt setRegister placeOf codeAt judge lookup memoryRows copies compares blocks indirectRows bankRows flagRows constantRows stackRows jumpRows relativeRows interruptRows registerFormRows absoluteRows memoryFormRows memoryAtRows storeFormRows aloneRows memoryFirstRows firstRows decodeOf
 copy-at = at-by ldir fullCopy fullRam fullRom tt refl refl refl
 
 seek-at : At cpir fullSeek fullRam seekRom
-unfolding fits fullRam seekRom fullSeek begin resetState validOf longOf withLong withCounter withBothFlags withFlags getBits setBits slotIn setSlot slotOf registerAt setRegister placeOf codeAt judge lookup memoryRows copies compares blocks indirectRows bankRows flagRows constantRows stackRows jumpRows relativeRows registerFormRows absoluteRows memoryFormRows memoryAtRows storeFormRows aloneRows memoryFirstRows firstRows decodeOf
+unfolding fits fullRam seekRom fullSeek begin resetState validOf longOf withLong withCounter withBothFlags withFlags getBits setBits slotIn setSlot slotOf registerAt setRegister placeOf codeAt judge lookup memoryRows copies compares blocks indirectRows bankRows flagRows constantRows stackRows jumpRows relativeRows interruptRows registerFormRows absoluteRows memoryFormRows memoryAtRows storeFormRows aloneRows memoryFirstRows firstRows decodeOf
 seek-at = at-by cpir fullSeek fullRam seekRom tt refl refl refl
 
 -- ---- the elements and the targets

@@ -1,11 +1,10 @@
-// SR on the stack, a request that is taken, and the return from it.
+// SR on the stack, and the return from an interrupt.
 ghost use mathlib.Core.Path.{_≡_};
 ghost use Rattle.state.specs.declared.State.{State};
 ghost use Rattle.state.specs.inner.Lent.{ruled, ruledWith, interrupted};
 ghost use Rattle.operand.specs.inner.Does.{Does};
-ghost use Rattle.interrupt.specs.Interrupt.{withSr, pushSrOf, interruptOf};
 ghost use Rattle.stack.specs.Stack.{popOf, popBytes};
-ghost use Rattle.interrupt.specs.Interrupt.{returned};
+ghost use Rattle.interrupt.specs.Interrupt.{withSr, pushSrOf, returned, interruptOf};
 use answer::Answer;
 use answer::Why;
 use code::Interrupt;

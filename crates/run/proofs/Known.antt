@@ -57,7 +57,7 @@ module _ (f : Form) (h : bytesOf (f .size) ≤ 2) where
   stored-known s t m l (answer.Refused w) k = refused-not k
 
   round-known : (s : State) (ram rom : List ℕ) (t : State) (m : List ℕ) → roundOf f s ram rom ≡ did t m → Known t
-  unfolding storing
+  unfolding storing storeOf ramAfter
   round-known s ram rom t m e = go (loadOf ram rom (pointerOf s (f .from)) (f .size)) refl (f .copies) refl
     where
       go : (l : Loaded) → loadOf ram rom (pointerOf s (f .from)) (f .size) ≡ l → (b : Bool) → f .copies ≡ b → Known t

@@ -189,7 +189,7 @@ module _ (f : Form) (p : Pointers f) (s : State) (ok : Sound s) (v : Valid s) (r
 
   stored-leaves :
       (x : ℕ) (t : State) (m : List ℕ) → f .copies ≡ true → storing (copied f s) ram rom (pointerOf s (f .to)) (f .size) x ≡ did t m → Leaves t m
-  unfolding storing Leaves
+  unfolding storing storeOf ramAfter Leaves
   stored-leaves x t m c e = go (storeOf ram rom (pointerOf s (f .to)) (f .size)) e
     where
       go : (r : Answer) → storedBy r (copied f s) (ramAfter ram rom (pointerOf s (f .to)) (f .size) x) ≡ did t m → Leaves t m
@@ -245,7 +245,7 @@ module _ (f : Form) (s : State) (ram rom : List ℕ) where
 
   stored-there :
       (t : State) (a : ℕ) (z : Size) (v : ℕ) → a + bytesOf z ≤ length ram → storing t ram rom a z v ≡ did t (ramAfter ram rom a z v)
-  unfolding storing storeOf
+  unfolding storing storeOf ramAfter
   stored-there t a z v h = rw (place-ram (length ram) (length rom) a (bytesOf z) h) refl
 
   pub ready-did :
@@ -272,7 +272,7 @@ module _ (f : Form) (s : State) (ram rom : List ℕ) where
   stored-no :
       (t : State) (a : ℕ) (z : Size) (v : ℕ) (q : Place) (w : Why) → operandAt ram rom a z ≡ q → storeTo q a ≡ answer.Refused w →
       storing t ram rom a z v ≡ no w
-  unfolding storing storeOf
+  unfolding storing storeOf ramAfter
   stored-no t a z v q w h e =
       ap (λ (p : Place). storedBy (storeTo p a) t (ramAfter ram rom a z v)) h ∙ ap (λ (r : Answer). storedBy r t (ramAfter ram rom a z v)) e
 

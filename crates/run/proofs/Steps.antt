@@ -92,7 +92,7 @@ goes-free f s c = refl
 storing-free :
     (f : Form) (s : State) (c : ℕ) (ram rom : List ℕ) (a : ℕ) (z : Size) (x : ℕ) →
     storing (copied f (withCounter s c)) ram rom a z x ≡ andThen (storing (copied f s) ram rom a z x) (λ (t : State). withCounter t c)
-unfolding storing
+unfolding storing storeOf ramAfter
 storing-free f s c ram rom a z x = go (storeOf ram rom a z)
   where
     go : (r : Answer) →
