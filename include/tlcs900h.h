@@ -1,5 +1,5 @@
 /*
- * A proved TLCS-900/H core: reset, one step, many steps, and the length of an instruction.
+ * A proved TLCS-900/H core: reset, one step, many steps, requests for an interrupt, and the length of an instruction.
  *
  * Link with libtlcs900h.a (x86-64 Linux). It calls no other function, keeps nothing between calls and allocates nothing:
  * two threads may call it at once, each with its own record and RAM. A call takes less than TLCS900H_STACK bytes of stack
@@ -17,13 +17,14 @@
  *   offset 84   SR, two bytes: F in bits 0 to 7 (S 7, Z 6, H 4, V 2, N 1, C 0; bits 5 and 3 zero),
  *               the bank in bits 8 to 10 (0 to 3), bit 11 one, the interrupt level in bits 12 to 14, bit 15 one
  *   offset 86   F', one byte (bits 5 and 3 zero)
- *   offset 87   three zero bytes
+ *   offset 87   a zero byte
+ *   offset 88   the nesting count, two bytes: 1 more for each request taken, 1 less for each RETI; it goes round at 65,536
  *   offset 90   the marks: bit 0 H of F, bit 1 V of F, bit 2 H of F', bit 3 V of F'; the other bits zero
  *   offset 91   a zero byte
  * A marked flag is one that Toshiba's book leaves undefined after the instruction that wrote it last: H after ADD, ADC, SUB,
  * SBC and CP of a long and after CCF and ZCF, V after AND, OR, XOR and the shifts of a long. Its bit is 0, and a record where
- * it is 1 is no state's. The mark goes when the flag gets a value; EX F,F' exchanges those of F and F', POP F clears those of F,
- * and reset leaves none.
+ * it is 1 is no state's. The mark goes when the flag gets a value; EX F,F' exchanges those of F and F'; POP F, POP SR and
+ * RETI clear those of F; reset leaves none.
  * A record of 88 bytes, as it was before 3.0, is made one of 92 by four zero bytes behind it.
  *
  * It may be copied, stored and handed back later; tlcs900h_reset makes the first one. A run of 0 steps tells whether a
@@ -37,24 +38,27 @@
  *
  * The caller's part
  *   Every pointer is the caller's memory, lent for the length of the call. Each must be good for the length that follows
- *   it, and for writing where it is not const. A null pointer with length 0 is an empty memory. `done`, `at` and `length`
- *   are never null. The parts of one call must not overlap, `done` and `at` are two variables, and nothing else may write
- *   them while it runs.
+ *   it, and for writing where it is not const. A null pointer with length 0 is an empty memory. `done`, `taken`, `at` and
+ *   `length` are never null. The parts of one call must not overlap: `done` and `at` are two variables, and so are `taken`
+ *   and `at`. Nothing else may write any of them while it runs.
  *
- * The answer of each call is a number, 0 to 8, and depends on nothing but what the call is given. A step or run that was
+ * The answer of each call is a number, 0 to 9, and depends on nothing but what the call is given. A step or run that was
  * refused with 1 to 6 or 8, asked again for a step or more, is refused with the same number and address (and *done is then 0)
- * until the caller changes what it hands over.
+ * until the caller changes what it hands over. So it is with a refused request that is offered again.
  *
- * Which address: a step and a run write *at every time. With 5 and 6 it is an address below 2^24, and it may be 0; with any
- * other number, 0 too, it is 0. So look at the number, and not at *at, for what happened; the counter in the record is then
- * that of the refused instruction. An operand is what an instruction reads or stores in memory: the bytes at an address that
- * it names, what it pushes or pops, a return address, an element of a copy or compare. Its first byte is the one with the
- * address that is named, modulo 2^24 (for a push: XSP less the operand's size); the byte after FFFFFFH is 000000H.
+ * Which address: a step, a run and a request write *at every time. With 5 and 6 it is an address below 2^24, and it may be 0;
+ * with any other number, 0 too, it is 0. So look at the number, and not at *at, for what happened; the counter in the record
+ * is then that of the refused instruction (after a request: of the next one). An operand is what an instruction reads or
+ * stores in memory: the bytes at an address that it names, what it pushes or pops, a return address, an element of a copy or
+ * compare. RETI pops one of six bytes; a request has two, its vector of four bytes and the six that it pushes. The first byte
+ * of an operand is the one with the address that is named, modulo 2^24 (for a push: XSP less the operand's size); the byte
+ * after FFFFFFH is 000000H.
  *   With 5 *at is the address of the operand's first byte, if that lies in neither memory; otherwise that of the first of its
  *   bytes that is not in the same memory as its first byte. So four bytes from ram_len - 2 on give ram_len, and four bytes
  *   from FFFFFEH on, with ROM there, give 000000H.
  *   With 6 *at is the address of the first byte that would have been stored.
- * A copy looks for its source first: where that is missing, *at tells of it, whatever the target is.
+ * A copy looks for its source first: where that is missing, *at tells of it, whatever the target is. A request looks for its
+ * vector first, and then for its stack.
  */
 #ifndef TLCS900H_INCLUDED
 #define TLCS900H_INCLUDED
@@ -75,9 +79,11 @@ extern "C" {
  *        that calls them: the linker does not notice an old call
  *   3.0  a record has 92 bytes, with the marks at offset 90; one of 88 is refused with 2. A jump whose condition reads a
  *        marked V, and PUSH F with a mark of F set, are refused with 8; before, they took the undefined flag as 0
+ *   3.1  tlcs900h_request, and its number 9. PUSH SR (02), POP SR (03), EI (06, then 00 to 07) and RETI (07) are done, where
+ *        they were refused with 4. The record has the nesting count at offset 88, where two zero bytes were
  */
 #define TLCS900H_VERSION_MAJOR 3
-#define TLCS900H_VERSION_MINOR 0
+#define TLCS900H_VERSION_MINOR 1
 
 #define TLCS900H_RECORD 92          /* the bytes of a record */
 #define TLCS900H_MEMORY 65536       /* the most bytes of RAM, and of ROM */
@@ -110,8 +116,9 @@ enum {
     TLCS900H_COUNTER = 80,
     TLCS900H_SR = 84,
     TLCS900H_F = 84,       /* the low byte of SR */
-    TLCS900H_BANK = 85,    /* the high byte of SR: the bank in use is its low two bits */
+    TLCS900H_BANK = 85,    /* the high byte of SR: the bank in use is its low two bits, the interrupt level its bits 4 to 6 */
     TLCS900H_F_PRIME = 86, /* F' */
+    TLCS900H_NESTING = 88, /* the nesting count */
     TLCS900H_MARKS = 90    /* the marks */
 };
 
@@ -123,15 +130,16 @@ enum {
 
 /* The numbers that a call answers. */
 enum {
-    TLCS900H_DONE = 0,     /* done */
-    TLCS900H_TOO_LONG = 1, /* RAM or ROM is longer than 65,536 bytes */
-    TLCS900H_INVALID = 2,  /* the record is not TLCS900H_RECORD bytes long or is no state's record; an address to show is 2^24 or more */
-    TLCS900H_NO_CODE = 3,  /* no memory at the counter, or the instruction goes on where its memory ends */
-    TLCS900H_UNLISTED = 4, /* the bytes at the counter begin no listed instruction */
-    TLCS900H_MISSING = 5,  /* an operand lies in neither memory, or only partly in one, see *at; at reset: ROM has fewer than 256 bytes */
-    TLCS900H_TO_ROM = 6,   /* a store would go to ROM, see *at */
-    TLCS900H_TOO_MANY = 7, /* a run is asked for more than 1,000,000 steps */
-    TLCS900H_UNDEFINED = 8 /* a jump's condition reads V (LT, LE, V and their opposites) and V is marked; or PUSH F, and H or V of F is marked */
+    TLCS900H_DONE = 0,       /* done */
+    TLCS900H_TOO_LONG = 1,   /* RAM or ROM is longer than 65,536 bytes */
+    TLCS900H_INVALID = 2,    /* the record is not TLCS900H_RECORD bytes long or is no state's record; an address to show is 2^24 or more */
+    TLCS900H_NO_CODE = 3,    /* no memory at the counter, or the instruction goes on where its memory ends */
+    TLCS900H_UNLISTED = 4,   /* the bytes at the counter begin no listed instruction */
+    TLCS900H_MISSING = 5,    /* an operand lies in neither memory, or only partly in one, see *at; at reset: ROM has fewer than 256 bytes */
+    TLCS900H_TO_ROM = 6,     /* a store would go to ROM, see *at */
+    TLCS900H_TOO_MANY = 7,   /* a run is asked for more than 1,000,000 steps */
+    TLCS900H_UNDEFINED = 8,  /* a jump reads V (LT, LE, V, their opposites) and V is marked; or PUSH F or PUSH SR, and H or V of F is marked */
+    TLCS900H_BAD_REQUEST = 9 /* a request's level is not 1 to 7, or its vector's address is 2^24 or more */
 };
 
 /* A few words for a number, to print. A program that does not call this holds none of them. */
@@ -146,13 +154,14 @@ static inline const char *tlcs900h_name(uint8_t number) {
     case TLCS900H_TO_ROM: return "store to ROM";
     case TLCS900H_TOO_MANY: return "too many steps";
     case TLCS900H_UNDEFINED: return "undefined flag";
+    case TLCS900H_BAD_REQUEST: return "bad request";
     default: return "no such number";
     }
 }
 
 /*
  * Writes the record of the reset state: XSP 100H, bank 0, level 7, everything else zero, and the counter from the low 24
- * bits of the four bytes at FFFF00H. No flag is marked. RAM is only measured.
+ * bits of the four bytes at FFFF00H. No flag is marked, and the nesting count is 0. RAM is only measured.
  * Looks for 1, then 5, then 2 (a buffer that is not TLCS900H_RECORD bytes long; what it holds does not matter).
  * A refusal leaves the buffer as it was.
  */
@@ -172,6 +181,34 @@ uint8_t tlcs900h_step(uint8_t *record, size_t record_len, uint8_t *ram, size_t r
  * Looks for 7, then 1, then 2, even for 0 steps; after one of these *done is 0 and the record and RAM are as they were.
  */
 uint8_t tlcs900h_run(uint8_t *record, size_t record_len, uint8_t *ram, size_t ram_len, const uint8_t *rom, size_t rom_len, uint32_t steps, uint32_t *done, uint32_t *at);
+
+/*
+ * Offers a request for an interrupt, between two steps. Its level is 1 to 7; `vector` is the address, below 2^24, of the four
+ * bytes that hold the handler's address, low byte first.
+ *
+ * It is taken if its level is at least the mask, which is the interrupt level in SR. Mask 0 counts as 1; level 7 is always
+ * taken. To take it is no step, and no run counts it. This is then done:
+ *   the counter and SR are pushed as one operand of six bytes, and XSP is 6 less: SR in two, above it the counter in four
+ *   the mask is the level plus 1; after level 7 it is 7
+ *   the nesting count is 1 more; after 65,535 comes 0
+ *   the counter is the low 24 bits of the vector's four bytes
+ * All else stays, bank and flags too. A marked flag is pushed as the 0 that it is, and its mark stands: the request is not
+ * refused for it, but in the handler PUSH F, PUSH SR and jumps that read V may be. The handler ends with RETI, which pops the
+ * six bytes, takes 1 off the count and so goes on where the firmware was, at a repeating copy or compare too. No flag of F is
+ * marked then: flags that were popped count as known.
+ *
+ * Looks for 1, then 2, then 9. Then a request that the mask keeps out is not taken: the answer is 0, and nothing is read or
+ * changed. One that is let in looks for 5 of the vector's four bytes, then for 5 and then 6 of the six bytes below XSP.
+ * *taken is 1 where the request was taken and 0 after every other call; *at is as after a step. Both are written every time.
+ * A refusal and a request not taken leave the record and RAM as they were.
+ *
+ * The caller decides when to offer: between any two calls of step or run. A request not taken is not remembered: offer it
+ * again. After a reset the mask is 7, so that only level 7 is taken until the firmware lowers it (EI, POP SR or RETI). In the
+ * handler of a level below 7 the mask keeps out that level and those below it. Level 7 has no mask above it: after it the
+ * mask is 7, which lets level 7 in again and no other, even before its handler's first step. So offer it once for each event.
+ */
+uint8_t tlcs900h_request(uint8_t *record, size_t record_len, uint8_t *ram, size_t ram_len, const uint8_t *rom, size_t rom_len,
+                         uint32_t level, uint32_t vector, uint8_t *taken, uint32_t *at);
 
 /*
  * Sets *length to the number of bytes (1 to 6) of the instruction at an address; the caller finds them there.

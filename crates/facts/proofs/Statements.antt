@@ -40,7 +40,7 @@ use Rattle.facts.proofs.Touched.{Kept, Recounted, Gives}
 use Rattle.facts.proofs.Kept.{valid-kept, valid-recounted, Whole, whole-kept, whole-recounted, spares-length, executed-fair}
 
 -- ---- the limits
-longer : (a b : ℕ) → tooLong a b ≡ true → (2 ^ 16 < a) ⊎ (2 ^ 16 < b)
+pub longer : (a b : ℕ) → tooLong a b ≡ true → (2 ^ 16 < a) ⊎ (2 ^ 16 < b)
 longer a b e = go (ltb (2 ^ 16) a) (ltb (2 ^ 16) b) refl refl e
   where
     go : (x y : Bool) → ltb (2 ^ 16) a ≡ x → ltb (2 ^ 16) b ≡ y → (x || y) ≡ true → (2 ^ 16 < a) ⊎ (2 ^ 16 < b)
@@ -48,7 +48,7 @@ longer a b e = go (ltb (2 ^ 16) a) (ltb (2 ^ 16) b) refl refl e
     go false true p q h = inr (ltb-true _ _ q)
     go false false p q h = let z : _≡_ {A = ℕ} 0 1 = cc in absurd (omega arith)
 
-within : (a b : ℕ) → tooLong a b ≡ false → (a ≤ 2 ^ 16) × (b ≤ 2 ^ 16)
+pub within : (a b : ℕ) → tooLong a b ≡ false → (a ≤ 2 ^ 16) × (b ≤ 2 ^ 16)
 within a b e = go (ltb (2 ^ 16) a) (ltb (2 ^ 16) b) refl refl e
   where
     go : (x y : Bool) → ltb (2 ^ 16) a ≡ x → ltb (2 ^ 16) b ≡ y → (x || y) ≡ false → (a ≤ 2 ^ 16) × (b ≤ 2 ^ 16)
@@ -73,18 +73,18 @@ some (Missing x) = omega arith
 some (ToRom x) = omega arith
 
 module _ (P : State → Type 0) (s : State) (ram rom : List ℕ) (a : Answer) (g : Span) where
-  fair-answer : (t : Try) → Gives P ram rom a g t → leaves s ram t .answer ≡ a
+  pub fair-answer : (t : Try) → Gives P ram rom a g t → leaves s ram t .answer ≡ a
   unfolding Gives
   fair-answer (did t m) h = sym (h .1 .1)
   fair-answer (no w) h = sym h
 
-  fair-done : (t : Try) → Gives P ram rom a g t → leaves s ram t .answer ≡ Done → P (leaves s ram t .state) × KeepsRest g ram (leaves s ram t .ram)
+  pub fair-done : (t : Try) → Gives P ram rom a g t → leaves s ram t .answer ≡ Done → P (leaves s ram t .state) × KeepsRest g ram (leaves s ram t .ram)
   unfolding Gives
   fair-done (did t m) h e = (h .0, h .1 .0)
   fair-done (no w) h e = absurd (omega (arith, ap numberOf e, some w))
 
 -- 0, 5 and 6 are all that operands can give; flags give 8
-abbrev ByOperands : Answer → Type 0
+abbrev pub ByOperands : Answer → Type 0
 ByOperands a = (numberOf a ≡ 0) ⊎ ((5 ≤ numberOf a) × (numberOf a ≤ 6))
 
 abbrev ByBoth : Answer → Type 0
@@ -100,7 +100,7 @@ by-store (place.Ram o) a = inl refl
 by-store (place.Rom o) a = inr (omega arith, omega arith)
 by-store (place.Missing x) a = inr (omega arith, omega arith)
 
-by-operands : (ram rom : List ℕ) (r g : Span) → ByOperands (operandsAnswer ram rom r g)
+pub by-operands : (ram rom : List ℕ) (r g : Span) → ByOperands (operandsAnswer ram rom r g)
 unfolding operandsAnswer
 by-operands ram rom r g = go (readAnswer ram rom r) (reading r) (storeAnswer ram rom g) (storing g)
   where
@@ -198,7 +198,7 @@ module _ (s : State) (ram rom : List ℕ) where
       go (inr z) n = omega arith
 
   -- two courses cannot both be
-  far : (limit : (2 ^ 16 < length ram) ⊎ (2 ^ 16 < length rom)) → Within ram rom → ⊥
+  pub far : (limit : (2 ^ 16 < length ram) ⊎ (2 ^ 16 < length rom)) → Within ram rom → ⊥
   far (inl h) w = omega (arith, w .0)
   far (inr h) w = omega (arith, w .1)
 
@@ -220,7 +220,7 @@ module _ (s : State) (ram rom : List ℕ) where
       back (whole i p d a) h = absurd (far h (p .0))
 
   -- a state is not both valid and invalid
-  both : validOf s ≡ true → validOf s ≡ false → ⊥
+  pub both : validOf s ≡ true → validOf s ≡ false → ⊥
   both e f = let z : _≡_ {A = ℕ} 0 1 = ap (λ (b : Bool). cond b 0 1) (sym e ∙ f) in omega arith
 
   two-holds : (answer ≡ Refused Invalid) ⇔ (Within ram rom × (validOf s ≡ false))

@@ -158,7 +158,7 @@ module _ (P : State → Type 0) (ram rom : List ℕ) where
   unfolding Gives operandsAnswer
   fair-did s ok = (ok, (refl, refl))
 
-  fair-storing-bytes : (t : State) (a n v : ℕ) → P t → Fair none (bytes a n) (storingBytes t ram rom a n v)
+  pub fair-storing-bytes : (t : State) (a n v : ℕ) → P t → Fair none (bytes a n) (storingBytes t ram rom a n v)
   unfolding Gives operandsAnswer
   fair-storing-bytes t a n v ok = go (storeBytes ram rom a n) refl
     where
@@ -190,7 +190,7 @@ module _ (P : State → Type 0) (ram rom : List ℕ) where
       go (Rom o) e = there (valueOf (take n (drop o rom))) (ap loadTo e)
       go (Missing x) e = ap (λ (p : Place). firstRefusal (loadTo p) (storeAnswer ram rom g)) e
 
-  fair-loaded : (a : ℕ) (z : Size) (g : Span) (f : ℕ → Try) → ((v : ℕ) → Fair none g (f v)) → Fair (bytes a (bytesOf z)) g (withLoaded (loadOf ram rom a z) f)
+  pub fair-loaded : (a : ℕ) (z : Size) (g : Span) (f : ℕ → Try) → ((v : ℕ) → Fair none g (f v)) → Fair (bytes a (bytesOf z)) g (withLoaded (loadOf ram rom a z) f)
   unfolding loadOf
   fair-loaded a z g f h = fair-loaded-bytes a (bytesOf z) g f h
 
@@ -200,7 +200,7 @@ module _ (P : State → Type 0) (ram rom : List ℕ) where
   fair-value s z (Constant n) g f h = h _
   fair-value s z (Memory m) g f h = fair-loaded _ z g f h
 
-  fair-then : (r g : Span) (t : Try) (f : State → State) → Fair r g t → ((s : State) → P s → P (f s)) → Fair r g (andThen t f)
+  pub fair-then : (r g : Span) (t : Try) (f : State → State) → Fair r g t → ((s : State) → P s → P (f s)) → Fair r g (andThen t f)
   unfolding Gives
   fair-then r g (did s m) f (p, q) h = (h s p, q)
   fair-then r g (no w) f e h = e

@@ -2,7 +2,7 @@
 use Prim.Native.Nat.{ℕ, zero, suc, _<_, _≤_}
 use mathlib.Core.Path.{_≡_, refl, ap, sym, _∙_, subst}
 use mathlib.Core.List.{List}
-use mathlib.Core.Bool.{Bool, true, false, cond}
+use mathlib.Core.Bool.{Bool, true, false, cond, not}
 use native.Mathlib.Omega.{arith}
 use lib.ListN.{length}
 use lib.Dec.{eqb}
@@ -23,16 +23,21 @@ use Rattle.state.proofs.Valid.{Valid, valid-says, valid-from, valid-zero, valid
 use Rattle.saved.specs.declared.Restored.{Restored}
 use Rattle.saved.specs.Record.{recordLength, recordOf, saveAnswer, saveBytes, stateAt, fixedAt, isRecord, restoredFrom, restoredOf, refusedRecord}
 use Rattle.step.specs.declared.Stepped.{Stepped}
-use Rattle.operand.specs.Try.{Try, did, no, Outcome, leaves}
+use Rattle.operand.specs.Try.{Try, did, no, Outcome, after, leaves}
 use Rattle.step.specs.Result.{refusedWith}
 use Rattle.step.specs.Step.{tooLong, tryOf, stepOf}
 use Rattle.step.specs.Reset.{resetFrom, resetOf}
 use Rattle.facts.proofs.Statements.{keeps-valid}
+use Rattle.request.specs.declared.Requested.{Requested}
+use Rattle.request.specs.Request.{requestOf, tookOf, RequestMeets}
+use Rattle.request.proofs.Laws.{off, on}
 use Rattle.turn.specs.declared.Ran.{Ran}
 use Rattle.turn.specs.Many.{Result, result}
 use Rattle.run.specs.Run.{runOf}
 use Rattle.run.proofs.Joins.{Began, none, first, began, run-zero, one-step-run}
-use Rattle.module.specs.Calls.{whereDone, resetAnswer, resetBytes, openedOf, stepLeft, runLeft, runDone, CResetMeets, CStepMeets, CRunMeets}
+use Rattle.module.specs.Calls.{Left, left, unless, whereDone, resetAnswer, resetBytes, openedOf, stepLeft, runLeft, runDone, requestLeft, requestTaken}
+use Rattle.module.specs.Calls.{CResetMeets, CStepMeets, CRunMeets, CRequestMeets}
+use Rattle.module.proofs.Taken.{request-valid}
 
 -- ---- the states that are written are valid
 reset-valid : (ram rom : List ℕ) → Valid (resetOf ram rom .state)
@@ -140,21 +145,34 @@ module _ (b ram rom : List ℕ) (r : Stepped) (is : r ≡ resetOf ram rom) where
       room x y true = refl
       room x y false = refl
 
--- ---- one step
--- what a run leaves, but for its count
-abbrev uncounted : Result → Outcome
-uncounted r = record { state = r .state; ram = r .ram; answer = r .answer }
-
+-- ---- a call on a record
 module _ (b ram rom : List ℕ) (o : Restored) (is : o ≡ openedOf b (length ram) (length rom)) where
-  opened-answer : {a : Answer} → o .answer ≡ a → openedOf b (length ram) (length rom) .answer ≡ a
+  abbrev held : Restored
+  held = openedOf b (length ram) (length rom)
+
+  opened-answer : {a : Answer} → o .answer ≡ a → held .answer ≡ a
   opened-answer e = ap (λ (x : Restored). x .answer) (sym is) ∙ e
+
+  -- one that is not opened stops the call, whatever that would leave
+  stops : {n x : ℕ} (l : Left) (w : Why) → o .answer ≡ Refused w → n ≡ numberOf (o .answer) → x ≡ atOf (o .answer) →
+      left n x b ram ≡ unless (held .answer) b ram l
+  stops {n} {x} l w a e f = subst (λ (y : ℕ). left n y b ram ≡ unless (held .answer) b ram l) (sym f) (rw (opened-answer a, e, a) refl)
+
+  -- over one that is opened, a state that is valid where that in it is can be saved
+  saved-over : (s : State) → o .answer ≡ Done → (Valid (held .state) → Valid s) → (saveAnswer s (length b) ≡ Done) × (saveBytes s b ≡ recordOf s)
+  saved-over s good f = let v = opened-done b (length ram) (length rom) (opened-answer good) in saved-whole s b (f (v .0)) (v .1)
+
+  -- ---- one step
+  -- what a run leaves, but for its count
+  abbrev uncounted : Result → Outcome
+  uncounted r = after (r .answer) (r .state) (r .ram)
 
   pub step-stops : {n x : ℕ} (w : Why) → o .answer ≡ Refused w → n ≡ numberOf (o .answer) → x ≡ atOf (o .answer) → CStepMeets b ram rom n x b ram
   unfolding stepLeft
-  step-stops {n} {x} w a e f = subst (λ (y : ℕ). CStepMeets b ram rom n y b ram) (sym f) (rw (opened-answer a, e, a) refl)
+  step-stops = stops _
 
   module _ (r : Ran) (m : List ℕ) (good : o .answer ≡ Done) (e : result r m ≡ runOf 1 (o .state) ram rom) where
-    here : uncounted (result r m) ≡ stepOf (openedOf b (length ram) (length rom) .state) ram rom
+    here : uncounted (result r m) ≡ stepOf (held .state) ram rom
     here = ap uncounted e ∙ one-step-run (o .state) ram rom ∙ ap (λ (x : Restored). stepOf (x .state) ram rom) is
 
     pub step-no : {n x : ℕ} (w : Why) → r .answer ≡ Refused w → n ≡ numberOf (r .answer) → x ≡ atOf (r .answer) → CStepMeets b ram rom n x b m
@@ -165,10 +183,37 @@ module _ (b ram rom : List ℕ) (o : Restored) (is : o ≡ openedOf b (length ra
         n ≡ numberOf y → x ≡ atOf y → CStepMeets b ram rom n x b' m
     unfolding stepLeft
     step-did {n} {x} {y} {b'} a f g h i =
-        let v = opened-done b (length ram) (length rom) (opened-answer good) in
-        let w : Valid (r .state) = subst (λ (x : Outcome). Valid (x .state)) (sym here) (step-valid _ ram rom (v .0)) in
-        let k = saved-whole (r .state) b w (v .1) in
+        let k = saved-over (r .state) good (λ v. subst (λ (x : Outcome). Valid (x .state)) (sym here) (step-valid _ ram rom v)) in
         subst (λ (z : ℕ). CStepMeets b ram rom n z b' m) (sym i) (rw (opened-answer good, sym here, a, h, f, g, k .0, k .1) refl)
+
+  -- ---- a request
+  module _ (level vector : ℕ) where
+    pub request-stops : {n x : ℕ} (w : Why) → o .answer ≡ Refused w → n ≡ numberOf (o .answer) → x ≡ atOf (o .answer) →
+        CRequestMeets level vector b ram rom n 0 x b ram
+    unfolding requestLeft requestTaken
+    request-stops w a e f = (stops _ w a e f, rw (opened-answer a) refl)
+
+    module _ (q : Requested) (m : List ℕ) (good : o .answer ≡ Done) (e : RequestMeets level vector (o .state) ram rom q m) where
+      came : after (q .answer) (q .state) m ≡ requestOf level vector (held .state) ram rom
+      came = e .0 ∙ ap (λ (x : Restored). requestOf level vector (x .state) ram rom) is
+
+      took : q .taken ≡ tookOf level vector (held .state) ram rom
+      took = e .1 ∙ ap (λ (x : Restored). tookOf level vector (x .state) ram rom) is
+
+      request-told : {n x : ℕ} {b' : List ℕ} (t : Bool) → q .taken ≡ t → b' ≡ cond t (recordOf (q .state)) b → n ≡ numberOf (q .answer) →
+          x ≡ atOf (q .answer) → CRequestMeets level vector b ram rom n (cond t 1 0) x b' m
+      unfolding requestLeft requestTaken
+      request-told t d f g h = rw (opened-answer good, sym took ∙ d) (rw (sym came, f, g, h) refl, refl)
+
+      pub request-not : {n x : ℕ} → not (q .taken) ≡ true → n ≡ numberOf (q .answer) → x ≡ atOf (q .answer) →
+          CRequestMeets level vector b ram rom n 0 x b m
+      request-not d = request-told false (off (q .taken) d) refl
+
+      pub request-took : {n x : ℕ} {b' : List ℕ} → not (q .taken) ≡ false → b' ≡ saveBytes (q .state) b → n ≡ numberOf (q .answer) →
+          x ≡ atOf (q .answer) → CRequestMeets level vector b ram rom n 1 x b' m
+      request-took d f =
+          let k = saved-over (q .state) good (λ v. subst (λ (x : Outcome). Valid (x .state)) (sym came) (request-valid level vector _ ram rom v)) in
+          request-told true (on (q .taken) d) (f ∙ k .1)
 
 -- ---- many steps
 module _ (n : ℕ) (b ram rom : List ℕ) where
@@ -179,9 +224,7 @@ module _ (n : ℕ) (b ram rom : List ℕ) where
   module _ (few : n ≤ 1000000) (o : Restored) (is : o ≡ openedOf b (length ram) (length rom)) where
     pub run-stops : {k x : ℕ} (w : Why) → o .answer ≡ Refused w → k ≡ numberOf (o .answer) → x ≡ atOf (o .answer) → CRunMeets n b ram rom k x b ram 0
     unfolding runLeft runDone
-    run-stops w a e g =
-        let f = opened-answer b ram rom o is a in
-        (rw (le-ltb 1000000 n few, f, e, g, a) refl, rw (le-ltb 1000000 n few, f) refl)
+    run-stops w a e g = rw (le-ltb 1000000 n few) (stops b ram rom o is _ w a e g, rw (opened-answer b ram rom o is a) refl)
 
     pub run-ran : {k x : ℕ} {b' : List ℕ} (r : Ran) (m : List ℕ) → o .answer ≡ Done → result r m ≡ runOf n (o .state) ram rom → b' ≡ saveBytes (r .state) b →
         k ≡ numberOf (r .answer) → x ≡ atOf (r .answer) → CRunMeets n b ram rom k x b' m (r .done)
@@ -189,7 +232,5 @@ module _ (n : ℕ) (b ram rom : List ℕ) where
     run-ran r m a e g h i =
         let f = opened-answer b ram rom o is a in
         let here : result r m ≡ runOf n (openedOf b (length ram) (length rom) .state) ram rom = e ∙ ap (λ (x : Restored). runOf n (x .state) ram rom) is in
-        let v = opened-done b (length ram) (length rom) f in
-        let w : Valid (r .state) = subst (λ (x : Result). Valid (x .state)) (sym here) (run-valid n _ ram rom (v .0)) in
-        let s = saved-whole (r .state) b w (v .1) in
+        let s = saved-over b ram rom o is (r .state) a (λ v. subst (λ (x : Result). Valid (x .state)) (sym here) (run-valid n _ ram rom v)) in
         (rw (le-ltb 1000000 n few, f, sym here, h, i, g, s .1) refl, rw (le-ltb 1000000 n few, f, sym here) refl)

@@ -1,4 +1,6 @@
+pub mod Taken
 pub mod Laws
 pub mod Records
+pub mod Requests
 pub mod Settled
 pub mod Demand

@@ -21,7 +21,7 @@ use Rattle.state.proofs.Valid.{Valid, valid-says, valid-from, and-true}
 use Rattle.saved.specs.declared.Restored.{Restored}
 use Rattle.saved.specs.Record.{recordLength, recordOf, stateAt, fixedAt, isRecord, restoredFrom, restoredOf, refusedRecord}
 use Rattle.saved.proofs.RoundTrip.{saved-reads-back, read-saves-back, sound-at}
-use Rattle.operand.specs.Try.{Try, did, no, Outcome, leaves}
+use Rattle.operand.specs.Try.{Try, did, no, leaves}
 use Rattle.step.specs.Step.{tooLong, tryOf, stepOf}
 use Rattle.turn.specs.Many.{Result, ends}
 use Rattle.run.specs.Run.{runOf}
@@ -31,7 +31,7 @@ use Rattle.turn.proofs.ManySteps.{many-none}
 use Rattle.run.proofs.Laws as run
 use Rattle.run.proofs.Joins.{Checks, pass, fail, checks, one-step-run, run-is-steps, runs-join, run-stops, count-is-true}
 use Rattle.module.specs.Calls.{Left, leftBy, openedOf, unless, stepped, stepLeft, runOpened, ranLeft, whereDone, runLeft, runDone, CRunMeets}
-use Rattle.module.specs.Statements.{HasState, RunOnRecord, StepIsRun, RunCounts, JoinedRuns, RefusedAgain}
+use Rattle.module.specs.Statements.{HasState, outcomeLeft, RunOnRecord, StepIsRun, RunCounts, JoinedRuns, RefusedAgain}
 use Rattle.module.specs.Demand.{CallLeaves}
 use Rattle.module.proofs.Laws.{run-sound, run-valid, run-many, opened-long, opened-loads}
 use Rattle.module.proofs.Laws as call
@@ -94,9 +94,6 @@ run-on-record b ram rom n s h = let m = meets n b ram rom s (held b s h) in (sym
 
 -- ---- a step is a run of one
 -- a refused step leaves the record, and a refused run writes it again as itself
-abbrev outcomeLeft : Outcome → Left
-outcomeLeft o = leftBy (o .answer) (recordOf (o .state)) (o .ram)
-
 stepped-run : (b ram rom : List ℕ) (s : State) → recordOf s ≡ b → stepped (stepOf s ram rom) b ≡ outcomeLeft (stepOf s ram rom)
 unfolding stepOf
 stepped-run b ram rom s back = go (tryOf s ram rom)

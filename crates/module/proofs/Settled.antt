@@ -9,7 +9,7 @@ use lib.Dec.{ltb}
 use borrow.Author.Tests.{ltb-true, ltb-false}
 use Rattle.answer.specs.declared.Answer.{Answer}
 use Rattle.answer.specs.declared.Answer.the-variants.{Done, Refused}
-use Rattle.answer.specs.declared.Why.the-variants.{TooMany, TooLong, Invalid, NoCode, Unlisted, Undefined, Missing, ToRom}
+use Rattle.answer.specs.declared.Why.the-variants.{TooMany, TooLong, Invalid, BadRequest, NoCode, Unlisted, Undefined, Missing, ToRom}
 use Rattle.answer.specs.Number.{numberOf, atOf}
 use Rattle.state.specs.declared.State.{State}
 use Rattle.saved.specs.Record.{recordOf}
@@ -18,21 +18,31 @@ use Rattle.step.specs.Step.{tryOf, stepOf}
 use Rattle.turn.specs.Many.{Result}
 use Rattle.run.specs.Run.{runOf}
 use Rattle.run.proofs.Joins.{Began, none, first, began, run-zero}
-use Rattle.module.specs.Calls.{Left, openedOf, unless, stepped, stepLeft, runOpened, runLeft, CRunMeets}
+use Rattle.request.specs.Request.{requestOf}
+use Rattle.module.specs.Calls.{Left, left, openedOf, unless, stepped, stepLeft, runOpened, runLeft, requestLeft, CRunMeets}
 use Rattle.module.specs.Statements.{Settled, AtZero, ElseZero, StepRefusedKeeps, RunNothingKeeps}
 use Rattle.module.proofs.Laws.{run-many}
 use Rattle.module.proofs.Records.{Start, shut, starts, start, meets}
 
+-- two that leave the same are the same, each in its four parts
+same-parts : (n n' a a' : ℕ) (b b' m m' : List ℕ) → left n a b m ≡ left n' a' b' m' → (n ≡ n') × (a ≡ a') × (b ≡ b') × (m ≡ m')
+same-parts n n' a a' b b' m m' e = (
+  ap (λ (l : Left). l .number) e,
+  ap (λ (l : Left). l .at) e,
+  ap (λ (l : Left). l .bytes) e,
+  ap (λ (l : Left). l .ram) e,
+)
+
 pub settled : (b ram rom : List ℕ) → Settled b ram rom
 settled bytes ram rom = (
   λ n n' b b' e f. (e .0 ∙ sym (f .0), e .1 ∙ sym (f .1)),
-  λ n n' a a' b b' m m' e f.
-      let g = e ∙ sym f in
-      (ap (λ (l : Left). l .number) g, ap (λ (l : Left). l .at) g, ap (λ (l : Left). l .bytes) g, ap (λ (l : Left). l .ram) g),
-  λ steps n n' a a' b b' m m' d d' e f.
-      let g = e .0 ∙ sym (f .0) in
-      (ap (λ (l : Left). l .number) g, ap (λ (l : Left). l .at) g, ap (λ (l : Left). l .bytes) g, ap (λ (l : Left). l .ram) g, e .1 ∙ sym (f .1)),
+  λ n n' a a' b b' m m' e f. same-parts n n' a a' b b' m m' (e ∙ sym f),
+  λ steps n n' a a' b b' m m' d d' e f. and-more (same-parts n n' a a' b b' m m' (e .0 ∙ sym (f .0))) (e .1 ∙ sym (f .1)),
+  λ level vector n n' t t' a a' b b' m m' e f. and-more (same-parts n n' a a' b b' m m' (e .0 ∙ sym (f .0))) (e .1 ∙ sym (f .1)),
 )
+  where
+    and-more : {A B C D E : Type 0} → A × B × C × D → E → A × B × C × D × E
+    and-more (a, b, c, d) e = (a, b, c, d, e)
 
 -- an answer that is neither 5 nor 6 has no address
 none-at : (a : Answer) → (numberOf a ≡ 5 → ⊥) → (numberOf a ≡ 6 → ⊥) → atOf a ≡ 0
@@ -40,6 +50,7 @@ none-at Done f s = refl
 none-at (Refused TooMany) f s = refl
 none-at (Refused TooLong) f s = refl
 none-at (Refused Invalid) f s = refl
+none-at (Refused BadRequest) f s = refl
 none-at (Refused NoCode) f s = refl
 none-at (Refused Unlisted) f s = refl
 none-at (Refused Undefined) f s = refl
@@ -47,10 +58,13 @@ none-at (Refused (Missing x)) f s = absurd (f refl)
 none-at (Refused (ToRom x)) f s = absurd (s refl)
 
 pub else-zero : (b ram rom : List ℕ) → ElseZero b ram rom
-unfolding stepLeft runLeft
+unfolding stepLeft runLeft requestLeft
 else-zero bytes ram rom = (
   (let o = openedOf bytes (length ram) (length rom) in unless-at (o .answer) ram _ (stepped-at (stepOf (o .state) ram rom))),
   λ n. let o = runOpened n bytes ram rom in unless-at (o .answer) ram _ (none-at (runOf n (o .state) ram rom .answer)),
+  λ level vector.
+      let o = openedOf bytes (length ram) (length rom) in
+      unless-at (o .answer) ram _ (none-at (requestOf level vector (o .state) ram rom .answer)),
 )
   where
     unless-at : (a : Answer) (m : List ℕ) (l : Left) → AtZero l → AtZero (unless a bytes m l)

@@ -1,5 +1,5 @@
 -- What each call answers and leaves, over the bytes of a saved record.
-use Rattle.little.specs.Words.{ℕ, _≡_, List, cond, length, ltb, eqb}
+use Rattle.little.specs.Words.{ℕ, _≡_, List, Bool, cond, length, ltb, eqb}
 use Rattle.answer.specs.{declared.Answer.Answer, declared.Answer.the-variants.Done, declared.Answer.the-variants.Refused}
 use Rattle.answer.specs.Number.{numberOf, atOf, firstRefusal}
 use Rattle.answer.specs.declared.Why.the-variants.{TooMany, TooLong, Invalid}
@@ -8,6 +8,7 @@ use Rattle.operand.specs.Try.{Outcome}
 use Rattle.turn.specs.Many.{Result}
 use Rattle.step.specs.{Step.tooLong, Step.stepOf, Reset.resetOf}
 use Rattle.run.specs.Run.{mostSteps, runOf}
+use Rattle.request.specs.Request.{requestOf, tookOf}
 use Rattle.saved.specs.declared.Restored.{Restored}
 
 -- what a call leaves: its number, the address in `at`, the bytes of the record, and those of RAM
@@ -76,6 +77,22 @@ runLeft n bytes ram rom = let o = runOpened n bytes ram rom in unless (o .answer
 unfoldable pub runDone : ℕ → List ℕ → List ℕ → List ℕ → ℕ
 runDone n bytes ram rom = let o = runOpened n bytes ram rom in whereDone (o .answer) (runOf n (o .state) ram rom .done) 0
 
+-- ---- a request for an interrupt
+-- the record of the state after it where it is taken; else the record stays
+abbrev pub offered : Bool → Outcome → List ℕ → Left
+offered took o bytes = leftBy (o .answer) (cond took (recordOf (o .state)) bytes) (o .ram)
+
+-- what a request leaves
+unfoldable pub requestLeft : ℕ → ℕ → List ℕ → List ℕ → List ℕ → Left
+requestLeft level vector bytes ram rom =
+    let o = openedOf bytes (length ram) (length rom) in
+    unless (o .answer) bytes ram (offered (tookOf level vector (o .state) ram rom) (requestOf level vector (o .state) ram rom) bytes)
+
+-- what `taken` holds after it: 1 where it is taken, 0 where the mask keeps it out or it is refused
+unfoldable pub requestTaken : ℕ → ℕ → List ℕ → List ℕ → List ℕ → ℕ
+requestTaken level vector bytes ram rom =
+    let o = openedOf bytes (length ram) (length rom) in whereDone (o .answer) (cond (tookOf level vector (o .state) ram rom) 1 0) 0
+
 -- ---- the promise of each call, of its number and of what it leaves
 -- reset: number, and the bytes b of the record afterwards
 abbrev pub CResetMeets : List ℕ → List ℕ → List ℕ → ℕ → List ℕ → Type 0
@@ -90,3 +107,8 @@ CStepMeets bytes ram rom number at b m = left number at b m ≡ stepLeft bytes r
 abbrev pub CRunMeets : ℕ → List ℕ → List ℕ → List ℕ → ℕ → ℕ → List ℕ → List ℕ → ℕ → Type 0
 CRunMeets steps bytes ram rom number at b m done =
     (left number at b m ≡ runLeft steps bytes ram rom) × (done ≡ runDone steps bytes ram rom)
+
+-- request: what step has, and whether it was taken
+abbrev pub CRequestMeets : ℕ → ℕ → List ℕ → List ℕ → List ℕ → ℕ → ℕ → ℕ → List ℕ → List ℕ → Type 0
+CRequestMeets level vector bytes ram rom number taken at b m =
+    (left number at b m ≡ requestLeft level vector bytes ram rom) × (taken ≡ requestTaken level vector bytes ram rom)

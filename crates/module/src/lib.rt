@@ -1,7 +1,7 @@
 // What C and Rust call. A state crosses as its saved record, an answer as its number and address, and nothing is kept between calls.
 ghost use mathlib.Core.Path.{_≡_};
 ghost use Rattle.answer.specs.Number.{numberOf, atOf};
-ghost use Rattle.module.specs.Calls.{openedOf, CResetMeets, CStepMeets, CRunMeets};
+ghost use Rattle.module.specs.Calls.{openedOf, CResetMeets, CStepMeets, CRunMeets, CRequestMeets};
 use answer::Answer;
 use answer::Why;
 use saved::Restored;
@@ -87,5 +87,35 @@ pub extern "C" fn tlcs900h_run(
     *done = r.done;
     let b = r.answer;
     saved::save(r.state, bytes);
+    told(b, at)
+}
+
+// Offers a request for an interrupt. `taken` is 1 where it is taken; else it is 0, and the record and RAM are as they were.
+#[no_mangle]
+pub extern "C" fn tlcs900h_request(
+    bytes: &mut [u8],
+    ram: &mut [u8],
+    rom: &[u8],
+    level: u32,
+    vector: u32,
+    taken: &mut u8,
+    at: &mut u32,
+) -> u8
+    ensures { λ r. ⌜ CRequestMeets level vector (now (bytes .entry)) (now (ram .entry)) (now (rom .entry))
+        r (now (taken .exit)) (now (at .exit)) (now (bytes .exit)) (now (ram .exit)) ⌝ }
+{
+    *taken = 0;
+    let o = opened(&*bytes, ram.len(), rom.len());
+    let a = o.answer;
+    if let Answer::Refused(_) = a {
+        return told(a, at);
+    }
+    let q = request::request(o.state, ram, rom, level, vector);
+    let b = q.answer;
+    if !q.taken {
+        return told(b, at);
+    }
+    *taken = 1;
+    saved::save(q.state, bytes);
     told(b, at)
 }

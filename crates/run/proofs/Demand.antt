@@ -13,12 +13,12 @@ use Rattle.state.specs.declared.State.{State}
 use Rattle.code.specs.declared.Form.{Form}
 use Rattle.exec.specs.Exec.{pastOf}
 use Rattle.turn.specs.Many.{ends, manyOf}
-use Rattle.run.specs.Run.{RunLeaves}
+use Rattle.run.specs.Run.{runOf, RunLeaves}
 use Rattle.run.specs.Demand.{At, EqualAt, RefusedAt, elementPlace, countOf, EndsAfter, GoesOnAfter, StopsAfter}
 use Rattle.turn.proofs.ManySteps.{many-none}
 use Rattle.run.proofs.Counts.{count-some}
 use Rattle.run.proofs.Known.{rounds-define}
-use Rattle.run.proofs.Repeats.{Clear, NoneEqual, repeat-on, repeat-ends, repeat-refused, refused-at, run-at}
+use Rattle.run.proofs.Repeats.{Clear, NoneEqual, Goes, repeat-on, repeat-ends, repeat-refused, refused-at, run-at}
 
 -- a compare writes nothing
 pub compare-clear : (n : ℕ) (f : Form) (s : State) (ram rom : List ℕ) → f .copies ≡ false → ((i : ℕ) → i < n → Present (elementPlace f s ram rom i)) →
@@ -62,6 +62,17 @@ to-the-end f s ram rom a c none =
     (ended-run (countOf s - 1) f s ram rom a (omega arith)
     (subst (λ (n : ℕ). Clear n f s ram rom) (sym e) c) (λ i h. none i (omega arith)) (inl e))
 
+-- n rounds that go on, as a run of n steps
+pub went-run :
+    (n : ℕ) (f : Form) (s : State) (ram rom : List ℕ) (t : State) (m : List ℕ) → At f s ram rom → n ≤ 1000000 → Goes n 0 0 f s ram rom t m →
+    runOf n s ram rom ≡ ends n t m Done
+went-run n f s ram rom t m a few g =
+    run-at n f s ram rom a few
+    ∙ ap (λ (k : ℕ). manyOf k 0 s ram rom) (sym (add-zero n))
+    ∙ g .goes
+    ∙ many-none (0 + n) t m rom
+    ∙ ap (λ (k : ℕ). ends k t m Done) (zero-add n)
+
 module _ (n : ℕ) (f : Form) (s : State) (ram rom : List ℕ) (a : At f s ram rom) (lt : n < countOf s) (c : Clear n f s ram rom) (none : NoneEqual n f s ram rom) where
   pub goes-on-after : GoesOnAfter f s ram rom (RunLeaves s ram rom) n
   goes-on-after =
@@ -70,11 +81,7 @@ module _ (n : ℕ) (f : Form) (s : State) (ram rom : List ℕ) (a : At f s ram r
         x .0,
         x .1,
         x .2 .rounds,
-        run-at n f s ram rom a (omega arith)
-            ∙ ap (λ (k : ℕ). manyOf k 0 s ram rom) (sym (add-zero n))
-            ∙ x .2 .goes
-            ∙ many-none (0 + n) (x .0) (x .1) rom
-            ∙ ap (λ (k : ℕ). ends k (x .0) (x .1) Done) (zero-add n),
+        went-run n f s ram rom (x .0) (x .1) a (omega arith) (x .2),
         x .2 .counter,
       )
 
