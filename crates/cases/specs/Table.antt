@@ -3,7 +3,7 @@ use Rattle.little.specs.Words.{ℕ, _≡_, List, [], _∷_, replicate}
 use Rattle.answer.specs.declared.{Answer.Answer, Answer.the-variants.Done}
 use Rattle.little.specs.{declared.Size.Size, Bytes.replaced}
 use Rattle.little.specs.declared.Size.the-variants.{Byte, Word, Long}
-use Rattle.state.specs.{declared.State.State, State.resetState, State.lent, State.withCounter, State.withBank, State.withFlags, State.withBothFlags, Register.setRegister}
+use Rattle.state.specs.{declared.State.State, State.resetState, State.lent, State.withCounter, State.withBank, State.withLevel, State.withNesting, State.withFlags, State.withBothFlags, Register.setRegister}
 use Rattle.turn.specs.Many.{ends}
 use Rattle.run.specs.Run.{runOf}
 
@@ -21,12 +21,12 @@ unfoldable pub begin : ℕ → List ℕ → Machine
 begin f ram = machine (lent (resetState 0) (replicate 20 0x5A5A5A5A) 0 0 f 0x51) ram
 
 -- what is different in a machine: nothing; one thing and then another; a register, F or F' with its marks above it (1xx marks H, 2xx V),
--- the bank or the counter, set to a number; the bytes of RAM from an address on
+-- the bank, the level, the nesting count or the counter, set to a number; the bytes of RAM from an address on
 infixl 40 _&_
 pub data Setting : Type 0 where
   nothing : Setting
   _&_ : Setting → Setting → Setting
-  A WA BC DE HL IX XDE XHL XIX XIY XSP F F′ Bank Counter : ℕ → Setting
+  A WA BC DE HL IX XDE XHL XIX XIY XSP F F′ Bank Level Nesting Counter : ℕ → Setting
   Ram : ℕ → List ℕ → Setting
 
 -- a machine with this state in the place of its own; with a register, by its size and code, set
@@ -55,6 +55,8 @@ m ▹ XSP v = setting Long 7 v m
 m ▹ F v = having (withFlags (m .state) v) m
 m ▹ F′ v = having (withBothFlags (m .state) (m .state .flags) v) m
 m ▹ Bank n = having (withBank (m .state) n) m
+m ▹ Level l = having (withLevel (m .state) l) m
+m ▹ Nesting n = having (withNesting (m .state) n) m
 m ▹ Counter a = having (withCounter (m .state) a) m
 m ▹ Ram o bytes = machine (m .state) (replaced o bytes (m .ram))
 

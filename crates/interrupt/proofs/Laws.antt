@@ -25,4 +25,6 @@ pub returned-by :
 unfolding returned withCounter withNesting
 returned-by s low high bank level flags nesting fits e n =
     let m : less 16 (s .nesting) 1 % 2 ^ 16 ≡ less 16 (s .nesting) 1 = omega arith in
-    rw (six-low low high fits, six-high low high fits, m, ← n, ← e (nested s (s .level .0) nesting)) refl
+    let u : ℕ → State = λ c. ruled (nested s (s .level .0) c) bank level flags in
+    rw (six-low low high fits, six-high low high fits, ← e (nested s (s .level .0) (less 16 (s .nesting) 1 % 2 ^ 16)))
+    (ap (λ (c : ℕ). withCounter (u c) high) (n ∙ sym m))

@@ -154,11 +154,11 @@ pub fn load_six(ram: &[u8], rom: &[u8], address: u32) -> LoadedSix
 }
 
 // Stores six bytes at an address, the low two of one value and a whole one above them: the place is looked for once, for all six.
-pub fn store_six(ram: &mut [u8], rom: &[u8], address: u32, low: u32, high: u32) -> Answer
-    ensures { λ r. ⌜ r ≡ storeBytes (now (ram .entry)) (now (rom .entry)) address 6 ⌝ }
-    ensures { λ _. ⌜ now (ram .exit) ≡ ramBytes (now (ram .entry)) (now (rom .entry)) address 6 (sixFrom (low % 2 ^ 16) high) ⌝ }
+pub fn store_six(ram: &mut [u8], rom: &[u8], at: u32, low: u32, high: u32) -> Answer
+    ensures { λ r. ⌜ r ≡ storeBytes (now (ram .entry)) (now (rom .entry)) at 6 ⌝ }
+    ensures { λ _. ⌜ now (ram .exit) ≡ ramBytes (now (ram .entry)) (now (rom .entry)) at 6 (sixFrom (low % 2 ^ 16) high) ⌝ }
 {
-    match find(ram.len(), rom.len(), address, 6) {
+    match find(ram.len(), rom.len(), at, 6) {
         Place::Ram(o) => {
             let m = o + 2;
             let e = o + 6;
@@ -166,8 +166,8 @@ pub fn store_six(ram: &mut [u8], rom: &[u8], address: u32, low: u32, high: u32) 
             little::write(&mut ram[m..e], high);
             Answer::Done
         }
-        Place::Rom(_) => Answer::Refused(Why::ToRom(address)),
-        Place::Missing(a) => Answer::Refused(Why::Missing(a)),
+        Place::Rom(_) => Answer::Refused(Why::ToRom(at)),
+        Place::Missing(x) => Answer::Refused(Why::Missing(x)),
     }
 }
 

@@ -35,7 +35,7 @@ use Rattle.turn.specs.declared.Ran.{Ran}
 use Rattle.turn.specs.Many.{Result, result}
 use Rattle.run.specs.Run.{runOf}
 use Rattle.run.proofs.Joins.{Began, none, first, began, run-zero, one-step-run}
-use Rattle.module.specs.Calls.{Left, left, unless, whereDone, resetAnswer, resetBytes, openedOf, stepLeft, runLeft, runDone, requestLeft, requestTaken}
+use Rattle.module.specs.Calls.{whereDone, resetAnswer, resetBytes, openedOf, stepLeft, runLeft, runDone, requestLeft, requestTaken}
 use Rattle.module.specs.Calls.{CResetMeets, CStepMeets, CRunMeets, CRequestMeets}
 use Rattle.module.proofs.Taken.{request-valid}
 
@@ -153,11 +153,6 @@ module _ (b ram rom : List ℕ) (o : Restored) (is : o ≡ openedOf b (length ra
   opened-answer : {a : Answer} → o .answer ≡ a → held .answer ≡ a
   opened-answer e = ap (λ (x : Restored). x .answer) (sym is) ∙ e
 
-  -- one that is not opened stops the call, whatever that would leave
-  stops : {n x : ℕ} (l : Left) (w : Why) → o .answer ≡ Refused w → n ≡ numberOf (o .answer) → x ≡ atOf (o .answer) →
-      left n x b ram ≡ unless (held .answer) b ram l
-  stops {n} {x} l w a e f = subst (λ (y : ℕ). left n y b ram ≡ unless (held .answer) b ram l) (sym f) (rw (opened-answer a, e, a) refl)
-
   -- over one that is opened, a state that is valid where that in it is can be saved
   saved-over : (s : State) → o .answer ≡ Done → (Valid (held .state) → Valid s) → (saveAnswer s (length b) ≡ Done) × (saveBytes s b ≡ recordOf s)
   saved-over s good f = let v = opened-done b (length ram) (length rom) (opened-answer good) in saved-whole s b (f (v .0)) (v .1)
@@ -169,7 +164,7 @@ module _ (b ram rom : List ℕ) (o : Restored) (is : o ≡ openedOf b (length ra
 
   pub step-stops : {n x : ℕ} (w : Why) → o .answer ≡ Refused w → n ≡ numberOf (o .answer) → x ≡ atOf (o .answer) → CStepMeets b ram rom n x b ram
   unfolding stepLeft
-  step-stops = stops _
+  step-stops {n} {x} w a e f = subst (λ (y : ℕ). CStepMeets b ram rom n y b ram) (sym f) (rw (opened-answer a, e, a) refl)
 
   module _ (r : Ran) (m : List ℕ) (good : o .answer ≡ Done) (e : result r m ≡ runOf 1 (o .state) ram rom) where
     here : uncounted (result r m) ≡ stepOf (held .state) ram rom
@@ -191,7 +186,7 @@ module _ (b ram rom : List ℕ) (o : Restored) (is : o ≡ openedOf b (length ra
     pub request-stops : {n x : ℕ} (w : Why) → o .answer ≡ Refused w → n ≡ numberOf (o .answer) → x ≡ atOf (o .answer) →
         CRequestMeets level vector b ram rom n 0 x b ram
     unfolding requestLeft requestTaken
-    request-stops w a e f = (stops _ w a e f, rw (opened-answer a) refl)
+    request-stops w a e f = (rw (opened-answer a, e, f, a) refl, rw (opened-answer a) refl)
 
     module _ (q : Requested) (m : List ℕ) (good : o .answer ≡ Done) (e : RequestMeets level vector (o .state) ram rom q m) where
       came : after (q .answer) (q .state) m ≡ requestOf level vector (held .state) ram rom
@@ -224,7 +219,9 @@ module _ (n : ℕ) (b ram rom : List ℕ) where
   module _ (few : n ≤ 1000000) (o : Restored) (is : o ≡ openedOf b (length ram) (length rom)) where
     pub run-stops : {k x : ℕ} (w : Why) → o .answer ≡ Refused w → k ≡ numberOf (o .answer) → x ≡ atOf (o .answer) → CRunMeets n b ram rom k x b ram 0
     unfolding runLeft runDone
-    run-stops w a e g = rw (le-ltb 1000000 n few) (stops b ram rom o is _ w a e g, rw (opened-answer b ram rom o is a) refl)
+    run-stops w a e g =
+        let f = opened-answer b ram rom o is a in
+        (rw (le-ltb 1000000 n few, f, e, g, a) refl, rw (le-ltb 1000000 n few, f) refl)
 
     pub run-ran : {k x : ℕ} {b' : List ℕ} (r : Ran) (m : List ℕ) → o .answer ≡ Done → result r m ≡ runOf n (o .state) ram rom → b' ≡ saveBytes (r .state) b →
         k ≡ numberOf (r .answer) → x ≡ atOf (r .answer) → CRunMeets n b ram rom k x b' m (r .done)

@@ -1,6 +1,6 @@
 -- Laws of taking a request.
 use Prim.Native.Nat.{ℕ, _+_, _%_, _^_}
-use mathlib.Core.Path.{_≡_, refl, ap, sym, _∙_}
+use mathlib.Core.Path.{_≡_, refl, ap, ap₂, sym, _∙_}
 use mathlib.Core.List.{List}
 use mathlib.Core.Bool.{Bool, true, false, cond, not, _&&_, _||_}
 use native.Mathlib.Omega.{arith}
@@ -39,7 +39,8 @@ pub entered-is :
 unfolding entered withCounter withLevel withNesting
 entered-is s level vector =
     let m : plus 16 (s .nesting) 1 % 2 ^ 16 ≡ plus 16 (s .nesting) 1 = omega arith in
-    rw (raised-fits level, m) refl
+    let all : ℕ → ℕ → State = λ l n. allOf (s .registers) (vector % 2 ^ 24) (s .bank .0) l (s .flags) (s .spare) n in
+    ap₂ all (sym (raised-fits level)) (sym m)
 
 -- a push that is refused leaves the state as it was, whatever would have come after it
 pub refused-by :

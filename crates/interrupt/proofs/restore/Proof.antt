@@ -1,6 +1,7 @@
-use Prim.Native.Nat.{_/_, _%_}
+use Prim.Native.Nat.{ℕ, _/_, _%_}
 use mathlib.Core.Path.{_≡_, refl, _∙_, ap}
 use native.Mathlib.Omega.{arith}
+use Rattle.flags.specs.Flag.{byteOf, flagsOf}
 use Rattle.state.specs.State.{withBank, withLevel, withFlags, withBothFlags}
 use Rattle.state.specs.inner.Lent.{ruled}
 use Rattle.interrupt.specs.Interrupt.{withSr}
@@ -34,7 +35,8 @@ unfolding withSr withBank withLevel withFlags withBothFlags
 returns c rest =
     let v = c .before .before .before .before .before .before .args .sr in
     let b : v / 256 % 8 % 4 ≡ v / 256 % 4 = omega arith in
-    rw (c .before .before .before .before .before .bank-in .ensures, c .before .before .before .before .level-in .ensures, c .byte .ensures, c .before .unpack .ensures, c .before .before .flags-in .ensures, b) refl
+    rw (c .before .before .before .before .before .bank-in .ensures, c .before .before .before .before .level-in .ensures, c .byte .ensures, c .before .unpack .ensures, c .before .before .flags-in .ensures)
+    (ap (λ (n : ℕ). ruled rest n (v / 4096 % 8) (byteOf (flagsOf (v % 256)))) b)
 
 pub restore-spec : {M : Type 1} → statement M
 restore-spec =

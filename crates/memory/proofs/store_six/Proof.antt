@@ -18,7 +18,7 @@ enum-known-o c = search needs
 
 is-ram : (c : tie.After-o) →
     let a = c .before .before .before .before .before .args in
-    placeOf (length (a .ram .now)) (length (a .rom .now)) (a .address) 6 ≡ Ram (c .o .given .0 .0)
+    placeOf (length (a .ram .now)) (length (a .rom .now)) (a .at) 6 ≡ Ram (c .o .given .0 .0)
 is-ram c = sym (c .before .before .find .ensures) ∙ c .o .given .1
 
 add-m : tie.Need-add-m
@@ -56,8 +56,8 @@ write-requires-2 c κs = search needs
 enum-told : tie.Need-enum-told
 enum-told c = search needs
 
-enum-known-a : tie.Need-enum-known-a
-enum-known-a c = search needs
+enum-known-x : tie.Need-enum-known-x
+enum-known-x c = search needs
 
 same-length : tie.Need-same-length
 same-length c = search needs
@@ -74,7 +74,7 @@ returns-2 : tie.Need-returns-2
 returns-2 c = rw (sym (c .before .before .find .ensures) ∙ c .enum-told .given .1) (refl, refl)
 
 returns-3 : tie.Need-returns-3
-returns-3 c = rw (sym (c .before .before .before .find .ensures) ∙ c .before .a .given .1) (refl, refl)
+returns-3 c = rw (sym (c .before .before .before .find .ensures) ∙ c .before .x .given .1) (refl, refl)
 
 pub store-six-spec : {M : Type 1} → statement M
 store-six-spec =
@@ -93,7 +93,7 @@ store-six-spec =
     part-write-end-2
     write-requires-2
     enum-told
-    enum-known-a
+    enum-known-x
     same-length
     returns
     returns-2
