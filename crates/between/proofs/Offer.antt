@@ -246,3 +246,40 @@ module _ (level address : ℕ) (s : State) (ram rom : List ℕ) where
       let v = valid-says s (t .passed .1) in
       let x = taken-left Valid valid-kept (valid-recounted (Interrupts Reti) refl) v t in
       (valid-from _ (x .0), (λ ok. taken-left Whole whole-kept (whole-recounted (Interrupts Reti) refl) (v, ok) t .0 .1), x .1)
+
+  -- ---- whatever comes of it
+  refused-some : (a : Answer) → ifDone a true ≡ false → (w : Why) × (a ≡ Refused w)
+  refused-some Done e = let z : _≡_ {A = ℕ} 0 1 = cc in absurd (omega arith)
+  refused-some (Refused w) e = (w, refl)
+
+  -- where it is not taken, all is as it was
+  pub untaken-same : tookOf level address s ram rom ≡ false → (requestOf level address s ram rom .state ≡ s) × (requestOf level address s ram rom .ram ≡ ram)
+  unfolding tookOf
+  untaken-same e = go course
+    where
+      kept : (w : Why) → answer ≡ Refused w → (requestOf level address s ram rom .state ≡ s) × (requestOf level address s ram rom .ram ≡ ram)
+      kept w f = let r = offer-refused w f in (r .0, r .1)
+
+      go : Course → (requestOf level address s ram rom .state ≡ s) × (requestOf level address s ram rom .ram ≡ ram)
+      go (long l a) = kept TooLong a
+      go (invalid w v a) = kept Invalid a
+      go (bad p b a) = kept BadRequest a
+      go (out p b t a) = (ap (λ (o : Outcome). o .state) a, ap (λ (o : Outcome). o .ram) a)
+      go (let-in p b t a) =
+          let r = refused-some answer (ap (ifDone answer) (sym t) ∙ e) in
+          kept (r .0) (r .1)
+
+  -- what every change of a state keeps, an offer keeps
+  pub offer-keeps :
+      (P : State → Type 0) → Kept P → ((s : State) (n : ℕ) → P s → P (withNesting s n)) → P s → P (requestOf level address s ram rom .state)
+  offer-keeps P k c ok = go (tookOf level address s ram rom) refl
+    where
+      go : (b : Bool) → tookOf level address s ram rom ≡ b → P (requestOf level address s ram rom .state)
+      go true e = taken-left P k c ok (taken-says e) .0
+      go false e = subst P (sym (untaken-same e .0)) ok
+
+  pub offer-whole : Whole s → Whole (requestOf level address s ram rom .state)
+  offer-whole = offer-keeps Whole whole-kept (whole-recounted (Interrupts Reti) refl)
+
+  pub offer-valid : Valid s → Valid (requestOf level address s ram rom .state)
+  offer-valid = offer-keeps Valid valid-kept (valid-recounted (Interrupts Reti) refl)

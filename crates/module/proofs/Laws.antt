@@ -37,7 +37,7 @@ use Rattle.run.specs.Run.{runOf}
 use Rattle.run.proofs.Joins.{Began, none, first, began, run-zero, one-step-run}
 use Rattle.module.specs.Calls.{whereDone, resetAnswer, resetBytes, openedOf, stepLeft, runLeft, runDone, requestLeft, requestTaken}
 use Rattle.module.specs.Calls.{CResetMeets, CStepMeets, CRunMeets, CRequestMeets}
-use Rattle.module.proofs.Taken.{request-valid}
+use Rattle.between.proofs.Offer.{offer-valid}
 
 -- ---- the states that are written are valid
 reset-valid : (ram rom : List ℕ) → Valid (resetOf ram rom .state)
@@ -207,7 +207,7 @@ module _ (b ram rom : List ℕ) (o : Restored) (is : o ≡ openedOf b (length ra
       pub request-took : {n x : ℕ} {b' : List ℕ} → not (q .taken) ≡ false → b' ≡ saveBytes (q .state) b → n ≡ numberOf (q .answer) →
           x ≡ atOf (q .answer) → CRequestMeets level vector b ram rom n 1 x b' m
       request-took d f =
-          let k = saved-over (q .state) good (λ v. subst (λ (x : Outcome). Valid (x .state)) (sym came) (request-valid level vector _ ram rom v)) in
+          let k = saved-over (q .state) good (λ v. subst (λ (x : Outcome). Valid (x .state)) (sym came) (offer-valid level vector _ ram rom v)) in
           request-told true (on (q .taken) d) (f ∙ k .1)
 
 -- ---- many steps

@@ -1,4 +1,3 @@
-pub mod Taken
 pub mod Laws
 pub mod Records
 pub mod Requests

@@ -15,7 +15,7 @@ use Rattle.step.specs.Step.{tooLong, guarded}
 use Rattle.request.specs.Request.{takes, offeredOf, requestOf, ifDone, tookOf}
 use Rattle.module.specs.Calls.{Left, leftBy, openedOf, unless, whereDone, offered, runLeft, runDone, requestLeft, requestTaken}
 use Rattle.module.specs.Statements.{outcomeLeft, RequestRefusedKeeps, NotTakenKeeps, RequestOnRecord, RunAfterRequest}
-use Rattle.module.proofs.Taken.{not-taken, request-whole}
+use Rattle.between.proofs.Offer.{untaken-same, offer-whole}
 use Rattle.module.proofs.Laws.{opened-long, opened-loads, request-stops}
 use Rattle.module.proofs.Records.{Opens, held, saved-opens, meets}
 
@@ -30,7 +30,7 @@ module _ (b ram rom : List ℕ) where
           let l = unless a b ram (offered t (requestOf level vector s ram rom) b) in (l .bytes ≡ b) × (l .ram ≡ ram)
       go s (Refused w) t e z = (refl, refl)
       go s Done true e z = absurd (omega (arith, z))
-      go s Done false e z = (refl, not-taken level vector s ram rom e .1)
+      go s Done false e z = (refl, untaken-same level vector s ram rom e .1)
 
   pub request-refused-keeps : RequestRefusedKeeps b ram rom
   unfolding requestLeft requestTaken tookOf
@@ -64,7 +64,7 @@ module _ (b ram rom : List ℕ) where
       where
         go : (x : Bool) → t ≡ x → offered x o b ≡ outcomeLeft o
         go true e = refl
-        go false e = ap (λ (l : List ℕ). leftBy (o .answer) l (o .ram)) (sym (ap recordOf (not-taken level vector s ram rom e .0) ∙ back))
+        go false e = ap (λ (l : List ℕ). leftBy (o .answer) l (o .ram)) (sym (ap recordOf (untaken-same level vector s ram rom e .0) ∙ back))
 
     opened-on : openedOf b (length ram) (length rom) ≡ record { answer = Done; state = s } → recordOf s ≡ b → OnState
     unfolding requestLeft requestTaken
@@ -92,7 +92,7 @@ module _ (b ram rom : List ℕ) where
   run-after-request level vector n s h =
       let x = held b s h in
       let o = requestOf level vector s ram rom in
-      let w = request-whole level vector s ram rom (x .valid, x .sound) in
+      let w = offer-whole level vector s ram rom (x .valid, x .sound) in
       let m = meets n (recordOf (o .state)) (o .ram) rom (o .state) (saved-opens (o .state) (w .1) (w .0)) in
       let e = on-state level vector s x .0 in
       (ap (λ (l : Left). runLeft n (l .bytes) (l .ram) rom) e ∙ sym (m .0), ap (λ (l : Left). runDone n (l .bytes) (l .ram) rom) e ∙ sym (m .1))

@@ -1,6 +1,7 @@
 // A request for an interrupt, offered to the machine between two steps.
 ghost use mathlib.Core.Path.{_≡_};
 ghost use mathlib.Core.Bool.{false};
+ghost use Rattle.little.specs.declared.Size.the-variants.{Long};
 ghost use Rattle.memory.specs.Access.{loadOf};
 ghost use Rattle.operand.specs.Try.{withLoaded};
 ghost use Rattle.request.specs.Request.{badRequest, takes, raisedTo, entering, RequestMeets};
@@ -8,7 +9,6 @@ ghost use Rattle.request.specs.inner.Taking.{Takes, pushedOf};
 use answer::Answer;
 use answer::Why;
 use little::ADDRESSES;
-use little::Size;
 use memory::Loaded;
 use state::Level;
 use state::State;
@@ -78,11 +78,11 @@ fn enter(s: State, ram: &mut [u8], rom: &[u8], level: Level, vector: u32) -> Req
 
 // One that the mask lets in. The vector is read before the stack is written: they may overlap.
 fn take(s: State, ram: &mut [u8], rom: &[u8], level: Level, vector: u32) -> Requested
-    ensures { λ r. ⌜ Takes (withLoaded (loadOf (now (ram .entry)) (now (rom .entry)) vector Size.Long)
+    ensures { λ r. ⌜ Takes (withLoaded (loadOf (now (ram .entry)) (now (rom .entry)) vector Long)
             (λ v. entering (pushedOf s) (level .0) v s (now (ram .entry)) (now (rom .entry))))
         s (now (ram .entry)) r (now (ram .exit)) ⌝ }
 {
-    match memory::load(&*ram, rom, vector, Size::Long) {
+    match step::vector(&*ram, rom, vector) {
         Loaded::Value(v) => enter(s, ram, rom, level, v),
         Loaded::Missing(a) => refuse(s, Answer::Refused(Why::Missing(a))),
     }
