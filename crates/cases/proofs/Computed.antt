@@ -1,5 +1,6 @@
--- How a table's runs are computed: all that a run rests on, opened in one place.
-use mathlib.Core.Path.{_≡_}
+-- How a table's runs, and its histories, are computed: all that they rest on, opened in one place.
+use Prim.Native.Nat.{ℕ}
+use mathlib.Core.Path.{_≡_, ap}
 use mathlib.Core.List.{List, [], _∷_, map}
 use Rattle.little.specs.Bytes.{valueOf, bytesFrom, replaced}
 use Rattle.memory.specs.Place.{firstWithout, missingOf, placeOf}
@@ -32,7 +33,10 @@ use Rattle.turn.specs.Once.{onceOf}
 use Rattle.step.specs.Step.{guarded, tryOf}
 use Rattle.turn.specs.Many.{Result, ends, manyOf}
 use Rattle.run.specs.Run.{runOf}
-use Rattle.cases.specs.Table.{Case, ComesOut, OfEach, begin}
+use Rattle.request.specs.Request.{takes, entered, offeredOf, requestOf, tookOf}
+use Rattle.between.specs.History.{taking, historyOf, countedIn}
+use Rattle.operand.specs.Try.{Try}
+use Rattle.cases.specs.Table.{Case, ComesOut, Tale, ComesTo, OfEach, begin}
 
 -- what the run of a row leaves, and what the row says of it
 unfoldable pub left : Case → Result
@@ -47,3 +51,20 @@ pub each : (l : List Case) → map left l ≡ map said l → OfEach ComesOut l
 unfolding left said
 each [] e = tt
 each (c ∷ l) e = let h : left c ≡ said c = cc in let t : map left l ≡ map said l = cc in (h, each l t)
+
+-- the same of histories: a step of one rests on all that a run rests on
+unfoldable pub came : Tale → Try × ℕ
+unfolding left takes entered offeredOf requestOf tookOf historyOf countedIn
+came t =
+    (historyOf (t .events) (t .start .state) (t .start .ram) (t .rom), countedIn taking (t .events) (t .start .state) (t .start .ram) (t .rom))
+
+unfoldable pub told : Tale → Try × ℕ
+told t = (t .outcome, t .taken)
+
+tells : (t : Tale) → came t ≡ told t → ComesTo t
+unfolding came told
+tells t h = (ap (λ (p : Try × ℕ). p .0) h, ap (λ (p : Try × ℕ). p .1) h)
+
+pub each-tale : (l : List Tale) → map came l ≡ map told l → OfEach ComesTo l
+each-tale [] e = tt
+each-tale (t ∷ l) e = let h : came t ≡ told t = cc in let r : map came l ≡ map told l = cc in (tells t h, each-tale l r)

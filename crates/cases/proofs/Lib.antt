@@ -2,6 +2,7 @@ pub mod Computed
 pub mod Cases
 pub mod Runs
 pub mod Marks
+pub mod Interrupts
 pub mod Tests
 pub mod Full
 pub mod Evidence

@@ -1,11 +1,13 @@
--- How a table of runs is written: what a run starts from, and all that it leaves.
+-- How a table of runs, or of histories, is written: what they start from, and all that they leave.
 use Rattle.little.specs.Words.{ℕ, _≡_, List, [], _∷_, replicate}
-use Rattle.answer.specs.declared.{Answer.Answer, Answer.the-variants.Done}
+use Rattle.answer.specs.declared.{Answer.Answer, Answer.the-variants.Done, Why.Why}
 use Rattle.little.specs.{declared.Size.Size, Bytes.replaced}
 use Rattle.little.specs.declared.Size.the-variants.{Byte, Word, Long}
 use Rattle.state.specs.{declared.State.State, State.resetState, State.lent, State.withCounter, State.withBank, State.withLevel, State.withNesting, State.withFlags, State.withBothFlags, Register.setRegister}
+use Rattle.operand.specs.Try.{Try, did, no}
 use Rattle.turn.specs.Many.{ends}
 use Rattle.run.specs.Run.{runOf}
+use Rattle.between.specs.History.{Event, taking, historyOf, countedIn}
 
 -- a state, and the bytes of RAM
 pub record Machine : Type 0 where
@@ -80,6 +82,30 @@ does steps m change = row steps m [] steps change Done
 -- the run leaves just that
 abbrev pub ComesOut : Case → Type 0
 ComesOut c = runOf (c .steps) (c .start .state) (c .start .ram) (c .rom) ≡ ends (c .done) (c .after .state) (c .after .ram) (c .answer)
+
+-- ---- steps and offers of requests from a machine and a ROM, and what they must leave: how many of the requests are taken, and the machine,
+-- or the refusal that ends them
+pub record Tale : Type 0 where
+  pub start : Machine
+  pub rom : List ℕ
+  pub events : List Event
+  pub taken : ℕ
+  pub outcome : Try
+
+-- all of them happen: of the machine only what is named has changed
+abbrev pub goes : Machine → List ℕ → List Event → ℕ → Setting → Tale
+goes m rom es taken change =
+    record { start = m; rom = rom; events = es; taken = taken; outcome = did ((m ▹ change) .state) ((m ▹ change) .ram) }
+
+-- the last of them is refused
+abbrev pub breaks : Machine → List ℕ → List Event → ℕ → Why → Tale
+breaks m rom es taken w = record { start = m; rom = rom; events = es; taken = taken; outcome = no w }
+
+-- they leave just that
+abbrev pub ComesTo : Tale → Type 0
+ComesTo t =
+    (historyOf (t .events) (t .start .state) (t .start .ram) (t .rom) ≡ t .outcome)
+    × (countedIn taking (t .events) (t .start .state) (t .start .ram) (t .rom) ≡ t .taken)
 
 -- something holds of each of a list
 abbrev pub OfEach : {X : Type 0} → (X → Type 0) → List X → Type 0
