@@ -165,8 +165,8 @@ history-keeps es s ram rom t m h =
     walked (λ es s ram. Keeps s ram rom t m) rom t m
     (record { passed = λ p. p; sound = λ ok. ok; room = refl })
     (λ e es s ram u l f k.
-        let x = event-keeps e s ram rom u l f in
-        record { passed = λ p. k .passed (x .passed p); sound = λ ok. k .sound (x .sound ok); room = k .room ∙ x .room })
+    let x = event-keeps e s ram rom u l f in
+    record { passed = λ p. k .passed (x .passed p); sound = λ ok. k .sound (x .sound ok); room = k .room ∙ x .room })
     es s ram h
 
 -- ---- numbers that go round
@@ -177,7 +177,7 @@ without x y c e = omega arith
 joined : (x y z a b c d : ℕ) → (y + a) % 2 ^ 16 ≡ (z + b) % 2 ^ 16 → (x + c) % 2 ^ 16 ≡ (y + d) % 2 ^ 16 → (x + (a + c)) % 2 ^ 16 ≡ (z + (b + d)) % 2 ^ 16
 joined x y z a b c d e f =
     let g : (x + c + (y + a)) % 2 ^ 16 ≡ (y + d + (z + b)) % 2 ^ 16 =
-        add-mod (x + c) (y + a) (2 ^ 16) ∙ ap₂ (λ (m n : ℕ). (m + n) % 2 ^ 16) f e ∙ sym (add-mod (y + d) (z + b) (2 ^ 16)) in
+    add-mod (x + c) (y + a) (2 ^ 16) ∙ ap₂ (λ (m n : ℕ). (m + n) % 2 ^ 16) f e ∙ sym (add-mod (y + d) (z + b) (2 ^ 16)) in
     let h : x + c + (y + a) ≡ x + (a + c) + y = omega arith in
     let i : y + d + (z + b) ≡ z + (b + d) + y = omega arith in
     without (x + (a + c)) (z + (b + d)) y (ap (λ (n : ℕ). n % 2 ^ 16) (sym h) ∙ g ∙ ap (λ (n : ℕ). n % 2 ^ 16) i)
@@ -269,7 +269,7 @@ event-balances (offer level address) s ram rom t m ok e = go (offered level addr
     go : Offered level address s ram rom t m → (t .nesting + 0) % 2 ^ 16 ≡ (s .nesting + one (tookOf level address s ram rom)) % 2 ^ 16
     go (was-taken k) =
         let n : t .nesting ≡ plus 16 (s .nesting) 1 =
-            sym (ap (λ (y : Outcome). y .state .nesting) (request-left level address s ram rom t m e)) ∙ taken-counts level address s ram rom k in
+        sym (ap (λ (y : Outcome). y .state .nesting) (request-left level address s ram rom t m e)) ∙ taken-counts level address s ram rom k in
         rw k (omega (arith, n))
     go (was-not k f g) = let n : t .nesting ≡ s .nesting = ap (λ (u : State). u .nesting) f in rw k (omega (arith, n))
 
@@ -329,7 +329,7 @@ untaken-is-run es s t ram rom m p h none few =
     run-goes s ram rom (countedIn stepping es s ram rom) few (not-long (length ram) (length rom) (p .0 .0) (p .0 .1)) (p .1)
     ∙ walked
     (λ es s ram. Passed s ram rom → countedIn taking es s ram rom ≡ 0 → (d : ℕ) →
-        manyOf (countedIn stepping es s ram rom) d s ram rom ≡ ends (d + countedIn stepping es s ram rom) t m Done)
+    manyOf (countedIn stepping es s ram rom) d s ram rom ≡ ends (d + countedIn stepping es s ram rom) t m Done)
     rom t m nothing event es s ram h p none 0
     ∙ ap (λ (n : ℕ). ends n t m Done) (zero-add (countedIn stepping es s ram rom))
   where
@@ -340,7 +340,7 @@ untaken-is-run es s t ram rom m p h none few =
     event :
         (e : Event) (es : List Event) (s : State) (ram : List ℕ) (u : State) (l : List ℕ) → happens e s ram rom ≡ did u l →
         (Passed u l rom → countedIn taking es u l rom ≡ 0 → (d : ℕ) →
-            manyOf (countedIn stepping es u l rom) d u l rom ≡ ends (d + countedIn stepping es u l rom) t m Done) →
+        manyOf (countedIn stepping es u l rom) d u l rom ≡ ends (d + countedIn stepping es u l rom) t m Done) →
         Passed s ram rom → countedIn taking (e ∷ es) s ram rom ≡ 0 → (d : ℕ) →
         manyOf (countedIn stepping (e ∷ es) s ram rom) d s ram rom ≡ ends (d + countedIn stepping (e ∷ es) s ram rom) t m Done
     event e es s ram u l f rest q z d =

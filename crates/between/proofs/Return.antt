@@ -313,10 +313,10 @@ module _ (level address : ℕ) (s : State) (ram rom : List ℕ) (ok : Sound s) (
       let n : length l ≡ length ram = h .room ∙ m-length in
       let fits : a + 6 ≤ length l = rw n (there .1) in
       let part : take 6 (drop a l) ≡ bytesFrom 6 (returnAddress s) =
-          rw t-pointer at (g .stack) ∙ m-part in
+      rw t-pointer at (g .stack) ∙ m-part in
       let value : valueOf (take 6 (drop a l)) ≡ returnAddress s = ap valueOf part ∙ value-bytes 6 (returnAddress s) address-lt in
       let loads : loadBytes l rom a 6 ≡ loaded.Value (returnAddress s) =
-          ap (λ (p : Place). loadFrom p l rom 6) (place-ram (length l) (length rom) a 6 fits) ∙ ap loaded.Value value in
+      ap (λ (p : Place). loadFrom p l rom 6) (place-ram (length l) (length rom) a 6 fits) ∙ ap loaded.Value value in
       let w = withStack (pastOf 1 u) (plus 32 x 6) in
       let kept = past-parts u (plus 32 x 6) in
       reti-step u l rom (g .rest) (returnAddress s) x (h .passed passed) (g .reti) (stack-end (u .registers) (u .bank) (g .registers)) loads
@@ -355,8 +355,16 @@ module _ (f : Form) (s : State) (ram rom : List ℕ) where
         back,
         λ bytes same. (
           record {
-            sound = at .sound; valid = at .valid; ramBytes = bytes; romBytes = at .romBytes; ramFits = rw n (at .ramFits); romFits = at .romFits;
-            instruction = at .instruction; here = same ∙ at .here; form = at .form; repeats = at .repeats;
+            sound = at .sound;
+            valid = at .valid;
+            ramBytes = bytes;
+            romBytes = at .romBytes;
+            ramFits = rw n (at .ramFits);
+            romFits = at .romFits;
+            instruction = at .instruction;
+            here = same ∙ at .here;
+            form = at .form;
+            repeats = at .repeats;
           },
           every-start f t l rom,
         ),

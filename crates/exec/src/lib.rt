@@ -62,9 +62,9 @@ pub fn alone(
 ) -> Answer
     ensures { λ a. ⌜ Does (λ t m. done (aloneAs read) t m (now (rom .entry)))
         (allOf (now (regs .entry)) (now (counter .entry)) (now (bank .entry)) (now (level .entry))
-            (now (flags .entry)) (now (spare .entry)) (now (nesting .entry))) (now (ram .entry))
+        (now (flags .entry)) (now (spare .entry)) (now (nesting .entry))) (now (ram .entry))
         a (allOf (now (regs .exit)) (now (counter .exit)) (now (bank .exit)) (now (level .exit))
-            (now (flags .exit)) (now (spare .exit)) (now (nesting .exit))) (now (ram .exit)) ⌝ }
+        (now (flags .exit)) (now (spare .exit)) (now (nesting .exit))) (now (ram .exit)) ⌝ }
 {
     let here = *counter;
     match read {

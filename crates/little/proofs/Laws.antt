@@ -150,7 +150,7 @@ unfolding replaced
 joined o p q l r a b =
     let z : o + length p + length q ≡ o + (length p + length q) = omega arith in
     let e : drop (o + length p + length q) r ≡ drop (o + (length p + length q)) l =
-        sym (drop-drop (length q) (o + length p) r) ∙ ap (drop (length q)) b ∙ drop-drop (length q) (o + length p) l ∙ ap (λ (k : ℕ). drop k l) z in
+    sym (drop-drop (length q) (o + length p) r) ∙ ap (drop (length q)) b ∙ drop-drop (length q) (o + length p) l ∙ ap (λ (k : ℕ). drop k l) z in
     rw (a, e, length-append) (append-assoc (take o l) p (q ++ drop (o + (length p + length q)) l) ∙ ap (λ (k : List ℕ). take o l ++ k) (sym (append-assoc p q (drop (o + (length p + length q)) l))))
 
 -- a part replaced, and then the one behind it, is both at once

@@ -70,8 +70,8 @@ six-written o low high l m ys zs fits e q f =
     let four : length (bytesFrom 4 high) ≡ 4 = length-bytes 4 high in
     let k : length m ≡ length l = ap length q ∙ after-two o low l ys fits e in
     let b : take (o + 2) m ++ (zs ++ drop (o + 6 - (o + 2)) (drop (o + 2) m)) ≡ replaced (o + 2) (bytesFrom 4 high) m =
-        rw four-more (written (o + 2) 4 high m zs (omega arith) (rw four-more at f)) in
+    rw four-more (written (o + 2) 4 high m zs (omega arith) (rw four-more at f)) in
     let j : replaced (o + 2) (bytesFrom 4 high) (replaced o (bytesFrom 2 low) l) ≡ replaced o (bytesFrom 2 low ++ bytesFrom 4 high) l =
-        rw two at (replaced-join o (bytesFrom 2 low) (bytesFrom 4 high) l (omega (arith, two, four))) in
+    rw two at (replaced-join o (bytesFrom 2 low) (bytesFrom 4 high) l (omega (arith, two, four))) in
     b ∙ ap (replaced (o + 2) (bytesFrom 4 high)) a ∙ j
     ∙ ap (λ (p : List ℕ). replaced o p l) (ap (λ (p : List ℕ). p ++ bytesFrom 4 high) (low-two low) ∙ sym (bytes-join 2 4 (low % 2 ^ 16) high (omega arith)))

@@ -95,6 +95,13 @@ pub fn load(ram: &[u8], rom: &[u8], address: u32, size: Size) -> Loaded
     }
 }
 
+// The four bytes of a vector. Where they were loaded as all operands are, the compiler laid that load into no step any more.
+pub fn load_vector(ram: &[u8], rom: &[u8], address: u32) -> Loaded
+    ensures { λ r. ⌜ r ≡ loadOf (now (ram .entry)) (now (rom .entry)) address Size.Long ⌝ }
+{
+    load_bytes(ram, rom, address, 4)
+}
+
 // Stores the n low bytes of a value at an address: the part of RAM that they go to is lent to the writer.
 fn store_bytes(ram: &mut [u8], rom: &[u8], address: u32, n: usize, v: u32) -> Answer
     ensures { λ r. ⌜ r ≡ storeBytes (now (ram .entry)) (now (rom .entry)) address n ⌝ }

@@ -68,7 +68,15 @@ fn enter(s: State, ram: &mut [u8], rom: &[u8], level: Level, vector: u32) -> Req
         return refuse(s, a);
     }
     let nesting = std::num::wrapping_add_u16(s.nesting, 1);
-    let t = state::whole(regs, vector % ADDRESSES, b, raised(level), s.flags, s.spare, nesting);
+    let t = state::whole(
+        regs,
+        vector % ADDRESSES,
+        b,
+        raised(level),
+        s.flags,
+        s.spare,
+        nesting,
+    );
     Requested {
         state: t,
         taken: true,
@@ -79,10 +87,10 @@ fn enter(s: State, ram: &mut [u8], rom: &[u8], level: Level, vector: u32) -> Req
 // One that the mask lets in. The vector is read before the stack is written: they may overlap.
 fn take(s: State, ram: &mut [u8], rom: &[u8], level: Level, vector: u32) -> Requested
     ensures { λ r. ⌜ Takes (withLoaded (loadOf (now (ram .entry)) (now (rom .entry)) vector Long)
-            (λ v. entering (pushedOf s) (level .0) v s (now (ram .entry)) (now (rom .entry))))
+        (λ v. entering (pushedOf s) (level .0) v s (now (ram .entry)) (now (rom .entry))))
         s (now (ram .entry)) r (now (ram .exit)) ⌝ }
 {
-    match step::vector(&*ram, rom, vector) {
+    match memory::load_vector(&*ram, rom, vector) {
         Loaded::Value(v) => enter(s, ram, rom, level, v),
         Loaded::Missing(a) => refuse(s, Answer::Refused(Why::Missing(a))),
     }

@@ -44,7 +44,14 @@ fn below(bank: Bank, regs: &[u32; 20], n: u32) -> u32
 }
 
 // Stores below the stack's end, and moves the end there where the store is done.
-pub fn push(bank: Bank, regs: &mut [u32; 20], ram: &mut [u8], rom: &[u8], size: Size, v: u32) -> Answer
+pub fn push(
+    bank: Bank,
+    regs: &mut [u32; 20],
+    ram: &mut [u8],
+    rom: &[u8],
+    size: Size,
+    v: u32,
+) -> Answer
     ensures { λ a. ⌜ ((s : State) → Does (λ t m. pushOf t m (now (rom .entry)) size v)
         (banked s (now (regs .entry)) bank) (now (ram .entry))
         a (banked s (now (regs .exit)) bank) (now (ram .exit))) ⌝ }

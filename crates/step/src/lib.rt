@@ -1,7 +1,7 @@
 // One step: the instruction at the counter is done as the book says, or refused and nothing changes.
 ghost use mathlib.Core.Path.{_≡_};
 ghost use denote.Ref.{ptr};
-ghost use Rattle.memory.specs.Access.{codeAt, loadOf};
+ghost use Rattle.memory.specs.Access.{codeAt};
 ghost use Rattle.code.specs.Listed.{decodeOf};
 ghost use Rattle.step.specs.Result.{doneWith, refusedWith, outcome};
 ghost use Rattle.operand.specs.Try.{leaves};
@@ -13,7 +13,6 @@ use answer::Answer;
 use answer::Why;
 use code::Decoded;
 use little::ADDRESSES;
-use little::Size;
 use memory::Loaded;
 use state::State;
 
@@ -130,20 +129,13 @@ pub fn show<'a>(ram: &'a [u8], rom: &'a [u8], at: u32) -> &'a [u8]
     &rom[..0]
 }
 
-// The four bytes of a vector: at reset, and of a request. One place calls for both, so that the compiler lays loads in where steps do them.
-pub fn vector(ram: &[u8], rom: &[u8], address: u32) -> Loaded
-    ensures { λ r. ⌜ r ≡ loadOf (now (ram .entry)) (now (rom .entry)) address Size.Long ⌝ }
-{
-    memory::load(ram, rom, address, Size::Long)
-}
-
 pub fn reset(ram: &[u8], rom: &[u8]) -> Stepped
     ensures { λ r. ⌜ ResetMeets (now (ram .entry)) (now (rom .entry)) r ⌝ }
 {
     if too_long(ram.len(), rom.len()) {
         return refuse(State::zero(), Why::TooLong);
     }
-    match vector(ram, rom, State::VECTOR) {
+    match memory::load_vector(ram, rom, State::VECTOR) {
         Loaded::Value(v) => done(State::at_reset(v)),
         Loaded::Missing(a) => refuse(State::zero(), Why::Missing(a)),
     }

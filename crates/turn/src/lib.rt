@@ -141,9 +141,9 @@ fn once(
     ensures { λ a. ⌜ Fewer a (now (more .entry)) (now (more .exit)) ⌝ }
     ensures { λ a. ⌜ Does (λ t m. timesOf (suc (now (more .entry) - now (more .exit))) t m (now (rom .entry)))
         (allOf (now (regs .entry)) (now (counter .entry)) (now (bank .entry)) (now (level .entry))
-            (now (flags .entry)) (now (spare .entry)) (now (nesting .entry))) (now (ram .entry))
+        (now (flags .entry)) (now (spare .entry)) (now (nesting .entry))) (now (ram .entry))
         a (allOf (now (regs .exit)) (now (counter .exit)) (now (bank .exit)) (now (level .exit))
-            (now (flags .exit)) (now (spare .exit)) (now (nesting .exit))) (now (ram .exit)) ⌝ }
+        (now (flags .exit)) (now (spare .exit)) (now (nesting .exit))) (now (ram .exit)) ⌝ }
 {
     let code = memory::fetch(&*ram, rom, *counter);
     if code.len() == 0 {
@@ -153,7 +153,16 @@ fn once(
     if b < 0x80 {
         let read = first::read(code, b);
         return alone(
-            read, regs, counter, bank, level, flags, spare, nesting, ram, rom,
+            read,
+            regs,
+            counter,
+            bank,
+            level,
+            flags,
+            spare,
+            nesting,
+            ram,
+            rom,
         );
     }
     let bank = current(&*bank);
@@ -221,10 +230,14 @@ pub fn many(s: State, ram: &mut [u8], rom: &[u8], steps: u32) -> Ran
             &mut left,
         );
         if let Answer::Refused(w) = a {
-            let t = state::whole(regs, counter, current(&bank), mask(&level), flags, spare, nesting);
+            let b = current(&bank);
+            let l = mask(&level);
+            let t = state::whole(regs, counter, b, l, flags, spare, nesting);
             return stop(t, steps - 1 - left, Answer::Refused(w));
         }
     }
-    let t = state::whole(regs, counter, current(&bank), mask(&level), flags, spare, nesting);
+    let b = current(&bank);
+    let l = mask(&level);
+    let t = state::whole(regs, counter, b, l, flags, spare, nesting);
     stop(t, steps, Answer::Done)
 }

@@ -57,9 +57,11 @@ returns-2 c =
     let p = c .before .before .before .before .before .before .before .push-six in
     let e = rw (c .before .before .before .before .before .before .before .before .sr .ensures) at (p .ensures (a .s)) in
     let u = banked (a .s) (p .last .1 .0) (a .s .bank) in
-    rw (c .whole .ensures, c .before .raised .ensures, c .before .before .wrapping-add-u16 .ensures)
-    (ap (λ (t : State). after Done t (p .last .1 .1 .0)) (entered-is u (a .level .0) (a .vector))
-    ∙ then-done (a .s) (a .ram .now) (p .result) u _ (entered (a .level .0) (a .vector)) (pushBytes (a .s) (a .ram .now) (a .rom .now) 6 (pushedOf (a .s))) e (c .before .before .before .enum-told2 .given .1), refl)
+    rw (c .whole .ensures, c .before .raised .ensures, c .before .before .wrapping-add-u16 .ensures) (
+      ap (λ (t : State). after Done t (p .last .1 .1 .0)) (entered-is u (a .level .0) (a .vector))
+          ∙ then-done (a .s) (a .ram .now) (p .result) u _ (entered (a .level .0) (a .vector)) (pushBytes (a .s) (a .ram .now) (a .rom .now) 6 (pushedOf (a .s))) e (c .before .before .before .enum-told2 .given .1),
+      refl,
+    )
 
 pub enter-spec : {M : Type 1} → statement M
 enter-spec =

@@ -17,8 +17,8 @@ returns : tie.Need-returns
 unfolding resetOf
 returns c = c .refuse .ensures ∙ rw (sym (c .before .before .before .too-long .ensures) ∙ c .before .before .if1 .taken, c .before .zero .ensures) refl
 
-vector-requires : tie.Need-vector-requires
-vector-requires c κs = search needs
+load-vector-requires : tie.Need-load-vector-requires
+load-vector-requires c κs = search needs
 
 enum-known-v : tie.Need-enum-known-v
 enum-known-v c = search needs
@@ -42,13 +42,13 @@ returns-2 : tie.Need-returns-2
 unfolding resetOf
 returns-2 c =
     c .done .ensures
-    ∙ rw (sym (c .before .before .before .before .before .before .before .too-long .ensures) ∙ c .before .before .before .before .before .before .if1 .left, sym (c .before .before .before .before .before .vector .ensures) ∙ c .before .before .before .v .given .1, c .before .at-reset .ensures) refl
+    ∙ rw (sym (c .before .before .before .before .before .before .before .too-long .ensures) ∙ c .before .before .before .before .before .before .if1 .left, sym (c .before .before .before .before .before .load-vector .ensures) ∙ c .before .before .before .v .given .1, c .before .at-reset .ensures) refl
 
 returns-3 : tie.Need-returns-3
 unfolding resetOf
 returns-3 c =
     c .refuse2 .ensures
-    ∙ rw (sym (c .before .before .before .before .before .before .before .too-long .ensures) ∙ c .before .before .before .before .before .before .if1 .left, sym (c .before .before .before .before .before .vector .ensures) ∙ c .before .before .before .a .given .1, c .before .zero2 .ensures) refl
+    ∙ rw (sym (c .before .before .before .before .before .before .before .too-long .ensures) ∙ c .before .before .before .before .before .before .if1 .left, sym (c .before .before .before .before .before .load-vector .ensures) ∙ c .before .before .before .a .given .1, c .before .zero2 .ensures) refl
 
 pub reset-spec : {M : Type 1} → statement M
 reset-spec =
@@ -58,7 +58,7 @@ reset-spec =
     zero-requires
     refuse-requires
     returns
-    vector-requires
+    load-vector-requires
     enum-known-v
     at-reset-requires
     done-requires

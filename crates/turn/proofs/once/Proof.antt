@@ -26,7 +26,7 @@ same-length c = search needs
 returns : tie.Need-returns
 returns c = (
   refl,
-      let a = c .before .before .before .before .before .before .args in
+  let a = c .before .before .before .before .before .before .args in
       let code = c .before .fetch .result .now in
       let s = allOf (a .regs .now) (a .counter .now) (a .bank .now) (a .level .now) (a .flags .now) (a .spare .now) (a .nesting .now) in
       ap (leaves s (a .ram .now)) (once-by s (a .ram .now) (a .rom .now) code Short (a .more .now) (c .before .fetch .ensures .0) (none-says code (omega (arith, c .if1 .taken)))),
@@ -47,7 +47,7 @@ same-length-2 c = search needs
 returns-2 : tie.Need-returns-2
 returns-2 c = (
   fewer-same (c .before .before .alone .result) (c .before .before .before .before .before .before .before .before .before .before .before .before .before .before .before .before .before .before .before .before .args .more .now),
-      let a = c .before .before .before .before .before .before .before .before .before .before .before .before .before .before .before .before .before .before .before .before .args in
+  let a = c .before .before .before .before .before .before .before .before .before .before .before .before .before .before .before .before .before .before .before .before .args in
       let code = c .before .before .before .before .before .before .before .before .before .before .before .before .before .before .before .fetch .result .now in
       let s = allOf (a .regs .now) (a .counter .now) (a .bank .now) (a .level .now) (a .flags .now) (a .spare .now) (a .nesting .now) in
       c .before .before .alone .ensures
@@ -98,7 +98,7 @@ same-length-3 c = search needs
 returns-3 : tie.Need-returns-3
 returns-3 c = (
   fewer-same (c .of-register .result) (c .before .before .before .before .before .before .before .before .before .before .before .before .before .before .before .before .before .args .more .now),
-      let a = c .before .before .before .before .before .before .before .before .before .before .before .before .before .before .before .before .before .args in
+  let a = c .before .before .before .before .before .before .before .before .before .before .before .before .before .before .before .before .before .args in
       let code = c .before .before .before .before .before .before .before .before .before .before .before .before .fetch .result .now in
       let s = allOf (a .regs .now) (a .counter .now) (a .bank .now) (a .level .now) (a .flags .now) (a .spare .now) (a .nesting .now) in
       (rw (c .before .before .before .before .before .before .before .current .ensures) at (c .of-register .ensures s (a .ram .now) (a .rom .now)))
@@ -112,7 +112,7 @@ same-length-4 c = search needs
 returns-4 : tie.Need-returns-4
 returns-4 c = (
   c .before .before .of-memory .ensures .0,
-      let a = c .before .before .before .before .before .before .before .before .before .before .before .before .before .before .before .before .before .before .before .before .before .before .before .before .before .before .args in
+  let a = c .before .before .before .before .before .before .before .before .before .before .before .before .before .before .before .before .before .before .before .before .before .before .before .before .before .before .args in
       let s = allOf (a .regs .now) (a .counter .now) (a .bank .now) (a .level .now) (a .flags .now) (a .spare .now) (a .nesting .now) in
       rw (c .before .before .before .before .before .before .before .before .before .before .before .before .before .before .before .before .current .ensures) at (c .before .before .of-memory .ensures .1 s),
 )
@@ -123,7 +123,7 @@ same-length-5 c = search needs
 returns-5 : tie.Need-returns-5
 returns-5 c = (
   refl,
-      let a = c .before .before .before .before .before .before .before .before .before .before .before .before .before .before .args in
+  let a = c .before .before .before .before .before .before .before .before .before .before .before .before .before .before .args in
       let code = c .before .before .before .before .before .before .before .before .before .fetch .result .now in
       let s = allOf (a .regs .now) (a .counter .now) (a .bank .now) (a .level .now) (a .flags .now) (a .spare .now) (a .nesting .now) in
       let d = memory-says code (omega (arith, c .before .before .before .before .before .before .before .before .if1 .left)) (omega (arith, c .before .before .before .before .before .before .if2 .left)) (omega (arith, c .before .before .before .before .before .before .before .shared-slice-known2 .given 0)) (c .before .before .before .match .rest .1) in
@@ -137,7 +137,7 @@ same-length-6 c = search needs
 returns-6 : tie.Need-returns-6
 returns-6 c = (
   refl,
-      let a = c .before .before .before .before .before .before .before .before .before .before .before .before .before .before .args in
+  let a = c .before .before .before .before .before .before .before .before .before .before .before .before .before .before .args in
       let code = c .before .before .before .before .before .before .before .before .before .fetch .result .now in
       let s = allOf (a .regs .now) (a .counter .now) (a .bank .now) (a .level .now) (a .flags .now) (a .spare .now) (a .nesting .now) in
       let d = memory-says code (omega (arith, c .before .before .before .before .before .before .before .before .if1 .left)) (omega (arith, c .before .before .before .before .before .before .if2 .left)) (omega (arith, c .before .before .before .before .before .before .before .shared-slice-known2 .given 0)) (c .before .before .before .match .rest .1) in
