@@ -37,10 +37,12 @@ use Rattle.facts.specs.Touched.{belowStack, KeepsRest}
 use Rattle.facts.proofs.Kept.{spares-length}
 use Rattle.facts.proofs.Levels.{step-counts}
 use Rattle.facts.proofs.Statements.{some, not-long, operated, keeps-valid}
-use Rattle.turn.specs.Many.{ends, manyOf}
+use Rattle.turn.specs.Many.{Result, ends, manyOf}
 use Rattle.turn.proofs.ManySteps.{many-none, many-did}
 use Rattle.turn.specs.Once.{onceOf}
 use Rattle.run.specs.Run.{mostSteps, runOf}
+use Rattle.run.specs.Statements.{later}
+use Rattle.run.proofs.Joins.{runs-join, run-is-steps}
 use Rattle.run.proofs.Laws.{try-once, run-goes}
 use Rattle.run.proofs.Rounds.{same-did, refused-not}
 use Rattle.request.specs.Request.{takes, entered, entering, returnAddress, offeredOf, requestOf, ifDone, tookOf}
@@ -324,8 +326,10 @@ untaken (offer level address) s ram u l d n t m rom p f k rest = go (offered lev
     go (was-taken x) = let z : _≡_ {A = ℕ} 0 1 = ap (λ (b : Bool). cond b 0 1) (sym x ∙ k) in absurd (omega arith)
     go (was-not x g h) = rw (zero-add, ← g, ← h) (rest d)
 
-pub untaken-is-run : (es : List Event) (s t : State) (ram rom m : List ℕ) → UntakenIsRun es s t ram rom m
-untaken-is-run es s t ram rom m p h none few =
+untaken-run :
+    (es : List Event) (s t : State) (ram rom m : List ℕ) → Passed s ram rom → historyOf es s ram rom ≡ did t m → countedIn taking es s ram rom ≡ 0 →
+    countedIn stepping es s ram rom ≤ mostSteps → runOf (countedIn stepping es s ram rom) s ram rom ≡ ends (countedIn stepping es s ram rom) t m Done
+untaken-run es s t ram rom m p h none few =
     run-goes s ram rom (countedIn stepping es s ram rom) few (not-long (length ram) (length rom) (p .0 .0) (p .0 .1)) (p .1)
     ∙ walked
     (λ es s ram. Passed s ram rom → countedIn taking es s ram rom ≡ 0 → (d : ℕ) →
@@ -347,3 +351,20 @@ untaken-is-run es s t ram rom m p h none few =
         rw (counted-on e es s ram rom stepping u l f)
         (untaken e s ram u l d (countedIn stepping es u l rom) t m rom q f (no-more e s ram u l es rom f z .0)
         (rest (event-keeps e s ram rom u l f .passed q) (no-more e s ram u l es rom f z .1)))
+
+-- a run of n steps that are done, whose next step is refused
+stopped-there :
+    (n : ℕ) (s t : State) (ram rom m : List ℕ) (w : Why) → n < mostSteps → runOf n s ram rom ≡ ends n t m Done → tryOf t m rom ≡ no w →
+    runOf (n + 1) s ram rom ≡ ends n t m (Refused w)
+stopped-there n s t ram rom m w few e f =
+    let d : runOf n s ram rom .answer ≡ Done = ap (λ (r : Result). r .answer) e in
+    let one : runOf 1 t m rom ≡ ends 0 t m (Refused w) = run-is-steps t m rom 0 (omega arith) .1 w f in
+    runs-join s ram rom n 1 (omega arith) d
+    ∙ ap (λ (r : Result). later n (runOf 1 (r .state) (r .ram) rom)) e
+    ∙ ap (later n) one
+    ∙ ap (λ (k : ℕ). ends k t m (Refused w)) (add-zero n)
+
+pub untaken-is-run : (es : List Event) (s t : State) (ram rom m : List ℕ) → UntakenIsRun es s t ram rom m
+untaken-is-run es s t ram rom m p h none few =
+    let e = untaken-run es s t ram rom m p h none (omega arith) in
+    (e, λ w f. stopped-there (countedIn stepping es s ram rom) s t ram rom m w few e f)

@@ -185,10 +185,6 @@ module _ (level address : ℕ) (s : State) (ram rom : List ℕ) where
       back (out p b t a) h = absurd (h .1 (not-bad-good level address b))
       back (let-in p b t a) h = absurd (h .1 (not-bad-good level address b))
 
-  pub offered-when : OfferedWhen level address s ram rom
-  offered-when =
-      record { one = one-holds; two = two-holds; nine = nine-holds; operands = λ p g t. in-answer p (good-not-bad level address g) t }
-
   pub not-taken : NotTaken level address s ram rom
   unfolding tookOf
   not-taken p g t =
@@ -227,6 +223,18 @@ module _ (level address : ℕ) (s : State) (ram rom : List ℕ) where
       go (bad p b a) d t = absurd (omega (arith, ap numberOf (sym a ∙ d)))
       go (out p b o a) d t = record { passed = p; good = b; lets = t; done = d }
       go (let-in p b i a) d t = record { passed = p; good = b; lets = t; done = d }
+
+  taken-holds :
+      (tookOf level address s ram rom ≡ true) ⇔ (Passed s ram rom × Good level address × (admitted ≡ true) × (operands ≡ Done))
+  unfolding tookOf
+  taken-holds = (
+    λ e. let t = taken-says e in (t .passed, not-bad-good level address (t .good), t .lets, sym (in-answer (t .passed) (t .good) (t .lets)) ∙ t .done),
+    λ h. ap (λ (a : Answer). ifDone a admitted) (in-answer (h .0) (good-not-bad level address (h .1)) (h .2) ∙ h .3) ∙ h .2,
+  )
+
+  pub offered-when : OfferedWhen level address s ram rom
+  offered-when =
+      record { one = one-holds; two = two-holds; nine = nine-holds; operands = λ p g t. in-answer p (good-not-bad level address g) t; taken = taken-holds }
 
   pub taken-is : Taken → requestOf level address s ram rom ≡ leaves s ram (takenOf level address s ram rom)
   taken-is t = left-by (takenOf level address s ram rom) (offer-in (t .passed) (t .good) (t .lets))

@@ -346,8 +346,8 @@ unmarked-same : (s : State) → marksOf (s .flags) ≡ 0 → unmarked s ≡ s
 unfolding withFlags withBothFlags
 unmarked-same s e = let f : fOf (s .flags) ≡ s .flags = omega arith in rw f refl
 
-module _ (f : Form) (s : State) (ram rom : List ℕ) where
-  goes-on : (t : State) (m : List ℕ) → At f t m rom → marksOf (t .flags) ≡ 0 → GoesOn f s ram rom t m
+module _ (f : Form) (rom : List ℕ) where
+  goes-on : (t : State) (m : List ℕ) → At f t m rom → marksOf (t .flags) ≡ 0 → GoesOn f rom t m
   goes-on t m at none level address es u l k g =
       let back = handler-returns level address t m rom es u l (at .sound) k g ∙ ap (λ (z : State). after Done z l) (unmarked-same t none) in
       let h = history-keeps es _ _ rom u l (g .came) in
@@ -370,8 +370,8 @@ module _ (f : Form) (s : State) (ram rom : List ℕ) where
         ),
       )
 
-  pub rounds-go-on : RoundsGoOn f s ram rom
-  rounds-go-on n at some lt passes spares =
+  pub rounds-go-on : RoundsGoOn f rom
+  rounds-go-on s ram n at some lt passes spares =
       let y = repeat-on n 0 0 f s ram rom at lt (clear passes spares) (λ i h. passes i h .2) in
       let few = count-some s in (
         y .0,

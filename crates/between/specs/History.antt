@@ -1,6 +1,6 @@
 -- Steps with offers of requests between them, one after the other (request K8). Each statement is proved in proofs/History.antt.
-use Rattle.little.specs.Words.{ℕ, zero, suc, _+_, _%_, _^_, _≤_, _≡_, List, [], _∷_, Bool, true, false, cond}
-use Rattle.answer.specs.declared.Answer.the-variants.{Done}
+use Rattle.little.specs.Words.{ℕ, zero, suc, _+_, _%_, _^_, _<_, _≡_, List, [], _∷_, Bool, true, false, cond}
+use Rattle.answer.specs.declared.{Answer.the-variants.Done, Answer.the-variants.Refused, Why.Why}
 use Rattle.memory.specs.Access.{codeAt}
 use Rattle.state.specs.{declared.State.State, Sound.Sound}
 use Rattle.code.specs.{declared.Op.Op, declared.Interrupt.Interrupt, declared.Decoded.Decoded, Listed.decodeOf}
@@ -23,7 +23,8 @@ abbrev pub happens : Event → State → List ℕ → List ℕ → Try
 happens step s ram rom = tryOf s ram rom
 happens (offer level address) s ram rom = offeredOf level address s ram rom
 
--- events one after the other, each on the state and RAM that the one before left; or the first refusal
+-- events one after the other, each on the state and RAM that the one before left; or the first refusal. An offer that is refused leaves
+-- all as it was (OfferRefused, between/Offer): who goes on after it has the history without it
 unfoldable pub historyOf : List Event → State → List ℕ → List ℕ → Try
 historyOf [] s ram rom = did s ram
 historyOf (e ∷ es) s ram rom =
@@ -86,8 +87,10 @@ module _ (es : List Event) (s t : State) (ram rom m : List ℕ) where
   NestingComesBack =
       Sound s → historyOf es s ram rom ≡ did t m → countedIn taking es s ram rom ≡ countedIn returning es s ram rom → t .nesting ≡ s .nesting
 
-  -- where no request is taken, the steps are the plain run: what is proved of a run, demand 3 too, holds with such offers among its steps
+  -- where no request is taken, the steps are the plain run, and where the next step is refused, the plain run stops there: what is proved of
+  -- a run, demand 3 too, holds with offers that are not taken among its steps
   abbrev pub UntakenIsRun : Type 0
   UntakenIsRun =
-      Passed s ram rom → historyOf es s ram rom ≡ did t m → countedIn taking es s ram rom ≡ 0 → countedIn stepping es s ram rom ≤ mostSteps →
-      runOf (countedIn stepping es s ram rom) s ram rom ≡ ends (countedIn stepping es s ram rom) t m Done
+      let n = countedIn stepping es s ram rom in
+      Passed s ram rom → historyOf es s ram rom ≡ did t m → countedIn taking es s ram rom ≡ 0 → n < mostSteps →
+      (runOf n s ram rom ≡ ends n t m Done) × ((w : Why) → tryOf t m rom ≡ no w → runOf (n + 1) s ram rom ≡ ends n t m (Refused w))

@@ -13,7 +13,7 @@ Good level address = (1 ≤ level) × (level ≤ 7) × (address < 2 ^ 24)
 
 module _ (level address : ℕ) (s : State) (ram rom : List ℕ) where
   -- each number is given in its stated case and in no other: 1, 2, 9; then, where the mask lets it in, 5 of the vector's four bytes,
-  -- and 5 and 6 of the six bytes below the stack, each with its address
+  -- and 5 and 6 of the six bytes below the stack, each with its address; and it is taken where none of these is given and the mask lets it in
   pub record OfferedWhen : Type 0 where
     pub one : (requestOf level address s ram rom .answer ≡ Refused TooLong) ⇔ ((2 ^ 16 < length ram) ⊎ (2 ^ 16 < length rom))
     pub two : (requestOf level address s ram rom .answer ≡ Refused Invalid) ⇔ (Within ram rom × (validOf s ≡ false))
@@ -21,6 +21,10 @@ module _ (level address : ℕ) (s : State) (ram rom : List ℕ) where
     pub operands :
         Passed s ram rom → Good level address → takes (s .level .0) level ≡ true →
         requestOf level address s ram rom .answer ≡ operandsAnswer ram rom (bytes address 4) (belowStack s 6)
+    pub taken :
+        (tookOf level address s ram rom ≡ true)
+        ⇔ (Passed s ram rom × Good level address × (takes (s .level .0) level ≡ true)
+        × (operandsAnswer ram rom (bytes address 4) (belowStack s 6) ≡ Done))
 
   -- one that is not taken is as if it had not been offered, whatever the vector's address is: state and RAM are as they were, and the number is 0
   abbrev pub NotTaken : Type 0

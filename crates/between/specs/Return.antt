@@ -19,7 +19,8 @@ abbrev pub unmarked : State → State
 unmarked s = withFlags s (fOf (s .flags))
 
 -- From t and m on these events lead to u and l: to RETI, with all registers, F' and the nesting count as they were in t, and the six bytes
--- of the stack as they were in m. Bank, level, F and the rest of RAM may be others: a handler, which may be interrupted itself.
+-- of the stack as they were in m. Bank, level, F and the rest of RAM may be others: a handler, which may be interrupted itself. One that
+-- leaves other values in a bank that nobody uses is not among these.
 pub record GivesBack (t : State) (m rom : List ℕ) (es : List Event) (u : State) (l : List ℕ) : Type 0 where
   pub came : historyOf es t m rom ≡ did u l
   pub registers : u .registers ≡ t .registers
@@ -48,9 +49,9 @@ module _ (level address : ℕ) (s : State) (ram rom : List ℕ) where
       × KeepsRest (belowStack s 6) ram (requestOf level address s ram rom .ram)
 
 -- ---- between two rounds
-module _ (f : Form) (s : State) (ram rom : List ℕ) where
+module _ (f : Form) (rom : List ℕ) where
   -- RETI comes back to t itself, which is at the form, with RAM as the handler left it; and where the form still stands there,
-  -- demand 3 speaks of the rest from there
+  -- demand 3 speaks of the rest from there (`Bytes l` says only what the types see to)
   abbrev pub GoesOn : State → List ℕ → Type 0
   GoesOn t m =
       (level address : ℕ) (es : List Event) (u : State) (l : List ℕ) → tookOf level address t m rom ≡ true →
@@ -62,5 +63,5 @@ module _ (f : Form) (s : State) (ram rom : List ℕ) where
   -- and a handler gives back what it was given: the form goes on with these rounds done
   abbrev pub RoundsGoOn : Type 0
   RoundsGoOn =
-      (n : ℕ) → At f s ram rom → 0 < n → n < countOf s → Passes f s ram rom n → Spares f s n →
+      (s : State) (ram : List ℕ) (n : ℕ) → At f s ram rom → 0 < n → n < countOf s → Passes f s ram rom n → Spares f s n →
       (t : State) × (m : List ℕ) × (roundsOf n f s ram rom ≡ did t m) × (runOf n s ram rom ≡ ends n t m Done) × (t .counter ≡ s .counter) × GoesOn t m

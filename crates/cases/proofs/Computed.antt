@@ -36,7 +36,7 @@ use Rattle.run.specs.Run.{runOf}
 use Rattle.request.specs.Request.{takes, entered, offeredOf, requestOf, tookOf}
 use Rattle.between.specs.History.{taking, historyOf, countedIn}
 use Rattle.operand.specs.Try.{Try}
-use Rattle.cases.specs.Table.{Case, ComesOut, Tale, ComesTo, OfEach, begin}
+use Rattle.cases.specs.Table.{Case, ComesOut, Tale, TaleHolds, OfEach, begin}
 
 -- what the run of a row leaves, and what the row says of it
 unfoldable pub left : Case → Result
@@ -61,10 +61,10 @@ came t =
 unfoldable pub told : Tale → Try × ℕ
 told t = (t .outcome, t .taken)
 
-tells : (t : Tale) → came t ≡ told t → ComesTo t
+tells : (t : Tale) → came t ≡ told t → TaleHolds t
 unfolding came told
 tells t h = (ap (λ (p : Try × ℕ). p .0) h, ap (λ (p : Try × ℕ). p .1) h)
 
-pub each-tale : (l : List Tale) → map came l ≡ map told l → OfEach ComesTo l
+pub each-tale : (l : List Tale) → map came l ≡ map told l → OfEach TaleHolds l
 each-tale [] e = tt
 each-tale (t ∷ l) e = let h : came t ≡ told t = cc in let r : map came l ≡ map told l = cc in (tells t h, each-tale l r)

@@ -1,9 +1,12 @@
 -- Interrupts (request K8): EI, SR on the stack and RETI; and histories, which are steps with offers of requests among them.
-use Rattle.little.specs.Words.{ℕ, List, [], _∷_, replicate}
+use Rattle.little.specs.Words.{ℕ, _≡_, List, [], _∷_, true, replicate}
 use Rattle.answer.specs.declared.Answer.the-variants.{Done}
 use Rattle.answer.specs.declared.Why.the-variants.{TooLong, Invalid, BadRequest, NoCode, Unlisted, Undefined, Missing, ToRom}
+use Rattle.step.specs.Step.{stepOf}
+use Rattle.request.specs.Request.{requestOf, tookOf}
+use Rattle.between.specs.Return.{GivesBack}
 use Rattle.between.specs.History.{Event, step, offer}
-use Rattle.cases.specs.Table.{Machine, Case, ComesOut, Tale, ComesTo, OfEach, Setting, begin, _▹_, _&_, nothing}
+use Rattle.cases.specs.Table.{Machine, Case, ComesOut, Tale, TaleHolds, OfEach, Setting, begin, _▹_, _&_, nothing}
 use Rattle.cases.specs.Table.{A, BC, XDE, XHL, XIX, XSP, F, F′, Bank, Level, Nesting, Counter, Ram, does, row, goes, breaks}
 use Rattle.cases.specs.Runs.{stops, fourRom}
 use Rattle.cases.specs.Marks.{marked}
@@ -212,4 +215,19 @@ gaps =
 abbrev pub InterruptsHold : Type 0
 InterruptsHold =
     OfEach ComesOut enables × OfEach ComesOut pushes × OfEach ComesOut pops × OfEach ComesOut returns
-    × OfEach ComesTo masked × OfEach ComesTo accepted × OfEach ComesTo turnedAway × OfEach ComesTo nestings × OfEach ComesTo gaps
+    × OfEach TaleHolds masked × OfEach TaleHolds accepted × OfEach TaleHolds turnedAway × OfEach TaleHolds nestings × OfEach TaleHolds gaps
+
+-- ---- a handler that gives back what it was given, as between/Return supposes it: PUSH WA, POP WA, and then RETI
+abbrev pub keptRom : List ℕ
+keptRom = 0xFC ∷ 0xFF ∷ 0xFF ∷ 0x00 ∷ 0x28 ∷ 0x48 ∷ 0x07 ∷ 0x00 ∷ []
+
+-- after one round of the search a request is taken, and two steps on the handler has come to its RETI
+abbrev pub HandlerMet : Type 0
+HandlerMet =
+    let s = searchStart ▹ A 0x33 in
+    let r = stepOf (s .state) (s .ram) keptRom in
+    let o = requestOf 3 0xFFFFF8 (r .state) (r .ram) keptRom in
+    let p = stepOf (o .state) (o .ram) keptRom in
+    let q = stepOf (p .state) (p .ram) keptRom in
+    (tookOf 3 0xFFFFF8 (r .state) (r .ram) keptRom ≡ true)
+    × GivesBack (o .state) (o .ram) keptRom (step ∷ step ∷ []) (q .state) (q .ram)

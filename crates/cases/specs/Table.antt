@@ -102,8 +102,8 @@ abbrev pub breaks : Machine → List ℕ → List Event → ℕ → Why → Tale
 breaks m rom es taken w = record { start = m; rom = rom; events = es; taken = taken; outcome = no w }
 
 -- they leave just that
-abbrev pub ComesTo : Tale → Type 0
-ComesTo t =
+abbrev pub TaleHolds : Tale → Type 0
+TaleHolds t =
     (historyOf (t .events) (t .start .state) (t .start .ram) (t .rom) ≡ t .outcome)
     × (countedIn taking (t .events) (t .start .state) (t .start .ram) (t .rom) ≡ t .taken)
 

@@ -1,4 +1,4 @@
--- What a step does to the interrupt level and to the nesting count, proved.
+-- What EI does to the interrupt level, and which steps touch the nesting count, proved.
 use Prim.Native.Nat.{ℕ, _%_, _<_, _≤_}
 use mathlib.Core.Path.{_≡_, refl, sym, ap, _∙_, subst}
 use mathlib.Core.List.{List, _∷_}

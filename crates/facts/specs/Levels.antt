@@ -1,4 +1,4 @@
--- What a step does to the interrupt level and to the nesting count (request K8). Each statement is proved in proofs/Levels.antt.
+-- What EI does to the interrupt level, and which steps touch the nesting count (request K8). Each statement is proved in proofs/Levels.antt.
 use Rattle.little.specs.Words.{ℕ, _<_, _≤_, _≡_, List, _∷_}
 use Rattle.answer.specs.declared.{Why.the-variants.Unlisted, Answer.the-variants.Done, Answer.the-variants.Refused}
 use Rattle.memory.specs.Access.{codeAt}

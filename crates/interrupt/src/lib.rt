@@ -41,7 +41,7 @@ fn push_sr(
     stack::push(bank, regs, ram, rom, Size::Word, sr_of(flags, bank, level))
 }
 
-// The bank, the level and F from a popped SR: each is known, and no flag is marked.
+// The bank, the level and F from a popped SR. Popped flags count as known: none is marked.
 fn restore(sr: u32, bank: &mut u8, level: &mut u8, flags: &mut u16)
     ensures { λ _. ⌜ ((s : State) → ruled s (now (bank .exit)) (now (level .exit)) (now (flags .exit))
         ≡ withSr (ruled s (now (bank .entry)) (now (level .entry)) (now (flags .entry))) sr) ⌝ }

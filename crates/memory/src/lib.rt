@@ -95,7 +95,7 @@ pub fn load(ram: &[u8], rom: &[u8], address: u32, size: Size) -> Loaded
     }
 }
 
-// The four bytes of a vector. Where they were loaded as all operands are, the compiler laid that load into no step any more.
+// The four bytes of a vector. With one caller more of `load` the compiler no longer lays it into a step (docs/DECISIONS.md, 84).
 pub fn load_vector(ram: &[u8], rom: &[u8], address: u32) -> Loaded
     ensures { λ r. ⌜ r ≡ loadOf (now (ram .entry)) (now (rom .entry)) address Size.Long ⌝ }
 {

@@ -1,5 +1,5 @@
 -- What a user may hold an offer to. Each statement is proved in proofs/Statements.antt.
-use Rattle.little.specs.Words.{ℕ, _<_, _≤_, _≡_, List, true, false}
+use Rattle.little.specs.Words.{ℕ, _<_, _≤_, _≡_, _↔_, List, true, false}
 use Rattle.state.specs.{declared.State.State, State.validOf}
 use Rattle.request.specs.{declared.Requested.Requested, Request.takes, Request.RequestMeets}
 
@@ -16,9 +16,6 @@ SevenAlways = (s : State) → validOf s ≡ true → takes (s .level .0) 7 ≡ t
 abbrev pub OnlySeven : Type 0
 OnlySeven = (level : ℕ) → level < 7 → takes 7 level ≡ false
 
--- masks 0 and 1 let every level in, and a mask lets in no level below it
-abbrev pub LowMasks : Type 0
-LowMasks = (mask level : ℕ) → mask ≤ 1 → 1 ≤ level → takes mask level ≡ true
-
-abbrev pub BelowMask : Type 0
-BelowMask = (mask level : ℕ) → level < mask → takes mask level ≡ false
+-- it is taken exactly where its level is at least the mask, and at least 1, which is what mask 0 counts as
+abbrev pub TakenFrom : Type 0
+TakenFrom = (mask level : ℕ) → (takes mask level ≡ true) ↔ ((mask ≤ level) × (1 ≤ level))

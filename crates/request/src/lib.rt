@@ -21,7 +21,8 @@ pub struct Requested {
     pub answer: Answer,
 }
 
-fn refuse(s: State, a: Answer) -> Requested
+// Not taken, and the state as it was: with its answer, done or refused.
+fn untaken(s: State, a: Answer) -> Requested
     ensures { λ r. ⌜ r ≡ record { state = s; taken = false; answer = a } ⌝ }
 {
     Requested {
@@ -65,7 +66,7 @@ fn enter(s: State, ram: &mut [u8], rom: &[u8], level: Level, vector: u32) -> Req
     let b = s.bank;
     let a = stack::push_six(b, &mut regs, ram, rom, sr(s), s.counter);
     if let Answer::Refused(_) = a {
-        return refuse(s, a);
+        return untaken(s, a);
     }
     let nesting = std::num::wrapping_add_u16(s.nesting, 1);
     let t = state::whole(
@@ -92,7 +93,7 @@ fn take(s: State, ram: &mut [u8], rom: &[u8], level: Level, vector: u32) -> Requ
 {
     match memory::load_vector(&*ram, rom, vector) {
         Loaded::Value(v) => enter(s, ram, rom, level, v),
-        Loaded::Missing(a) => refuse(s, Answer::Refused(Why::Missing(a))),
+        Loaded::Missing(a) => untaken(s, Answer::Refused(Why::Missing(a))),
     }
 }
 
@@ -101,17 +102,17 @@ pub fn request(s: State, ram: &mut [u8], rom: &[u8], level: u32, vector: u32) ->
     ensures { λ r. ⌜ RequestMeets level vector s (now (ram .entry)) (now (rom .entry)) r (now (ram .exit)) ⌝ }
 {
     if step::too_long(ram.len(), rom.len()) {
-        return refuse(s, Answer::Refused(Why::TooLong));
+        return untaken(s, Answer::Refused(Why::TooLong));
     }
     if !s.valid() {
-        return refuse(s, Answer::Refused(Why::Invalid));
+        return untaken(s, Answer::Refused(Why::Invalid));
     }
     if bad(level, vector) {
-        return refuse(s, Answer::Refused(Why::BadRequest));
+        return untaken(s, Answer::Refused(Why::BadRequest));
     }
     let l = Level((level % 8) as u8);
     if admits(s.level, l) {
         return take(s, ram, rom, l, vector);
     }
-    refuse(s, Answer::Done)
+    untaken(s, Answer::Done)
 }

@@ -25,7 +25,7 @@ pub struct State {
     // F, and F', which waits until it is exchanged. Above each stand the marks of its flags that nobody defined: 256 for H, 512 for V.
     pub flags: u16,
     pub spare: u16,
-    // How many requests were taken and not returned from, round at 16 bits.
+    // The nesting count: one more for each request that is taken, one less for each RETI, round at 16 bits.
     pub nesting: u16,
 }
 
@@ -217,7 +217,7 @@ pub fn write(registers: &mut [u32; 20], bank: Bank, size: Size, code: u8, v: u32
     registers[i] = with_bits(p, registers[i], v);
 }
 
-// The bank and the level whose numbers a turn is lent: the two places where a number of these becomes what it is.
+// The bank and the level whose numbers a turn is lent: only here does such a number become what it is.
 pub fn current(bank: &u8) -> Bank
     ensures { λ r. ⌜ r ≡ record { 0 = now (bank .entry) } ⌝ }
 {

@@ -21,8 +21,8 @@ push-six-requires c κs = search needs
 enum-told : tie.Need-enum-told
 enum-told c = search needs
 
-refuse-requires : tie.Need-refuse-requires
-refuse-requires c κs = search needs
+untaken-requires : tie.Need-untaken-requires
+untaken-requires c κs = search needs
 
 same-length : tie.Need-same-length
 same-length c = search needs
@@ -33,7 +33,7 @@ returns c =
     let p = c .before .before .before .before .before .push-six in
     let e = rw (c .before .before .before .before .before .before .sr .ensures) at (p .ensures (a .s)) in
     let d = c .before .enum-told .given .1 in
-    rw (c .refuse .ensures)
+    rw (c .untaken .ensures)
     (refused-by (a .s) _ (a .ram .now) _ (p .result) (c .before .enum-told .given .0 .0) (pushBytes (a .s) (a .ram .now) (a .rom .now) 6 (pushedOf (a .s))) (entered (a .level .0) (a .vector)) e d, rw d refl)
 
 enum-told-2 : tie.Need-enum-told-2
@@ -70,7 +70,7 @@ enter-spec =
     sr-requires
     push-six-requires
     enum-told
-    refuse-requires
+    untaken-requires
     same-length
     returns
     enum-told-2

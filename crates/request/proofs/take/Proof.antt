@@ -15,8 +15,8 @@ enter-requires c κs = search needs
 enum-known-a : tie.Need-enum-known-a
 enum-known-a c = search needs
 
-refuse-requires : tie.Need-refuse-requires
-refuse-requires c κs = search needs
+untaken-requires : tie.Need-untaken-requires
+untaken-requires c κs = search needs
 
 same-length : tie.Need-same-length
 same-length c = search needs
@@ -28,7 +28,7 @@ same-length-2 : tie.Need-same-length-2
 same-length-2 c = search needs
 
 returns-2 : tie.Need-returns-2
-returns-2 c = rw (c .refuse .ensures, sym (c .before .before .before .before .load-vector .ensures) ∙ c .before .before .a .given .1) (refl, refl)
+returns-2 c = rw (c .untaken .ensures, sym (c .before .before .before .before .load-vector .ensures) ∙ c .before .before .a .given .1) (refl, refl)
 
 pub take-spec : {M : Type 1} → statement M
 take-spec =
@@ -38,7 +38,7 @@ take-spec =
     enum-known-v
     enter-requires
     enum-known-a
-    refuse-requires
+    untaken-requires
     same-length
     returns
     same-length-2
