@@ -193,9 +193,10 @@ uint8_t tlcs900h_run(uint8_t *record, size_t record_len, uint8_t *ram, size_t ra
  *   the nesting count is 1 more; after 65,535 comes 0
  *   the counter is the low 24 bits of the vector's four bytes
  * All else stays, bank and flags too. A marked flag is pushed as the 0 that it is, and its mark stands: the request is not
- * refused for it, but in the handler PUSH F, PUSH SR and jumps that read V may be. The handler ends with RETI, which pops the
- * six bytes, takes 1 off the count and so goes on where the firmware was, at a repeating copy or compare too. No flag of F is
- * marked then: flags that were popped count as known.
+ * refused for it, but in the handler PUSH F, PUSH SR and jumps that read V may be. No other register is saved: the handler
+ * must keep what the firmware uses. It ends with RETI, which pops the six bytes, takes 1 off the count and so goes on where
+ * the firmware was, at a repeating copy or compare too. No flag of F is marked then: flags that were popped count as known,
+ * so that a jump or push which answers 8 without the request may be done after it.
  *
  * Looks for 1, then 2, then 9. Then a request that the mask keeps out is not taken: the answer is 0, and nothing is read or
  * changed. One that is let in looks for 5 of the vector's four bytes, then for 5 and then 6 of the six bytes below XSP.
@@ -204,8 +205,9 @@ uint8_t tlcs900h_run(uint8_t *record, size_t record_len, uint8_t *ram, size_t ra
  *
  * The caller decides when to offer: between any two calls of step or run. A request not taken is not remembered: offer it
  * again. After a reset the mask is 7, so that only level 7 is taken until the firmware lowers it (EI, POP SR or RETI). In the
- * handler of a level below 7 the mask keeps out that level and those below it. Level 7 has no mask above it: after it the
- * mask is 7, which lets level 7 in again and no other, even before its handler's first step. So offer it once for each event.
+ * handler of a level below 7 the mask keeps out that level and those below it, until the handler lowers it itself. Level 7
+ * has no mask above it: after it the mask is 7, which lets level 7 in again and no other, even before its handler's first
+ * step. So offer it once for each event.
  */
 uint8_t tlcs900h_request(uint8_t *record, size_t record_len, uint8_t *ram, size_t ram_len, const uint8_t *rom, size_t rom_len,
                          uint32_t level, uint32_t vector, uint8_t *taken, uint32_t *at);
