@@ -3,8 +3,10 @@
 
 mod common;
 
-use common::{at, memory, offer, rom_start, step_at, Chance, BC, LENGTHS, XDE, XHL, XSP};
-use forms::{marks, requests};
+use common::{
+    at, memory, offer, push_of_flags, rom_start, step_at, Chance, BC, LENGTHS, XDE, XHL, XSP,
+};
+use forms::requests;
 use second::{reset, run, Machine, Marks, Width};
 
 /// RAM with a vector at 40H to the handler at 60H, which is RETI.
@@ -114,26 +116,18 @@ fn pop_sr_takes_two_bytes_and_no_more() {
 /// 8 before the stack's 5 and 6, for the marks of F alone; XSP stays.
 #[test]
 fn push_sr_with_a_mark() {
-    let rom = memory(16, &[0x02]);
-    for (pointer, ended) in [
-        (0x0000_0010, (0, 0)),
-        (0x0000_0021, (5, 0x00_0020)),
-        (0x0000_0022, (5, 0x00_0020)),
-        (0x5580_0000, (5, 0x7F_FFFE)),
-        (0x0000_0000, (6, 0xFF_FFFE)),
-        (0x0000_0001, (5, 0x00_0000)),
-        (0x00FF_FFFA, (6, 0xFF_FFF8)),
-    ] {
-        for bits in marks::ALL {
-            let mut machine = at(rom_start(&rom), &[(XSP, pointer)]);
-            machine.marks = Marks::from_bits(bits);
-            machine.marks_prime = Marks::from_bits(bits >> 2);
-            let wanted = if bits & 3 != 0 { (8, 0) } else { ended };
-            let mut ram = memory(0x20, &[]);
-            let label = format!("XSP {pointer:08X}, marks {bits:X}");
-            assert_eq!(step_at(&mut machine, &mut ram, &rom), wanted, "{label}");
-        }
-    }
+    push_of_flags(
+        0x02,
+        &[
+            (0x0000_0010, (0, 0)),
+            (0x0000_0021, (5, 0x00_0020)),
+            (0x0000_0022, (5, 0x00_0020)),
+            (0x5580_0000, (5, 0x7F_FFFE)),
+            (0x0000_0000, (6, 0xFF_FFFE)),
+            (0x0000_0001, (5, 0x00_0000)),
+            (0x00FF_FFFA, (6, 0xFF_FFF8)),
+        ],
+    );
 }
 
 // ---- a request that is taken

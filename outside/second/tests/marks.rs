@@ -3,7 +3,7 @@
 
 mod common;
 
-use common::{at, memory, rom_start, step_at, Chance, BC, XSP};
+use common::{at, memory, push_of_flags, rom_start, step_at, Chance, BC, XSP};
 use forms::{marks, Form, Slot};
 use second::record::MARKS;
 use second::{reset, run, Machine, Marks, Width};
@@ -123,25 +123,16 @@ fn every_condition() {
 /// 8 before the stack's 5 and 6, and XSP stays as it was.
 #[test]
 fn a_push_of_marked_flags() {
-    let rom = memory(16, &[0x18]);
-    let start = rom_start(&rom);
-    for (pointer, ended) in [
-        (0x0000_0010, (0, 0)),
-        (0x0000_0021, (5, 0x00_0020)),
-        (0x5580_0000, (5, 0x7F_FFFF)),
-        (0x0000_0000, (6, 0xFF_FFFF)),
-        (0x00FF_FFF9, (6, 0xFF_FFF8)),
-    ] {
-        for bits in marks::ALL {
-            let mut machine = at(start, &[(XSP, pointer)]);
-            machine.marks = Marks::from_bits(bits);
-            machine.marks_prime = Marks::from_bits(bits >> 2);
-            let wanted = if bits & 3 != 0 { (8, 0) } else { ended };
-            let mut ram = memory(0x20, &[]);
-            let label = format!("XSP {pointer:08X}, marks {bits:X}");
-            assert_eq!(step_at(&mut machine, &mut ram, &rom), wanted, "{label}");
-        }
-    }
+    push_of_flags(
+        0x18,
+        &[
+            (0x0000_0010, (0, 0)),
+            (0x0000_0021, (5, 0x00_0020)),
+            (0x5580_0000, (5, 0x7F_FFFF)),
+            (0x0000_0000, (6, 0xFF_FFFF)),
+            (0x00FF_FFF9, (6, 0xFF_FFF8)),
+        ],
+    );
 }
 
 /// A run does the steps before the one that is refused. Asked again it says the

@@ -1,7 +1,8 @@
 //! What the tests share.
 #![allow(dead_code)] // not every test file uses everything
 
-use second::{request, step, Machine, Width};
+use forms::marks;
+use second::{request, step, Machine, Marks, Width};
 
 /// Codes of registers.
 pub const A: u8 = 1;
@@ -72,6 +73,24 @@ pub fn step_at(machine: &mut Machine, ram: &mut [u8], rom: &[u8]) -> (u8, u32) {
         assert!(ram == ram_before, "a refusal changed RAM");
     }
     (number, at)
+}
+
+/// A push of flags, with each of these values of XSP: it ends so where no flag of
+/// F is marked. Where one is, it is 8 before the stack's 5 and 6. The marks of F'
+/// do not count.
+pub fn push_of_flags(code: u8, pointers: &[(u32, (u8, u32))]) {
+    let rom = memory(16, &[code]);
+    for &(pointer, ended) in pointers {
+        for bits in marks::ALL {
+            let mut machine = at(rom_start(&rom), &[(XSP, pointer)]);
+            machine.marks = Marks::from_bits(bits);
+            machine.marks_prime = Marks::from_bits(bits >> 2);
+            let wanted = if bits & 3 != 0 { (8, 0) } else { ended };
+            let mut ram = memory(0x20, &[]);
+            let label = format!("XSP {pointer:08X}, marks {bits:X}");
+            assert_eq!(step_at(&mut machine, &mut ram, &rom), wanted, "{label}");
+        }
+    }
 }
 
 /// Offers a request, and checks that one which is not taken changes nothing at
