@@ -49,6 +49,18 @@ value-lt (b ∷ l) h =
     let r : valueOf l < 256 ^ length l = value-lt l (λ i. h (suc i)) in
     rw pow-suc (omega arith)
 
+-- the same of the first n bytes of a list, however many it has
+pub value-take : (n : ℕ) (l : List ℕ) → ((i : ℕ) → getD l i 0 < 256) → valueOf (take n l) < 256 ^ n
+unfolding valueOf
+value-take zero l h = omega arith
+value-take (suc n) [] h =
+    let r : valueOf (take n []) < 256 ^ n = value-take n [] h in
+    rw pow-suc (omega arith)
+value-take (suc n) (b ∷ l) h =
+    let k : b < 256 = h 0 in
+    let r : valueOf (take n l) < 256 ^ n = value-take n l (λ i. h (suc i)) in
+    rw pow-suc (omega arith)
+
 weight-up : (n y : ℕ) → 256 ^ suc n * y ≡ 256 * (256 ^ n * y)
 weight-up n y = rw (pow-suc, mul-comm (256 ^ n) 256) (mul-assoc 256 (256 ^ n) y)
 

@@ -1,12 +1,12 @@
 -- An operand of six bytes: read and written as two numbers.
 use Prim.Native.Nat.{ℕ, _+_, _-_, _*_, _/_, _%_, _^_, _<_, _≤_}
 use mathlib.Core.Path.{_≡_, refl, ap, sym, _∙_}
-use mathlib.Core.List.{List, [], _∷_, _++_}
+use mathlib.Core.List.{List, _++_}
 use native.Mathlib.Omega.{arith}
 use lib.ListN.{length, getD, take, drop, length-drop}
 use lib.Seq.{drop-drop, getD-drop}
 use Rattle.little.specs.Bytes.{valueOf, bytesFrom, replaced}
-use Rattle.little.proofs.Laws.{length-bytes, bytes-join, value-join, written, replaced-join, replaced-length}
+use Rattle.little.proofs.Laws.{length-bytes, bytes-join, value-join, value-take, written, replaced-join, replaced-length}
 use Rattle.memory.specs.inner.Six.{sixFrom}
 use Rattle.memory.proofs.Laws.{part-four}
 
@@ -24,18 +24,12 @@ six-value o l low high fits e f =
     let h : high ≡ valueOf (take 4 (drop (o + 2) l)) = rw four-more at f ∙ ap valueOf (part-four (o + 2) 4 (drop (o + 2) l) (omega arith)) in
     rw (g, h, ← drop-drop 2 o l) (sym (value-join 2 4 (drop o l) room))
 
-two-lt : (l : List ℕ) → ((i : ℕ) → getD l i 0 < 256) → valueOf (take 2 l) < 2 ^ 16
-unfolding valueOf
-two-lt [] h = omega arith
-two-lt (a ∷ []) h = let x : a < 256 = h 0 in omega (arith, x)
-two-lt (a ∷ b ∷ l) h = let x : a < 256 = h 0 in let y : b < 256 = h 1 in omega (arith, x, y)
-
 -- the first of them has two bytes
 pub six-fits :
     (o : ℕ) (l : List ℕ) (low : ℕ) → ((i : ℕ) → getD l i 0 < 256) → low ≡ valueOf (take 4 (take (o + 2 - o) (drop o l))) → low < 2 ^ 16
 six-fits o l low h e =
     let g : low ≡ valueOf (take 2 (drop o l)) = e ∙ ap valueOf (part-four o 2 (drop o l) (omega arith)) in
-    rw g (two-lt (drop o l) (λ i. rw (getD-drop o l i 0) (h (o + i))))
+    rw g (value-take 2 (drop o l) (λ i. rw (getD-drop o l i 0) (h (o + i))))
 
 -- the low two bytes of a number, however long it is
 low-two : (v : ℕ) → bytesFrom 2 v ≡ bytesFrom 2 (v % 2 ^ 16)

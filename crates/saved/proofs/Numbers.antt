@@ -7,7 +7,7 @@ use native.Mathlib.Numerals.{add-one}
 use lib.ListN.{length, getD, take, drop, set, length-append, length-take, length-drop}
 use lib.Seq.{take-suc, take-suc-set, take-all, drop-drop, take-at, drop-at, take-add, length-take-le, getD-drop}
 use Rattle.little.specs.Bytes.{Bytes, valueOf, bytesFrom}
-use Rattle.little.proofs.Laws.{four, length-bytes, written, replaced-take, value-bytes, bytes-value}
+use Rattle.little.proofs.Laws.{length-bytes, written, replaced-take, value-bytes, bytes-value, value-take}
 use Rattle.saved.specs.Record.{longsBytes, longsAt}
 
 -- ---- writing
@@ -103,14 +103,8 @@ bytes-longs (suc n) l k h =
     )
 
 -- what is read fits
-pub value-two : (l : List ℕ) → Bytes l → valueOf (take 2 l) < 2 ^ 16
-value-two l h = omega (arith, two l, h 0, h 1)
-
-pub value-four : (l : List ℕ) → Bytes l → valueOf (take 4 l) < 2 ^ 32
-value-four l h = omega (arith, four l, h 0, h 1, h 2, h 3)
-
 pub longs-fit : (n : ℕ) (l : List ℕ) → Bytes l → (i : ℕ) → getD (longsAt n l) i 0 < 2 ^ 32
 unfolding longsAt
 longs-fit zero l h i = omega arith
-longs-fit (suc n) l h zero = value-four l h
+longs-fit (suc n) l h zero = value-take 4 l h
 longs-fit (suc n) l h (suc i) = longs-fit n (drop 4 l) (bytes-drop 4 l h) i

@@ -11,7 +11,7 @@ use lib.Seq.{take-at, drop-at, drop-drop, getD-drop, drop-cons}
 use borrow.Author.Tests.{eq-eqb, eqb-true}
 use Rattle.answer.specs.declared.Answer.the-variants.{Done}
 use Rattle.little.specs.Bytes.{Bytes, valueOf, bytesFrom}
-use Rattle.little.proofs.Laws.{length-bytes, value-bytes}
+use Rattle.little.proofs.Laws.{length-bytes, value-bytes, value-take}
 use Rattle.state.specs.State.{validOf, fOf}
 use Rattle.state.specs.Sound.{Sound}
 use Rattle.state.specs.declared.State.{State}
@@ -21,7 +21,7 @@ use Rattle.state.proofs.Sr.{sr-lt, sr-back, sr-ones, sr-whole}
 use Rattle.saved.specs.Record.{recordLength, oldLength, longsBytes, oldRecordOf, marksByte, recordOf, fitsOld}
 use Rattle.saved.specs.Record.{longsAt, srAt, nestingAt, marksAt, stateAt, zeroAt, fixedAt, isRecordOf, isRecord, restoredFrom}
 use Rattle.saved.specs.Statements.{SavedReadsBack, RecordsAreOfStates, OldRecordsAreOfStates}
-use Rattle.saved.proofs.Numbers.{longs-length, longs-back, bytes-drop, part-bytes, bytes-longs, value-two, value-four, longs-fit}
+use Rattle.saved.proofs.Numbers.{longs-length, longs-back, bytes-drop, part-bytes, bytes-longs, longs-fit}
 use Rattle.saved.proofs.Laws.{marks-lt, load-good}
 
 -- the parts of an old record with a tail
@@ -156,7 +156,7 @@ module _ (l : List ℕ) (h : Bytes l) where
     unfolding stateAt
     sr-same =
         let f : (fIn (srAt l) + 2 ^ 8 * (marksAt l % 4)) % 2 ^ 8 ≡ fIn (srAt l) = omega arith in
-        rw f (sr-whole (srAt l) (value-two (drop 84 l) (bytes-drop 84 l h)) (fixed .0))
+        rw f (sr-whole (srAt l) (value-take 2 (drop 84 l) (bytes-drop 84 l h)) (fixed .0))
 
     last-same : fOf (stateAt l .spare) ∷ 0 ∷ drop 88 l ≡ drop 86 l
     unfolding stateAt
@@ -220,12 +220,12 @@ sound-at l h =
     record {
       twenty = refl;
       fit = longs-fit 20 l h;
-      counter-fit = value-four (drop 80 l) (bytes-drop 80 l h);
+      counter-fit = value-take 4 (drop 80 l) (bytes-drop 80 l h);
       bank-fit = omega arith;
       level-fit = omega arith;
       flags-fit = omega arith;
       spare-fit = omega (arith, h 86, h 90);
-      nesting-fit = value-two (drop 88 l) (bytes-drop 88 l h);
+      nesting-fit = value-take 2 (drop 88 l) (bytes-drop 88 l h);
     }
 
 -- what a good record is
