@@ -1,9 +1,11 @@
 /*
- * A proved TLCS-900/H core: reset, one step, many steps, requests for an interrupt, and the length of an instruction.
+ * A proved TLCS-900/H core: reset, one step, many steps, requests for an interrupt, the length of an instruction, and records
+ * of the old form moved to the new one and back.
  *
  * Link with libtlcs900h.a (x86-64 Linux). It calls no other function, keeps nothing between calls and allocates nothing:
  * two threads may call it at once, each with its own record and RAM. A call takes less than TLCS900H_STACK bytes of stack
- * (measured over every kind of instruction, not proved). What tlcs900h_show needs is linked only where it is called.
+ * (measured over every kind of instruction, not proved). What tlcs900h_show needs is linked only where it is called, and so is
+ * what tlcs900h_widen and tlcs900h_narrow need.
  *
  * The machine
  *   RAM  holds the addresses 0 to ram_len - 1.
@@ -25,7 +27,8 @@
  * SBC and CP of a long and after CCF and ZCF, V after AND, OR, XOR and the shifts of a long. Its bit is 0, and a record where
  * it is 1 is no state's. The mark goes when the flag gets a value; EX F,F' exchanges those of F and F'; POP F, POP SR and
  * RETI clear those of F; reset leaves none.
- * A record of 88 bytes, as it was before 3.0, is made one of 92 by four zero bytes behind it.
+ * The old record, as it was before 3.0, is the first TLCS900H_OLD_RECORD bytes of this one, of a state with no mark and the
+ * nesting count 0. tlcs900h_widen makes it one of 92 bytes, and tlcs900h_narrow goes back.
  *
  * It may be copied, stored and handed back later; tlcs900h_reset makes the first one. A run of 0 steps tells whether a
  * record is good: with both memories empty it changes nothing, and answers 0 for a state's record and 2 for any other.
@@ -40,9 +43,9 @@
  *   Every pointer is the caller's memory, lent for the length of the call. Each must be good for the length that follows
  *   it, and for writing where it is not const. A null pointer with length 0 is an empty memory. `done`, `taken`, `at` and
  *   `length` are never null. The parts of one call must not overlap: `done` and `at` are two variables, and so are `taken`
- *   and `at`. Nothing else may write any of them while it runs.
+ *   and `at`; a record is moved to another place than its own. Nothing else may write any of them while it runs.
  *
- * The answer of each call is a number, 0 to 9, and depends on nothing but what the call is given. A step or run that was
+ * The answer of each call is a number, 0 to 10, and depends on nothing but what the call is given. A step or run that was
  * refused with 1 to 6 or 8, asked again for a step or more, is refused with the same number and address (and *done is then 0)
  * until the caller changes what it hands over. So it is with a refused request that is offered again.
  *
@@ -81,11 +84,13 @@ extern "C" {
  *        marked V, and PUSH F with a mark of F set, are refused with 8; before, they took the undefined flag as 0
  *   3.1  tlcs900h_request, and its number 9. PUSH SR (02), POP SR (03), EI (06, then 00 to 07) and RETI (07) are done, where
  *        they were refused with 4. The record has the nesting count at offset 88, where two zero bytes were
+ *   3.2  tlcs900h_widen and tlcs900h_narrow, and their number 10
  */
 #define TLCS900H_VERSION_MAJOR 3
-#define TLCS900H_VERSION_MINOR 1
+#define TLCS900H_VERSION_MINOR 2
 
 #define TLCS900H_RECORD 92          /* the bytes of a record */
+#define TLCS900H_OLD_RECORD 88      /* the bytes of an old record, as it was before 3.0 */
 #define TLCS900H_MEMORY 65536       /* the most bytes of RAM, and of ROM */
 #define TLCS900H_LEAST_ROM 256      /* the fewest bytes of ROM for a reset */
 #define TLCS900H_MOST_STEPS 1000000 /* the most steps of a run */
@@ -132,14 +137,15 @@ enum {
 enum {
     TLCS900H_DONE = 0,       /* done */
     TLCS900H_TOO_LONG = 1,   /* RAM or ROM is longer than 65,536 bytes */
-    TLCS900H_INVALID = 2,    /* the record is not TLCS900H_RECORD bytes long or is no state's record; an address to show is 2^24 or more */
+    TLCS900H_INVALID = 2,    /* a record, or the room for one, has the wrong length; a record is no state's; an address to show is 2^24 or more */
     TLCS900H_NO_CODE = 3,    /* no memory at the counter, or the instruction goes on where its memory ends */
     TLCS900H_UNLISTED = 4,   /* the bytes at the counter begin no listed instruction */
     TLCS900H_MISSING = 5,    /* an operand lies in neither memory, or only partly in one, see *at; at reset: ROM has fewer than 256 bytes */
     TLCS900H_TO_ROM = 6,     /* a store would go to ROM, see *at */
     TLCS900H_TOO_MANY = 7,   /* a run is asked for more than 1,000,000 steps */
     TLCS900H_UNDEFINED = 8,  /* a jump reads V (LT, LE, V, their opposites) and V is marked; or PUSH F or PUSH SR, and H or V of F is marked */
-    TLCS900H_BAD_REQUEST = 9 /* a request's level is not 1 to 7, or its vector's address is 2^24 or more */
+    TLCS900H_BAD_REQUEST = 9, /* a request's level is not 1 to 7, or its vector's address is 2^24 or more */
+    TLCS900H_NO_OLD_FORM = 10 /* a record to narrow has a mark, or its nesting count is not 0: 88 bytes cannot hold its state */
 };
 
 /* A few words for a number, to print. A program that does not call this holds none of them. */
@@ -155,6 +161,7 @@ static inline const char *tlcs900h_name(uint8_t number) {
     case TLCS900H_TOO_MANY: return "too many steps";
     case TLCS900H_UNDEFINED: return "undefined flag";
     case TLCS900H_BAD_REQUEST: return "bad request";
+    case TLCS900H_NO_OLD_FORM: return "no old form";
     default: return "no such number";
     }
 }
@@ -217,6 +224,23 @@ uint8_t tlcs900h_request(uint8_t *record, size_t record_len, uint8_t *ram, size_
  * Looks for 1, then 2 (an address of 2^24 or more), then 3 or 4. After a refusal *length is 0.
  */
 uint8_t tlcs900h_show(const uint8_t *ram, size_t ram_len, const uint8_t *rom, size_t rom_len, uint32_t address, uint32_t *length);
+
+/*
+ * Moves an old record to the new form: the same TLCS900H_OLD_RECORD bytes, and behind them four zero bytes, so that the nesting
+ * count is 0 and no flag is marked. The state in it is the same.
+ * Looks for 2: `old` is not TLCS900H_OLD_RECORD bytes long, or they are no state's; or the room for the new one is not
+ * TLCS900H_RECORD bytes. What the room holds does not matter, and a refusal leaves it as it was.
+ */
+uint8_t tlcs900h_widen(const uint8_t *old, size_t old_len, uint8_t *new_, size_t new_len);
+
+/*
+ * Moves a record back to the old form: its first TLCS900H_OLD_RECORD bytes. What was widened and is narrowed is the same bytes
+ * again, and so is what was narrowed and is widened.
+ * Looks for 2: `new_` is not TLCS900H_RECORD bytes long, or they are no state's; or the room for the old one is not
+ * TLCS900H_OLD_RECORD bytes. Then for 10: the nesting count is not 0, or a flag is marked. The old form has no place for
+ * these. A refusal leaves the room as it was.
+ */
+uint8_t tlcs900h_narrow(const uint8_t *new_, size_t new_len, uint8_t *old, size_t old_len);
 
 #ifdef __cplusplus
 }

@@ -1,7 +1,7 @@
 -- What a caller is told: the numbers of refusal, in order of check, and the address that goes with 5 and 6.
 use Prim.Native.Nat.{ℕ}
 use Rattle.answer.specs.declared.Why.{Why}
-use Rattle.answer.specs.declared.Why.the-variants.{TooMany, TooLong, Invalid, BadRequest, NoCode, Unlisted, Undefined, Missing, ToRom}
+use Rattle.answer.specs.declared.Why.the-variants.{TooMany, TooLong, Invalid, BadRequest, NoOldForm, NoCode, Unlisted, Undefined, Missing, ToRom}
 use Rattle.answer.specs.declared.Answer.{Answer}
 use Rattle.answer.specs.declared.Answer.the-variants.{Done, Refused}
 
@@ -11,6 +11,7 @@ whyTold TooMany = (7, 0)
 whyTold TooLong = (1, 0)
 whyTold Invalid = (2, 0)
 whyTold BadRequest = (9, 0)
+whyTold NoOldForm = (10, 0)
 whyTold NoCode = (3, 0)
 whyTold Unlisted = (4, 0)
 whyTold Undefined = (8, 0)
@@ -36,3 +37,8 @@ atOf a = toldOf a .1
 abbrev pub firstRefusal : Answer → Answer → Answer
 firstRefusal Done b = b
 firstRefusal (Refused w) b = Refused w
+
+-- this where it is done, else the other
+abbrev pub whereDone : {X : Type 0} → Answer → X → X → X
+whereDone Done new old = new
+whereDone (Refused w) new old = old

@@ -12,6 +12,8 @@ pub enum Why {
     Invalid,
     // A request's level is not 1 to 7, or its vector's address is too high.
     BadRequest,
+    // A record to move back to the old form has a mark, or its nesting count is not 0.
+    NoOldForm,
     // No memory at the counter, or an instruction that goes on where its memory ends.
     NoCode,
     // The bytes begin no listed instruction.
@@ -38,6 +40,7 @@ pub fn why_number(w: Why) -> u8
         Why::TooLong => 1,
         Why::Invalid => 2,
         Why::BadRequest => 9,
+        Why::NoOldForm => 10,
         Why::NoCode => 3,
         Why::Unlisted => 4,
         Why::Undefined => 8,
@@ -65,6 +68,7 @@ fn why_at(w: Why) -> u32
         Why::TooLong => 0,
         Why::Invalid => 0,
         Why::BadRequest => 0,
+        Why::NoOldForm => 0,
         Why::NoCode => 0,
         Why::Unlisted => 0,
         Why::Undefined => 0,

@@ -11,7 +11,7 @@ use Rattle.answer.specs.declared.Answer.{Answer}
 use Rattle.answer.specs.declared.Answer.the-variants.{Done, Refused}
 use Rattle.answer.specs.declared.Why.{Why}
 use Rattle.answer.specs.declared.Why.the-variants.{TooMany, TooLong, Invalid}
-use Rattle.answer.specs.Number.{whyNumber, numberOf, atOf}
+use Rattle.answer.specs.Number.{whyNumber, numberOf, atOf, whereDone}
 use Rattle.little.specs.declared.Size.the-variants.{Long}
 use Rattle.memory.specs.Access as access
 use Rattle.memory.specs.declared.Loaded.{Loaded}
@@ -35,7 +35,7 @@ use Rattle.turn.specs.declared.Ran.{Ran}
 use Rattle.turn.specs.Many.{Result, result}
 use Rattle.run.specs.Run.{runOf}
 use Rattle.run.proofs.Joins.{Began, none, first, began, run-zero, one-step-run}
-use Rattle.module.specs.Calls.{whereDone, resetAnswer, resetBytes, openedOf, stepLeft, runLeft, runDone, requestLeft, requestTaken}
+use Rattle.module.specs.Calls.{resetAnswer, resetBytes, openedOf, stepLeft, runLeft, runDone, requestLeft, requestTaken}
 use Rattle.module.specs.Calls.{CResetMeets, CStepMeets, CRunMeets, CRequestMeets}
 use Rattle.between.proofs.Offer.{offer-valid}
 

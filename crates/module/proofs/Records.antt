@@ -12,7 +12,7 @@ use Rattle.answer.specs.declared.Answer.{Answer}
 use Rattle.answer.specs.declared.Answer.the-variants.{Done, Refused}
 use Rattle.answer.specs.declared.Why.{Why}
 use Rattle.answer.specs.declared.Why.the-variants.{TooMany, TooLong, Invalid}
-use Rattle.answer.specs.Number.{whyNumber, numberOf, atOf}
+use Rattle.answer.specs.Number.{whyNumber, numberOf, atOf, whereDone}
 use Rattle.little.specs.Bytes.{Bytes}
 use Rattle.state.specs.State.{validOf}
 use Rattle.state.specs.Sound.{Sound}
@@ -30,7 +30,7 @@ use Rattle.facts.proofs.Statements.{some}
 use Rattle.turn.proofs.ManySteps.{many-none}
 use Rattle.run.proofs.Laws as run
 use Rattle.run.proofs.Joins.{Checks, pass, fail, checks, one-step-run, run-is-steps, runs-join, run-stops, count-is-true}
-use Rattle.module.specs.Calls.{Left, leftBy, openedOf, unless, stepped, stepLeft, runOpened, ranLeft, whereDone, runLeft, runDone, CRunMeets}
+use Rattle.module.specs.Calls.{Left, leftBy, openedOf, unless, stepped, stepLeft, runOpened, ranLeft, runLeft, runDone, CRunMeets}
 use Rattle.module.specs.Statements.{HasState, outcomeLeft, RunOnRecord, StepIsRun, RunCounts, JoinedRuns, RefusedAgain}
 use Rattle.module.specs.Demand.{CallLeaves}
 use Rattle.module.proofs.Laws.{run-sound, run-valid, run-many, opened-long, opened-loads}

@@ -8,12 +8,13 @@ use lib.ListN.{length}
 use Rattle.answer.specs.declared.Answer.{Answer}
 use Rattle.answer.specs.declared.Answer.the-variants.{Done, Refused}
 use Rattle.answer.specs.declared.Why.the-variants.{TooLong}
+use Rattle.answer.specs.Number.{whereDone}
 use Rattle.state.specs.declared.State.{State}
 use Rattle.saved.specs.Record.{recordOf, refusedRecord}
 use Rattle.operand.specs.Try.{Outcome, no, leaves}
 use Rattle.step.specs.Step.{tooLong, guarded}
 use Rattle.request.specs.Request.{takes, offeredOf, requestOf, ifDone, tookOf}
-use Rattle.module.specs.Calls.{Left, leftBy, openedOf, unless, whereDone, offered, runLeft, runDone, requestLeft, requestTaken}
+use Rattle.module.specs.Calls.{Left, leftBy, openedOf, unless, offered, runLeft, runDone, requestLeft, requestTaken}
 use Rattle.module.specs.Statements.{outcomeLeft, RequestRefusedKeeps, NotTakenKeeps, RequestOnRecord, RunAfterRequest}
 use Rattle.between.proofs.Offer.{untaken-same, offer-whole}
 use Rattle.module.proofs.Laws.{opened-long, opened-loads, request-stops}

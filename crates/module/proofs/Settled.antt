@@ -9,7 +9,7 @@ use lib.Dec.{ltb}
 use borrow.Author.Tests.{ltb-true, ltb-false}
 use Rattle.answer.specs.declared.Answer.{Answer}
 use Rattle.answer.specs.declared.Answer.the-variants.{Done, Refused}
-use Rattle.answer.specs.declared.Why.the-variants.{TooMany, TooLong, Invalid, BadRequest, NoCode, Unlisted, Undefined, Missing, ToRom}
+use Rattle.answer.specs.declared.Why.the-variants.{TooMany, TooLong, Invalid, BadRequest, NoOldForm, NoCode, Unlisted, Undefined, Missing, ToRom}
 use Rattle.answer.specs.Number.{numberOf, atOf}
 use Rattle.state.specs.declared.State.{State}
 use Rattle.saved.specs.Record.{recordOf}
@@ -51,6 +51,7 @@ none-at (Refused TooMany) f s = refl
 none-at (Refused TooLong) f s = refl
 none-at (Refused Invalid) f s = refl
 none-at (Refused BadRequest) f s = refl
+none-at (Refused NoOldForm) f s = refl
 none-at (Refused NoCode) f s = refl
 none-at (Refused Unlisted) f s = refl
 none-at (Refused Undefined) f s = refl

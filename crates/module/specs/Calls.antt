@@ -1,7 +1,7 @@
 -- What each call answers and leaves, over the bytes of a saved record.
 use Rattle.little.specs.Words.{ℕ, _≡_, List, Bool, cond, length, ltb, eqb}
 use Rattle.answer.specs.{declared.Answer.Answer, declared.Answer.the-variants.Done, declared.Answer.the-variants.Refused}
-use Rattle.answer.specs.Number.{numberOf, atOf, firstRefusal}
+use Rattle.answer.specs.Number.{numberOf, atOf, firstRefusal, whereDone}
 use Rattle.answer.specs.declared.Why.the-variants.{TooMany, TooLong, Invalid}
 use Rattle.saved.specs.Record.{recordLength, recordOf, refusedRecord, restoredOf}
 use Rattle.operand.specs.Try.{Outcome}
@@ -30,11 +30,6 @@ leftBy a bytes ram = left (numberOf a) (atOf a) bytes ram
 abbrev pub unless : Answer → List ℕ → List ℕ → Left → Left
 unless (Refused w) bytes ram l = leftBy (Refused w) bytes ram
 unless Done bytes ram l = l
-
--- this where it is done, else the other
-abbrev pub whereDone : {X : Type 0} → Answer → X → X → X
-whereDone Done new old = new
-whereDone (Refused w) new old = old
 
 -- ---- reset
 -- its answer with so much room for the record: of the memories 1, then 5; then 2, where the room is not that of a record

@@ -1,4 +1,4 @@
--- The all-zero state's record, and what is refused.
+-- Records worked out, and what is refused.
 use Prim.Native.Nat.{ℕ}
 use mathlib.Core.Path.{_≡_, refl, sym, _∙_}
 use mathlib.Core.Bool.{and-false}
@@ -7,13 +7,17 @@ use mathlib.Core.List.{List}
 use borrow.Author.Tests.{eq-eqb, ne-eqb}
 use Rattle.answer.specs.declared.Answer.{Answer}
 use Rattle.little.specs.Bytes.{bytesFrom}
-use Rattle.state.specs.State.{zeroState}
+use Rattle.state.specs.State.{zeroState, withNesting, withBothFlags}
 use Rattle.saved.specs.Record.{longsBytes, oldRecordOf, recordOf, saveAnswer, saveBytes, oldSaveAnswer, oldSaveBytes, restoredFrom}
-use Rattle.saved.specs.Statements.{ZeroRecord, Saves, OldSaves, BadRecords, Settled}
+use Rattle.saved.specs.Statements.{ZeroRecord, TailWorked, Saves, OldSaves, BadRecords, Settled}
 
 pub zero-record : ZeroRecord
 unfolding oldRecordOf recordOf longsBytes bytesFrom zeroState
 zero-record = refl
+
+pub tail-worked : TailWorked
+unfolding oldRecordOf recordOf longsBytes bytesFrom zeroState withNesting withBothFlags
+tail-worked = refl
 
 pub saves : Saves
 unfolding saveAnswer saveBytes

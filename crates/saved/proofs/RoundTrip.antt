@@ -20,7 +20,7 @@ use Rattle.state.specs.Sr.{srOf, fIn, onesIn}
 use Rattle.state.proofs.Sr.{sr-lt, sr-back, sr-ones, sr-whole}
 use Rattle.saved.specs.Record.{recordLength, oldLength, longsBytes, oldRecordOf, marksByte, recordOf, fitsOld}
 use Rattle.saved.specs.Record.{longsAt, srAt, nestingAt, marksAt, stateAt, zeroAt, fixedAt, isRecordOf, isRecord, restoredFrom}
-use Rattle.saved.specs.Statements.{SavedReadsBack, RecordsAreOfStates, OldRecordsAreOfStates}
+use Rattle.saved.specs.Statements.{FrontIsOld, SavedReadsBack, RecordsAreOfStates, OldRecordsAreOfStates}
 use Rattle.saved.proofs.Numbers.{longs-length, longs-back, bytes-drop, part-bytes, bytes-longs, longs-fit}
 use Rattle.saved.proofs.Laws.{marks-lt, load-good}
 
@@ -30,6 +30,10 @@ parts :
     oldRecordOf s ++ t ≡ longsBytes (s .registers) ++ (bytesFrom 4 (s .counter) ++ (bytesFrom 2 (srOf s) ++ (fOf (s .spare) ∷ 0 ∷ t)))
 unfolding oldRecordOf
 parts s t = simp append-assoc
+
+old-length : (s : State) → Sound s → length (oldRecordOf s) ≡ oldLength
+unfolding oldRecordOf
+old-length s ok = simp (length-append, longs-length, length-bytes) (omega (arith, ok .twenty))
 
 -- ---- saved, then read
 -- a tail that tells the count and the marks of a state, and then a zero
@@ -49,6 +53,13 @@ fits-says s e = let a = and-true (eqb (marksByte s) 0) _ e in (eqb-true _ _ (a .
 no-tail : (s : State) → fitsOld s ≡ true → Tail s []
 unfolding valueOf
 no-tail s e = let k = fits-says s e in record { nesting = sym (k .1); marks = sym (k .0); zero = refl }
+
+pub front-is-old : FrontIsOld
+unfolding recordOf bytesFrom
+front-is-old s ok = (
+  take-at (oldRecordOf s) _ oldLength (old-length s ok),
+  λ m. let k = fits-says s m in rw (k .0, k .1) refl,
+)
 
 module _ (s : State) (ok : Sound s) (v : Valid s) (t : List ℕ) where
   abbrev whole : List ℕ
@@ -93,7 +104,7 @@ module _ (s : State) (ok : Sound s) (v : Valid s) (t : List ℕ) where
       (value-bytes 4 (s .counter) (omega (arith, v .counter)))
 
   whole-length : length whole ≡ oldLength + length t
-  whole-length = rw (parts s t) (simp (length-append, longs-80, length-bytes) (omega arith))
+  whole-length = simp (length-append, old-length s ok)
 
   module _ (k : Tail s t) where
     marks-are : marksAt whole ≡ marksByte s
@@ -141,7 +152,7 @@ drop-byte : (l : List ℕ) (i b : ℕ) → i < length l → getD l i 0 ≡ b →
 drop-byte l i b h e = drop-cons l i 0 h ∙ ap (λ (x : ℕ). x ∷ drop (suc i) l) e
 
 module _ (l : List ℕ) (h : Bytes l) where
-  marks-same : marksByte (stateAt l) ≡ marksAt l
+  pub marks-same : marksByte (stateAt l) ≡ marksAt l
   unfolding stateAt
   marks-same = omega (arith, h 86)
 
@@ -229,7 +240,7 @@ sound-at l h =
     }
 
 -- what a good record is
-good-says : (n : ℕ) (l : List ℕ) → isRecordOf n l ≡ true → (length l ≡ n) × (validOf (stateAt l) ≡ true) × (fixedAt l ≡ true)
+pub good-says : (n : ℕ) (l : List ℕ) → isRecordOf n l ≡ true → (length l ≡ n) × (validOf (stateAt l) ≡ true) × (fixedAt l ≡ true)
 good-says n l e =
     let a = and-true (eqb (length l) n) _ e in
     let b = and-true (validOf (stateAt l)) _ (a .1) in

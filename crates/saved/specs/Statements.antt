@@ -1,12 +1,18 @@
--- What is proved of saving and loading, beside what each call promises. Each statement is proved in proofs/RoundTrip.antt or proofs/Refusals.antt.
-use Rattle.little.specs.Words.{ℕ, _≡_, true, false, _⊎_, List, length, set, replicate}
+-- What is proved of saving and loading, beside what each call promises. Each statement is proved in proofs/RoundTrip.antt, Refusals.antt or Marked.antt.
+use Rattle.little.specs.Words.{ℕ, _-_, _≡_, true, false, _⊎_, List, [], _∷_, _++_, length, take, drop, getD, set, replicate}
 use Rattle.answer.specs.declared.{Answer.Answer, Answer.the-variants.Done, Answer.the-variants.Refused, Why.the-variants.Invalid}
 use Rattle.little.specs.Bytes.{Bytes}
-use Rattle.state.specs.{declared.State.State, State.zeroState, State.validOf, Sound.Sound}
+use Rattle.state.specs.{declared.State.State, State.zeroState, State.withNesting, State.withBothFlags, State.clear, State.validOf, Sound.Sound}
 use Rattle.saved.specs.Record.{recordLength, oldLength, recordOf, oldRecordOf, fitsOld, saveAnswer, saveBytes, SaveMeets}
-use Rattle.saved.specs.Record.{oldSaveAnswer, oldSaveBytes, OldSaveMeets, stateAt, isRecordOf, isRecord, isOldRecord}
+use Rattle.saved.specs.Record.{oldSaveAnswer, oldSaveBytes, OldSaveMeets, marksAt, stateAt, isRecordOf, isRecord, isOldRecord}
 use Rattle.saved.specs.Record.{restoredFrom, restoredOf, oldRestoredOf, LoadMeets, OldLoadMeets}
 use Rattle.saved.specs.declared.Restored.{Restored}
+
+-- the two records share the old one: it is the front of the new one, and of a state with no marks and the count 0 the rest is zeros
+abbrev pub FrontIsOld : Type 0
+FrontIsOld =
+    (s : State) → Sound s →
+    (take oldLength (recordOf s) ≡ oldRecordOf s) × (fitsOld s ≡ true → recordOf s ≡ oldRecordOf s ++ replicate (recordLength - oldLength) 0)
 
 -- a saved state reads back as itself; in the old form, one with no marks and the count 0
 abbrev pub SavedReadsBack : Type 0
@@ -32,6 +38,10 @@ OldRecordsAreOfStates =
 abbrev pub ZeroRecord : Type 0
 ZeroRecord = recordOf zeroState ≡ set (replicate recordLength 0) 85 0x88
 
+-- what stands behind the old record, worked out: the count 201H low byte first, the marks of V in F and of H in F', a zero byte
+abbrev pub TailWorked : Type 0
+TailWorked = drop oldLength (recordOf (withNesting (withBothFlags zeroState 0x200 0x100) 0x201)) ≡ 0x01 ∷ 0x02 ∷ 0x06 ∷ 0x00 ∷ []
+
 -- a save is done for a valid state and a record's length, and leaves the record; any other is 2 and leaves the buffer
 abbrev pub Saves : Type 0
 Saves =
@@ -51,6 +61,15 @@ OldSaves =
 -- what is no good record, of either length, is 2, and gives the all-zero state
 abbrev pub BadRecords : Type 0
 BadRecords = (n : ℕ) (l : List ℕ) → isRecordOf n l ≡ false → restoredFrom n l ≡ record { answer = Refused Invalid; state = zeroState }
+
+-- bit `flag` of the byte at an offset is a flag's, and bit `mark` of the marks is its mark: where both are 1 the record is bad
+abbrev pub BadWhereMarked : List ℕ → ℕ → ℕ → ℕ → Type 0
+BadWhereMarked l offset flag mark = clear flag (getD l offset 0) ≡ false → clear mark (marksAt l) ≡ false → isRecord l ≡ false
+
+-- H and V of F, and of F'
+abbrev pub MarkedOnesAreBad : Type 0
+MarkedOnesAreBad =
+    (l : List ℕ) → Bytes l → BadWhereMarked l 84 4 0 × BadWhereMarked l 84 2 1 × BadWhereMarked l 86 4 2 × BadWhereMarked l 86 2 3
 
 -- two outcomes of a save, or of a load, that meet what it promises are the same
 abbrev pub Settled : Type 0

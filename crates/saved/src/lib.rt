@@ -25,7 +25,7 @@ pub struct Restored {
 const LENGTH: usize = 92;
 
 // The same of the old record, which is the front of the new one and has no count and no marks.
-const OLD_LENGTH: usize = 88;
+pub const OLD_LENGTH: usize = 88;
 
 // Writes a number of n bytes from a place on; what stands before it stays.
 fn write_at(out: &mut [u8], at: usize, n: usize, v: u32)
@@ -77,7 +77,7 @@ fn marks_byte(s: State) -> u32
 }
 
 // Whether the old record leaves nothing of the state out.
-fn fits_old(s: State) -> bool
+pub fn fits_old(s: State) -> bool
     ensures { λ r. ⌜ r ≡ fitsOld s ⌝ }
 {
     (marks_byte(s) == 0) & (s.nesting == 0)

@@ -1,0 +1,159 @@
+-- What each call answers and leaves, by its cases, and the bytes of a moved record.
+use Prim.Native.Nat.{ℕ}
+use mathlib.Core.Path.{_≡_, refl, ap, sym, _∙_}
+use mathlib.Core.Logic.{_⊎_, ⊎-elim, inl, inr}
+use mathlib.Core.Bool.{Bool, true, false, _&&_, not, and-false}
+use mathlib.Core.List.{List, _++_}
+use native.Mathlib.Omega.{arith}
+use lib.ListN.{length, take, replicate}
+use lib.Dec.{eqb}
+use borrow.Author.Tests.{eq-eqb, ne-eqb, eqb-true, eqb-false}
+use Rattle.little.specs.Bytes.{Bytes}
+use Rattle.answer.specs.declared.Answer.{Answer}
+use Rattle.answer.specs.declared.Answer.the-variants.{Done, Refused}
+use Rattle.answer.specs.declared.Why.{Why}
+use Rattle.answer.specs.declared.Why.the-variants.{Invalid, NoOldForm}
+use Rattle.answer.specs.Number.{whyNumber, numberOf}
+use Rattle.state.proofs.Valid.{and-true}
+use Rattle.saved.specs.declared.Restored.{Restored}
+use Rattle.saved.specs.Record.{recordLength, oldLength, recordOf, oldRecordOf, fitsOld, stateAt, isRecordOf, isRecord, isOldRecord}
+use Rattle.saved.specs.Record.{SaveMeets, OldSaveMeets, restoredFrom, restoredOf, oldRestoredOf}
+use Rattle.saved.proofs.Laws.{load-good}
+use Rattle.saved.proofs.Refusals.{saves, old-saves, bad-records}
+use Rattle.saved.proofs.RoundTrip.{front-is-old, sound-at, good-says, read-saves-back, old-records-are-of-states}
+use Rattle.moves.specs.Moves.{widened, widenAnswer, widenBytes, narrowed, narrowAnswer, narrowBytes, CWidenMeets, CNarrowMeets}
+use Rattle.moves.specs.Statements.{Widens}
+
+-- ---- the bytes: to move a record is to write its state in the other form
+pub wide-bytes : (old : List ℕ) → Bytes old → isOldRecord old ≡ true → recordOf (stateAt old) ≡ widened old
+wide-bytes old h e =
+    let g = old-records-are-of-states .1 old h e in
+    front-is-old (stateAt old) (sound-at old h) .1 (g .1) ∙ ap (λ (l : List ℕ). l ++ replicate 4 0) (g .2)
+
+pub narrow-bytes : (new : List ℕ) → Bytes new → isRecord new ≡ true → oldRecordOf (stateAt new) ≡ narrowed new
+narrow-bytes new h e = sym (front-is-old (stateAt new) (sound-at new h) .0) ∙ ap (take oldLength) (read-saves-back new h e)
+
+-- ---- the cases
+pub widens : Widens
+unfolding widenAnswer widenBytes
+widens old new = (
+  λ g e. (rw (g, eq-eqb _ _ e) refl, rw (g, eq-eqb _ _ e) refl),
+  ⊎-elim
+      (λ g. (rw g refl, rw g refl))
+      (λ e. (simp (ne-eqb _ _ e, and-false), simp (ne-eqb _ _ e, and-false))),
+)
+
+pub narrow-done :
+    (new old : List ℕ) → isRecord new ≡ true → length old ≡ oldLength → fitsOld (stateAt new) ≡ true →
+    (narrowAnswer new (length old) ≡ Done) × (narrowBytes new old ≡ narrowed new)
+unfolding narrowAnswer narrowBytes
+narrow-done new old g e f = (rw (g, eq-eqb _ _ e, f) refl, rw (g, eq-eqb _ _ e, f) refl)
+
+pub narrow-ten :
+    (new old : List ℕ) → isRecord new ≡ true → length old ≡ oldLength → fitsOld (stateAt new) ≡ false →
+    (narrowAnswer new (length old) ≡ Refused NoOldForm) × (narrowBytes new old ≡ old)
+unfolding narrowAnswer narrowBytes
+narrow-ten new old g e f = (rw (g, eq-eqb _ _ e, f) refl, rw (g, eq-eqb _ _ e, f) refl)
+
+pub narrow-two :
+    (new old : List ℕ) → (isRecord new ≡ false) ⊎ (length old ≡ oldLength → ⊥) →
+    (narrowAnswer new (length old) ≡ Refused Invalid) × (narrowBytes new old ≡ old)
+unfolding narrowAnswer narrowBytes
+narrow-two new old =
+    ⊎-elim
+    (λ g. (rw g refl, rw g refl))
+    (λ e. (simp (ne-eqb _ _ e, and-false), simp (ne-eqb _ _ e, and-false)))
+
+-- ---- each call, by what its own calls gave
+pub done-or : {X : Type 0} {a : Answer} {w : Why} → a ≡ Done → a ≡ Refused w → X
+done-or e f = let z : _≡_ {A = ℕ} 0 1 = cc in absurd (omega arith)
+
+-- a load that is refused is of a bad record, and says 2
+load-refused :
+    (n : ℕ) (l : List ℕ) {o : Restored} → o ≡ restoredFrom n l → (w : Why) → o .answer ≡ Refused w →
+    (isRecordOf n l ≡ false) × (_≡_ {A = Answer} (Refused w) (Refused Invalid))
+load-refused n l e w r = go (isRecordOf n l) refl
+  where
+    go : (b : Bool) → isRecordOf n l ≡ b → (isRecordOf n l ≡ false) × (_≡_ {A = Answer} (Refused w) (Refused Invalid))
+    go true g = done-or (ap (λ (o : Restored). o .answer) (e ∙ load-good n l g)) r
+    go false g = (g, sym r ∙ ap (λ (o : Restored). o .answer) (e ∙ bad-records n l g))
+
+-- one that is done gives the state in a good one
+load-done : (n : ℕ) (l : List ℕ) {o : Restored} → o ≡ restoredFrom n l → o .answer ≡ Done → (isRecordOf n l ≡ true) × (o .state ≡ stateAt l)
+load-done n l {o = o} e r = go (isRecordOf n l) refl
+  where
+    go : (b : Bool) → isRecordOf n l ≡ b → (isRecordOf n l ≡ true) × (o .state ≡ stateAt l)
+    go true g = (g, ap (λ (o : Restored). o .state) (e ∙ load-good n l g))
+    go false g = done-or r (ap (λ (o : Restored). o .answer) (e ∙ bad-records n l g))
+
+not-true : (f : Bool) → not f ≡ true → f ≡ false
+not-true false e = refl
+not-true true e = sym e
+
+not-false : (f : Bool) → not f ≡ false → f ≡ true
+not-false true e = refl
+not-false false e = sym e
+
+-- two pairs of an answer and bytes are the same, and so is the number
+told :
+    {x y a : Answer} {u v b : List ℕ} {n : ℕ} → n ≡ numberOf a → a ≡ x → b ≡ u → (y ≡ x) × (v ≡ u) → (n ≡ numberOf y) × (b ≡ v)
+told k e f d = (k ∙ ap numberOf (e ∙ sym (d .0)), f ∙ sym (d .1))
+
+pub widen-stops :
+    (old new : List ℕ) {o : Restored} {n : ℕ} → o ≡ oldRestoredOf old → (w : Why) → o .answer ≡ Refused w → n ≡ whyNumber w → CWidenMeets old new n new
+widen-stops old new e w r k = let l = load-refused oldLength old e w r in told k (l .1) refl (widens old new .1 (inl (l .0)))
+
+-- the state in a good record, saved in the other form
+wide-saved :
+    (old new : List ℕ) {a : Answer} {b : List ℕ} {n : ℕ} → Bytes old → isOldRecord old ≡ true → SaveMeets (stateAt old) new a b → n ≡ numberOf a →
+    CWidenMeets old new n b
+wide-saved old new {a = a} {b = b} {n = n} h g m k = go (eqb (length new) recordLength) refl
+  where
+    go : (x : Bool) → eqb (length new) recordLength ≡ x → CWidenMeets old new n b
+    go true x =
+        let room = eqb-true _ _ x in
+        let s = saves (stateAt old) new .0 (good-says oldLength old g .1) room in
+        told k (m .0 ∙ s .0) (m .1 ∙ s .1 ∙ wide-bytes old h g) (widens old new .0 g room)
+    go false x =
+        let s = saves (stateAt old) new .1 (inr (eqb-false _ _ x)) in
+        told k (m .0 ∙ s .0) (m .1 ∙ s .1) (widens old new .1 (inr (eqb-false _ _ x)))
+
+pub widen-saves :
+    (old new : List ℕ) {o : Restored} {a : Answer} {b : List ℕ} {n : ℕ} → Bytes old → o ≡ oldRestoredOf old → o .answer ≡ Done →
+    SaveMeets (o .state) new a b → n ≡ numberOf a → CWidenMeets old new n b
+widen-saves old new h e r m k = let l = load-done oldLength old e r in wide-saved old new h (l .0) (rw (l .1) at m) k
+
+pub narrow-stops :
+    (new old : List ℕ) {o : Restored} {n : ℕ} → o ≡ restoredOf new → (w : Why) → o .answer ≡ Refused w → n ≡ whyNumber w → CNarrowMeets new old n old
+narrow-stops new old e w r k = let l = load-refused recordLength new e w r in told k (l .1) refl (narrow-two new old (inl (l .0)))
+
+-- the room is an old record's, and the state has no old form
+pub narrow-turned :
+    (new old : List ℕ) {o : Restored} {f : Bool} {n : ℕ} → o ≡ restoredOf new → o .answer ≡ Done → f ≡ fitsOld (o .state) →
+    eqb (length old) oldLength && not f ≡ true → n ≡ whyNumber NoOldForm → CNarrowMeets new old n old
+narrow-turned new old {f = f} e r q t k =
+    let l = load-done recordLength new e r in
+    let a = and-true (eqb (length old) oldLength) _ t in
+    told k refl refl (narrow-ten new old (l .0) (eqb-true _ _ (a .0)) (rw (l .1) at (sym q ∙ not-true f (a .1))))
+
+narrow-saved :
+    (new old : List ℕ) {a : Answer} {b : List ℕ} {n : ℕ} → Bytes new → isRecord new ≡ true → eqb (length old) oldLength && not (fitsOld (stateAt new)) ≡ false →
+    OldSaveMeets (stateAt new) old a b → n ≡ numberOf a → CNarrowMeets new old n b
+narrow-saved new old {a = a} {b = b} {n = n} h g t m k = go (eqb (length old) oldLength) refl
+  where
+    go : (x : Bool) → eqb (length old) oldLength ≡ x → CNarrowMeets new old n b
+    go true x =
+        let room = eqb-true _ _ x in
+        let fits = not-false (fitsOld (stateAt new)) (rw x at t) in
+        let s = old-saves (stateAt new) old .0 (good-says recordLength new g .1) fits room in
+        told k (m .0 ∙ s .0) (m .1 ∙ s .1 ∙ narrow-bytes new h g) (narrow-done new old g room fits)
+    go false x =
+        let s = old-saves (stateAt new) old .1 (inr (inr (eqb-false _ _ x))) in
+        told k (m .0 ∙ s .0) (m .1 ∙ s .1) (narrow-two new old (inr (eqb-false _ _ x)))
+
+pub narrow-saves :
+    (new old : List ℕ) {o : Restored} {f : Bool} {a : Answer} {b : List ℕ} {n : ℕ} → Bytes new → o ≡ restoredOf new → o .answer ≡ Done →
+    f ≡ fitsOld (o .state) → eqb (length old) oldLength && not f ≡ false → OldSaveMeets (o .state) old a b → n ≡ numberOf a → CNarrowMeets new old n b
+narrow-saves new old h e r q t m k =
+    let l = load-done recordLength new e r in
+    narrow-saved new old h (l .0) (rw (q, l .1) at t) (rw (l .1) at m) k
