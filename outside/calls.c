@@ -121,6 +121,11 @@ static uint8_t request_to(uint32_t level, uint32_t vector, uint8_t taken, uint32
     return tlcs900h_request(at(&record), record.length, at(&ram), ram.length, at(&rom), rom.length, level, vector, &flag[1], &place[1]);
 }
 
+/* A record is moved from where records are to where RAM else is. */
+static uint8_t widen(void) { return tlcs900h_widen(at(&record), record.length, at(&ram), ram.length); }
+
+static uint8_t narrow(void) { return tlcs900h_narrow(at(&record), record.length, at(&ram), ram.length); }
+
 static int too_long(void) { return ram.length > 65536 || rom.length > 65536; }
 
 /* Does a thing for every length of the record and of both memories. */
@@ -145,8 +150,9 @@ static void same_number(unsigned long is, unsigned long expected) {
 
 static void constants(void) {
     same_number(TLCS900H_VERSION_MAJOR, 3);
-    same_number(TLCS900H_VERSION_MINOR, 1);
+    same_number(TLCS900H_VERSION_MINOR, 2);
     same_number(TLCS900H_RECORD, 92);
+    same_number(TLCS900H_OLD_RECORD, 88);
     same_number(TLCS900H_MEMORY, 65536);
     same_number(TLCS900H_LEAST_ROM, 256);
     same_number(TLCS900H_MOST_STEPS, 1000000);
@@ -201,7 +207,8 @@ static void numbers(void) {
     same_name(TLCS900H_TOO_MANY, 7, "too many steps");
     same_name(TLCS900H_UNDEFINED, 8, "undefined flag");
     same_name(TLCS900H_BAD_REQUEST, 9, "bad request");
-    same_name(10, 10, "no such number");
+    same_name(TLCS900H_NO_OLD_FORM, 10, "no old form");
+    same_name(11, 11, "no such number");
     same_name(255, 255, "no such number");
 }
 
@@ -930,14 +937,18 @@ static void all_requests(void) {
 }
 
 /* ---- every bit of a record turned over, one at a time: a run of 0 steps tells whether the record is good */
+static int is_good_old(const uint8_t *r) {
+    if (r[83] != 0) return 0;                       /* a counter below 2^24 */
+    if ((r[84] & 0x28) || (r[86] & 0x28)) return 0; /* F and F' */
+    if ((r[85] & 0x8C) != 0x88) return 0;           /* bank and level */
+    return r[87] == 0;
+}
+
 static int is_good(const uint8_t *r) {
     uint8_t marked_f = (uint8_t)((r[TLCS900H_MARKS] & 1 ? 0x10 : 0) | (r[TLCS900H_MARKS] & 2 ? 0x04 : 0));
     uint8_t marked_spare = (uint8_t)((r[TLCS900H_MARKS] & 4 ? 0x10 : 0) | (r[TLCS900H_MARKS] & 8 ? 0x04 : 0));
-    if (r[83] != 0) return 0;                          /* a counter below 2^24 */
-    if ((r[84] & 0x28) || (r[86] & 0x28)) return 0;    /* F and F' */
-    if ((r[85] & 0x8C) != 0x88) return 0;              /* bank and level */
-    if (r[87] || r[91]) return 0;                      /* zeros; any nesting count will do */
-    if (r[TLCS900H_MARKS] > 15) return 0;                          /* four marks, and a marked flag is 0 */
+    if (!is_good_old(r) || r[91]) return 0; /* any nesting count will do */
+    if (r[TLCS900H_MARKS] > 15) return 0;   /* four marks, and a marked flag is 0 */
     return (r[84] & marked_f) == 0 && (r[86] & marked_spare) == 0;
 }
 
@@ -970,6 +981,118 @@ static void record_bits(void) {
     turn_bits(0xC3, 0x81, 0);
     turn_bits(0xC3, 0x81, 15);
     turn_bits(0xD3, 0x85, 2 | 4);
+}
+
+/* ---- records moved to the other form: 2, then 10 */
+static const struct size old_size = {88, 0};
+
+/* A record to move, of flags that may be marked, with a nesting count and marks; and the room for it. */
+static void lend_move(struct size size, struct size room, uint32_t nesting, uint8_t marks) {
+    lend_record(size, 0x123456);
+    put(record.bytes + GUARD + 84, 4, 0x0081DAC3);
+    put(record.bytes + GUARD + TLCS900H_NESTING, 2, nesting);
+    record.bytes[GUARD + TLCS900H_MARKS] = marks;
+    lend(&rom, small);
+    lend(&ram, room);
+}
+
+/* Moves what was lent; done, the room holds the same bytes, and in the new form zeros behind them. */
+static void move_held(const char *call, uint8_t (*move)(void), uint8_t number) {
+    keep();
+    if (number == 0) {
+        memcpy(kept(&ram), kept(&record), 88);
+        memset(kept(&ram) + 88, 0, ram.length - 88);
+    }
+    held(call, move(), number);
+}
+
+static void widen_held(uint8_t number) { move_held("widen", widen, number); }
+
+static void narrow_held(uint8_t number) { move_held("narrow", narrow, number); }
+
+/* Every length of the record and of the room; with a count, and with a byte that no record has. */
+static void moves_at(struct size size, struct size room) {
+    int to_new = size.length == 88 && room.length == 92, to_old = size.length == 92 && room.length == 88;
+    lend_move(size, room, 0, 0);
+    widen_held(to_new ? 0 : 2);
+    lend_move(size, room, 0, 0);
+    narrow_held(to_old ? 0 : 2);
+    lend_move(size, room, 1, 0);
+    narrow_held(to_old ? TLCS900H_NO_OLD_FORM : 2);
+    lend_move(size, room, 1, 0);
+    record.bytes[GUARD + 87] = 1;
+    narrow_held(2);
+    widen_held(2);
+    widen_held(2); /* the same again, while nothing has changed */
+}
+
+static void moves(void) {
+    static const struct size sizes[] = {{0, 1},  {0, 0},  {1, 0},  {4, 0},   {87, 0},  {88, 0},    {89, 0},   {91, 0},
+                                        {92, 0}, {93, 0}, {96, 0}, {176, 0}, {184, 0}, {65535, 0}, {65536, 0}};
+    size_t i, j;
+    for (i = 0; i < COUNT(sizes); i++)
+        for (j = 0; j < COUNT(sizes); j++) moves_at(sizes[i], sizes[j]);
+}
+
+/* Every bit of an old record and of a new one turned over, one at a time. */
+static void turn_moved_bits(uint32_t nesting, uint8_t marks) {
+    size_t byte;
+    int bit;
+    for (byte = 0; byte < 92; byte++)
+        for (bit = 0; bit < 8; bit++) {
+            uint8_t *r = record.bytes + GUARD;
+            lend_move(whole, old_size, nesting, marks);
+            r[byte] ^= (uint8_t)(1 << bit);
+            narrow_held(!is_good(r) ? 2 : r[88] || r[89] || r[90] ? TLCS900H_NO_OLD_FORM : 0);
+            if (byte >= 88) continue;
+            lend_move(old_size, whole, nesting, marks);
+            r[byte] ^= (uint8_t)(1 << bit);
+            widen_held(is_good_old(r) ? 0 : 2);
+        }
+}
+
+/* Every count that is a power of two, every set of marks; and marks of flags that are 1, which are no record's. */
+static void counts_and_marks(void) {
+    static const uint8_t flag_of[4] = {0x10, 0x04, 0x10, 0x04};
+    uint8_t marks, mark;
+    int bit;
+    for (bit = 0; bit < 16; bit++) {
+        lend_move(whole, old_size, 1u << bit, 0);
+        narrow_held(TLCS900H_NO_OLD_FORM);
+    }
+    for (marks = 0; marks < 16; marks++) {
+        lend_move(whole, old_size, 0, marks);
+        narrow_held(marks ? TLCS900H_NO_OLD_FORM : 0);
+        for (mark = 0; mark < 4; mark++) {
+            int bad = marks >> mark & 1;
+            lend_move(whole, old_size, 0, marks);
+            record.bytes[GUARD + (mark < 2 ? 84 : 86)] |= flag_of[mark];
+            narrow_held(bad ? 2 : marks ? TLCS900H_NO_OLD_FORM : 0);
+        }
+    }
+}
+
+/* Both ways by the library alone: what it made of an old record is good, and goes back to the same bytes. */
+static void there_and_back(void) {
+    uint8_t wide[TLCS900H_RECORD], thin[TLCS900H_OLD_RECORD];
+    uint32_t done = 1, none = 1;
+    lend_move(old_size, whole, 0, 0);
+    memset(wide, noise, sizeof wide);
+    memset(thin, noise, sizeof thin);
+    keep();
+    held("widen", tlcs900h_widen(at(&record), TLCS900H_OLD_RECORD, wide, sizeof wide), 0);
+    held("run", tlcs900h_run(wide, sizeof wide, NULL, 0, NULL, 0, 0, &done, &none), 0);
+    held("narrow", tlcs900h_narrow(wide, sizeof wide, thin, sizeof thin), 0);
+    same_number((unsigned long)memcmp(thin, at(&record), sizeof thin), 0);
+}
+
+static void all_moves(void) {
+    counts_and_marks();
+    there_and_back();
+    turn_moved_bits(0, 0);
+    turn_moved_bits(0x100, 0);
+    turn_moved_bits(0, 15);
+    turn_moved_bits(0, 2 | 4);
 }
 
 static void group(const char *name, void (*does)(void)) {
@@ -1005,6 +1128,8 @@ int main(void) {
     group("EI, POP SR and RETI", statuses);
     group("requests of every level, with every mark, at every end", all_requests);
     group("records with one bit turned over", record_bits);
+    group("records moved at every length", moves);
+    group("records moved with every mark and with one bit turned over", all_moves);
     printf("%u passed, %u failed\n", passed, failed);
     return failed != 0;
 }

@@ -2,7 +2,8 @@
  * How much stack each call takes: it is called on a painted stack, and what is no longer paint was used. Every first byte of
  * an instruction is tried with every byte behind it, and with every byte behind one, two and three others, which are 0; from RAM and from
  * ROM; with registers that point to RAM, to ROM and to neither; with H and V of F and F' marked, and with no mark. Requests of every
- * level have their vector in RAM, in ROM and in neither. The header names a bound; the last line counts the calls that keep below it.
+ * level have their vector in RAM, in ROM and in neither. Records that are moved are good ones, of which the old form holds some, and such as
+ * are cut short. The header names a bound; the last line counts the calls that keep below it.
  * Stack that is set aside and never written is not seen. For x86-64.
  */
 #define _XOPEN_SOURCE 700
@@ -18,7 +19,8 @@ static uint8_t records[CASES][TLCS900H_RECORD], rams[CASES][MEMORY], roms[CASES]
 static uint8_t space[SPACE], *top; /* the painted stack; where it stood just before a call */
 static uint32_t counter, count, place;
 static uint8_t was_taken;
-static unsigned long answers[10], taken_requests;
+static uint8_t moved[TLCS900H_RECORD];
+static unsigned long answers[11], taken_requests;
 static ucontext_t here, there;
 
 /* The stack pointer: what a call pushes for itself lies below it. */
@@ -56,6 +58,19 @@ static void requests(void) {
     }
 }
 
+/* Every eighth record to move is a byte short. */
+static size_t cut(size_t length, int i) { return i % 8 == 7 ? length - 1 : length; }
+
+static void widens(void) {
+    MARK();
+    for (int i = 0; i < CASES; i++) answers[tlcs900h_widen(records[i], cut(TLCS900H_OLD_RECORD, i), moved, TLCS900H_RECORD)]++;
+}
+
+static void narrows(void) {
+    MARK();
+    for (int i = 0; i < CASES; i++) answers[tlcs900h_narrow(records[i], cut(TLCS900H_RECORD, i), moved, TLCS900H_OLD_RECORD)]++;
+}
+
 static void put(uint8_t *to, uint32_t value) {
     for (int i = 0; i < 4; i++, value >>= 8) to[i] = (uint8_t)value;
 }
@@ -73,7 +88,7 @@ static void prepare(int first, int behind, int in_rom, uint32_t pointer) {
         for (int r = TLCS900H_XWA; r <= TLCS900H_XSP; r += 4) put(records[i] + r, pointer);
         put(records[i] + TLCS900H_COUNTER, counter);
         put(records[i] + TLCS900H_SR, i % 2 ? 0xF8D7 : 0xF800);
-        put(records[i] + TLCS900H_NESTING, (uint32_t)i); /* and no mark */
+        put(records[i] + TLCS900H_NESTING, i % 8 == 1 ? 0 : (uint32_t)i); /* and no mark */
         records[i][TLCS900H_MARKS] = i % 4 ? 0 : 0x0F; /* every fourth has all marks, and the flags 0 */
     }
 }
@@ -110,15 +125,18 @@ static int keeps(const char *name, void (*call)(void)) {
     size_t bytes;
     memset(answers, 0, sizeof answers);
     bytes = most(call);
-    printf("%s takes %lu bytes of stack at most; it answered 0 to 6, 8 and 9 so often:", name, (unsigned long)bytes);
-    for (int number = 0; number <= 6; number++) printf(" %lu", answers[number]);
-    printf(" %lu %lu\n", answers[8], answers[9]);
+    printf("%s takes %lu bytes of stack at most; it answered 0 to 6 and 8 to 10 so often:", name, (unsigned long)bytes);
+    for (int number = 0; number <= TLCS900H_NO_OLD_FORM; number++)
+        if (number != TLCS900H_TOO_MANY) printf(" %lu", answers[number]);
+    printf("\n");
     return bytes < TLCS900H_STACK && answers[0] > 0;
 }
 
 int main(void) {
     int passed = keeps("tlcs900h_reset", resets) + keeps("tlcs900h_step", steps) + keeps("tlcs900h_run", runs) +
-                 keeps("tlcs900h_show", shows) + (keeps("tlcs900h_request", requests) && taken_requests > 0);
-    printf("%d passed, %d failed\n", passed, 5 - passed);
-    return passed != 5;
+                 keeps("tlcs900h_show", shows) + (keeps("tlcs900h_request", requests) && taken_requests > 0) +
+                 (keeps("tlcs900h_widen", widens) && answers[TLCS900H_INVALID] > 0) +
+                 (keeps("tlcs900h_narrow", narrows) && answers[TLCS900H_INVALID] > 0 && answers[TLCS900H_NO_OLD_FORM] > 0);
+    printf("%d passed, %d failed\n", passed, 7 - passed);
+    return passed != 7;
 }

@@ -1,4 +1,4 @@
--- What each call answers and leaves, by its cases, and the bytes of a moved record.
+-- What is promised is settled; what each call answers and leaves, by its cases, and the bytes of a moved record.
 use Prim.Native.Nat.{ℕ}
 use mathlib.Core.Path.{_≡_, refl, ap, sym, _∙_}
 use mathlib.Core.Logic.{_⊎_, ⊎-elim, inl, inr}
@@ -22,7 +22,14 @@ use Rattle.saved.proofs.Laws.{load-good}
 use Rattle.saved.proofs.Refusals.{saves, old-saves, bad-records}
 use Rattle.saved.proofs.RoundTrip.{front-is-old, sound-at, good-says, read-saves-back, old-records-are-of-states}
 use Rattle.moves.specs.Moves.{widened, widenAnswer, widenBytes, narrowed, narrowAnswer, narrowBytes, CWidenMeets, CNarrowMeets}
-use Rattle.moves.specs.Statements.{Widens}
+use Rattle.moves.specs.Statements.{Widens, Settled}
+
+-- ---- what is promised is settled
+alike : {n m x : ℕ} {b c y : List ℕ} → (n ≡ x) × (b ≡ y) → (m ≡ x) × (c ≡ y) → (n ≡ m) × (b ≡ c)
+alike p q = (p .0 ∙ sym (q .0), p .1 ∙ sym (q .1))
+
+pub settled : Settled
+settled = (λ old new b c n m. alike, λ new old b c n m. alike)
 
 -- ---- the bytes: to move a record is to write its state in the other form
 pub wide-bytes : (old : List ℕ) → Bytes old → isOldRecord old ≡ true → recordOf (stateAt old) ≡ widened old

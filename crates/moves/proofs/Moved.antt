@@ -22,7 +22,7 @@ use Rattle.saved.specs.Record.{restoredOf, oldRestoredOf}
 use Rattle.saved.proofs.Laws.{load-good}
 use Rattle.saved.proofs.RoundTrip.{front-is-old, sound-at, marks-same, good-says, saved-reads-back, read-saves-back, records-are-of-states, old-records-are-of-states}
 use Rattle.moves.specs.Moves.{widenAnswer, widenBytes, narrowAnswer, narrowBytes}
-use Rattle.moves.specs.Statements.{Narrows, WidensBack, NarrowsBack, MovedLoads, MovedSaves, Settled}
+use Rattle.moves.specs.Statements.{Narrows, WidensBack, NarrowsBack, MovedLoads, MovedSaves}
 use Rattle.moves.proofs.Laws.{wide-bytes, narrow-bytes, widens, narrow-done, narrow-ten, narrow-two, done-or}
 
 -- ---- when each number is given
@@ -112,10 +112,3 @@ moved-loads = (
       ∙ saved-reads-back (stateAt new) (sound-at new h) (good-says recordLength new (m .0) .1) .1 (m .1)
       ∙ sym (load-good recordLength new (m .0)),
 )
-
--- ---- what is promised is settled
-alike : {n m x : ℕ} {b c y : List ℕ} → (n ≡ x) × (b ≡ y) → (m ≡ x) × (c ≡ y) → (n ≡ m) × (b ≡ c)
-alike p q = (p .0 ∙ sym (q .0), p .1 ∙ sym (q .1))
-
-pub settled : Settled
-settled = (λ old new b c n m. alike, λ new old b c n m. alike)

@@ -1,4 +1,4 @@
--- What is proved of the two calls, beside what each promises. Each statement is proved in proofs/Moved.antt.
+-- What is proved of the two calls, beside what each promises. Each statement is proved in proofs/Moved.antt or Laws.antt.
 use Rattle.little.specs.Words.{ℕ, _≡_, true, false, _⊎_, List, length}
 use Rattle.little.specs.Bytes.{Bytes}
 use Rattle.answer.specs.declared.{Answer.the-variants.Done, Answer.the-variants.Refused, Why.the-variants.Invalid, Why.the-variants.NoOldForm}

@@ -10,10 +10,10 @@
 //!
 //! The first prints the table; the counts of machine instructions come from
 //! outside, since a program cannot count its own. `--brief` only sees that
-//! every mix, every kind and every request works, on both machines alike. The
-//! others are for those who count: `--mixes` names the mixes, `--kinds` the kinds
-//! and the sizes of each, the requests among them; `--only` does a mix, or a kind
-//! at a size, once.
+//! every mix, every kind, every request and every move works, on both machines
+//! alike. The others are for those who count: `--mixes` names the mixes, `--kinds`
+//! the kinds and the sizes of each, the requests and the moves among them; `--only`
+//! does a mix, or a kind at a size, once.
 
 #![forbid(unsafe_code)]
 
@@ -26,9 +26,10 @@ use kinds::kinds;
 use library::{Empty, Library};
 use mixes::MIXES;
 use scene::Scene;
+use second::record::{LENGTH, OLD_LENGTH};
 use std::process::ExitCode;
 use std::time::{Duration, Instant};
-use turns::{Turn, TURNS};
+use turns::{Deed, Turn, TURNS};
 
 /// How many steps a call is asked for: the most there can be.
 const STEPS: u32 = 1_000_000;
@@ -70,10 +71,14 @@ trait Worker {
     fn run(&mut self, steps: u32) -> (u32, u8);
     fn step(&mut self) -> u8;
     fn request(&mut self, level: u32, vector: u32) -> (bool, u8);
+    /// Moves the state's old record to the new form, at the start of RAM.
+    fn widen(&mut self) -> u8;
+    /// Moves the state's record to the old form, at the start of RAM.
+    fn narrow(&mut self) -> u8;
 }
 
 struct Proved {
-    record: [u8; second::record::LENGTH],
+    record: [u8; LENGTH],
     ram: Vec<u8>,
     rom: Vec<u8>,
 }
@@ -81,7 +86,7 @@ struct Proved {
 impl Proved {
     fn new(scene: Scene) -> Proved {
         Proved {
-            record: scene.machine.to_record().expect("a valid state"),
+            record: scene.record(),
             ram: scene.ram,
             rom: scene.rom,
         }
@@ -103,6 +108,14 @@ impl Worker for Proved {
         let (taken, number, _) = LIBRARY.request(record, ram, &self.rom, level, vector);
         (taken == 1, number)
     }
+
+    fn widen(&mut self) -> u8 {
+        LIBRARY.widen(&self.record[..OLD_LENGTH], &mut self.ram[..LENGTH])
+    }
+
+    fn narrow(&mut self) -> u8 {
+        LIBRARY.narrow(&self.record, &mut self.ram[..OLD_LENGTH])
+    }
 }
 
 impl Worker for Scene {
@@ -119,6 +132,14 @@ impl Worker for Scene {
         let (machine, ram) = (&mut self.machine, &mut self.ram);
         let (taken, number, _) = second::request(machine, ram, &self.rom, level, vector);
         (taken, number)
+    }
+
+    fn widen(&mut self) -> u8 {
+        second::widen(&self.record()[..OLD_LENGTH], &mut self.ram[..LENGTH])
+    }
+
+    fn narrow(&mut self) -> u8 {
+        second::narrow(&self.record(), &mut self.ram[..OLD_LENGTH])
     }
 }
 
@@ -142,11 +163,18 @@ impl Task {
     }
 }
 
-/// Offers a request, and steps if the turn says so: whether all was answered as
-/// it has to be.
+/// Makes the call, and steps if the turn says so: whether all was answered as it
+/// has to be.
 fn a_turn(worker: &mut impl Worker, turn: &Turn) -> bool {
-    worker.request(turn.level, turns::VECTOR) == (turn.taken, 0)
-        && (!turn.returns || worker.step() == 0)
+    match turn.deed {
+        Deed::Request {
+            level,
+            taken,
+            returns,
+        } => worker.request(level, turns::VECTOR) == (taken, 0) && (!returns || worker.step() == 0),
+        Deed::Widen => worker.widen() == 0,
+        Deed::Narrow { number, .. } => worker.narrow() == number,
+    }
 }
 
 /// Runs, and insists that all the steps were done.
@@ -163,8 +191,7 @@ fn both_alike(scene: &Scene, task: Task, times: u32, name: &str) -> Result<(), S
     let mut other = scene.clone();
     task.work(&mut proved, times, name)?;
     task.work(&mut other, times, name)?;
-    let record = other.machine.to_record();
-    if record == Ok(proved.record) && other.ram == proved.ram {
+    if other.record() == proved.record && other.ram == proved.ram {
         Ok(())
     } else {
         Err(format!("{name}: the two machines end differently"))
@@ -190,7 +217,7 @@ fn brief() -> Result<(), String> {
     println!("bench: {count} instructions work, each by itself");
     for turn in &TURNS {
         let times = kinds::STEPS;
-        both_alike(&turns::scene(), Task::Turns(turn), times, turn.name)?;
+        both_alike(&turn.scene(), Task::Turns(turn), times, turn.name)?;
         println!("bench: {} works", turn.name);
     }
     Ok(())
@@ -221,7 +248,7 @@ fn task_of(name: &str) -> Option<(Scene, Task)> {
     }
     let (kind, size) = name.rsplit_once(' ')?;
     if let Some(turn) = TURNS.iter().find(|turn| turn.name == kind) {
-        return (size == "plain").then(|| (turns::scene(), Task::Turns(turn)));
+        return (size == "plain").then(|| (turn.scene(), Task::Turns(turn)));
     }
     let kind = kinds().into_iter().find(|known| known.name == kind)?;
     let code = kind.codes.iter().find(|known| known.size == size)?;

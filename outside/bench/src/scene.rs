@@ -1,6 +1,7 @@
 //! What the machines are given: a state and the memories, the code in ROM as
 //! firmware is.
 
+use second::record::LENGTH;
 use second::{Machine, Width};
 
 pub const MOST: usize = second::MOST_BYTES;
@@ -24,6 +25,10 @@ impl Scene {
         }
         let ram = (0..MOST).map(byte_of_ram).collect();
         Scene { machine, ram, rom }
+    }
+
+    pub fn record(&self) -> [u8; LENGTH] {
+        self.machine.to_record().expect("a valid state")
     }
 }
 

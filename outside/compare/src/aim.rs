@@ -2,8 +2,9 @@
 
 use crate::chance::Chance;
 use crate::image::Image;
+use forms::records::MARKED;
 use forms::{Form, Slot};
-use second::record::{self, BANK, COUNTER, F, F_PRIME, LENGTH, MARKS, NESTING, ZEROS};
+use second::record::{self, BANK, COUNTER, F, F_PRIME, LENGTH, MARKS, NESTING, OLD_LENGTH, ZEROS};
 use second::Width;
 
 /// The values at which arithmetic of some width turns.
@@ -150,6 +151,13 @@ pub fn record(chance: &mut Chance, layout: Layout) -> Vec<u8> {
     record
 }
 
+/// The record of a valid state that the old form can hold.
+pub fn plain_record(chance: &mut Chance, layout: Layout) -> Vec<u8> {
+    let mut record = record(chance, layout);
+    record[OLD_LENGTH..].fill(0);
+    record
+}
+
 /// Draws the nesting count: none, at a turn, or any.
 pub fn draw_nesting(chance: &mut Chance, record: &mut [u8]) {
     let nesting = match chance.below(4) {
@@ -183,14 +191,6 @@ pub fn draw_flags(chance: &mut Chance, record: &mut [u8]) {
     record[F_PRIME] = chance.byte() & FLAGS;
     draw_marks(chance, record);
 }
-
-/// Each mark's bit in its byte, with the byte and the bit of its flag.
-const MARKED: [(u8, usize, u8); 4] = [
-    (0x01, F, 0x10),
-    (0x02, F, 0x04),
-    (0x04, F_PRIME, 0x10),
-    (0x08, F_PRIME, 0x04),
-];
 
 /// Draws marks for the flags that are 0, every other time. F and F' stay.
 pub fn draw_marks(chance: &mut Chance, record: &mut [u8]) {

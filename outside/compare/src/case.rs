@@ -3,7 +3,7 @@
 use crate::image::{hex, unhex, Image};
 use second::record::{COUNTER, SR};
 
-/// Which of the five calls.
+/// Which of the seven calls.
 #[derive(Clone, Copy, Debug, PartialEq, Eq)]
 pub enum Call {
     Reset,
@@ -12,9 +12,19 @@ pub enum Call {
     Show(u32),
     /// A level and the address of a vector.
     Request(u32, u32),
+    Widen,
+    Narrow,
 }
 
-/// A call and what it is given. `Show` takes no record.
+impl Call {
+    /// Whether a record is moved to the other form.
+    pub fn moves(self) -> bool {
+        matches!(self, Call::Widen | Call::Narrow)
+    }
+}
+
+/// A call and what it is given. `Show` takes no record. `Widen` and `Narrow` take
+/// no memories: the room for what is moved stands where RAM else does.
 #[derive(Clone, Debug, PartialEq, Eq)]
 pub struct Case {
     pub call: Call,
@@ -32,13 +42,14 @@ impl Case {
             Call::Run(steps) => format!("run:{steps}"),
             Call::Show(at) => format!("show:{at}"),
             Call::Request(level, vector) => format!("request:{level}:{vector}"),
+            Call::Widen => "widen".to_string(),
+            Call::Narrow => "narrow".to_string(),
         };
-        format!(
-            "{call} record={} ram={} rom={}",
-            hex(&self.record),
-            self.ram.text(),
-            self.rom.text()
-        )
+        let (record, ram) = (hex(&self.record), self.ram.text());
+        if self.call.moves() {
+            return format!("{call} record={record} room={ram}");
+        }
+        format!("{call} record={record} ram={ram} rom={}", self.rom.text())
     }
 
     /// The case that [`Case::text`] tells of.
@@ -46,12 +57,27 @@ impl Case {
         let mut words = text.split_whitespace();
         let call = parse_call(words.next()?)?;
         let mut field = |name: &str| words.next()?.strip_prefix(name)?.strip_prefix('=');
+        let record = unhex(field("record")?)?;
+        if call.moves() {
+            let room = Image::parse(field("room")?)?;
+            return Some(Case::of_move(call, record, room));
+        }
         Some(Case {
             call,
-            record: unhex(field("record")?)?,
+            record,
             ram: Image::parse(field("ram")?)?,
             rom: Image::parse(field("rom")?)?,
         })
+    }
+
+    /// A record to move, and the room for it.
+    pub fn of_move(call: Call, record: Vec<u8>, room: Image) -> Case {
+        Case {
+            call,
+            record,
+            ram: room,
+            rom: Image::zeros(0),
+        }
     }
 
     /// The bytes from the counter on, or from the address to show, or from the
@@ -88,6 +114,8 @@ fn parse_call(word: &str) -> Option<Call> {
         ("run", &[steps]) => Some(Call::Run(steps)),
         ("show", &[at]) => Some(Call::Show(at)),
         ("request", &[level, vector]) => Some(Call::Request(level, vector)),
+        ("widen", []) => Some(Call::Widen),
+        ("narrow", []) => Some(Call::Narrow),
         _ => None,
     }
 }

@@ -9,6 +9,7 @@ mod flow;
 mod marks;
 mod memories;
 mod misuse;
+mod moves;
 mod records;
 mod requests;
 mod runs;
@@ -71,6 +72,11 @@ pub const GROUPS: &[Group] = &[
     Group("requests-in-repeats", requests::in_repeats),
     Group("record-bits", records::bits),
     Group("record-lengths", records::lengths),
+    Group("move-bits", moves::bits),
+    Group("move-lengths", moves::lengths),
+    Group("move-noise", moves::noise),
+    Group("moves-and-back", moves::and_back),
+    Group("moves-after-steps", moves::after_steps),
     Group("memory-lengths", memories::lengths),
     Group("reset", memories::reset),
     Group("show", memories::show),

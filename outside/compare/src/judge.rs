@@ -85,6 +85,38 @@ impl Answer {
     }
 }
 
+/// What became of the records that were moved one way.
+#[derive(Clone, Copy, Debug, Default)]
+pub struct Moves {
+    pub done: u64,
+    /// Those refused with 2.
+    pub bad: u64,
+    /// Those refused with 10.
+    pub unheld: u64,
+}
+
+impl Moves {
+    pub fn all(self) -> u64 {
+        self.done + self.bad + self.unheld
+    }
+
+    fn and(self, other: Moves) -> Moves {
+        Moves {
+            done: self.done + other.done,
+            bad: self.bad + other.bad,
+            unheld: self.unheld + other.unheld,
+        }
+    }
+
+    fn add(&mut self, number: u8) {
+        match number {
+            0 => self.done += 1,
+            10 => self.unheld += 1,
+            _ => self.bad += 1,
+        }
+    }
+}
+
 /// What has been compared.
 #[derive(Clone, Copy, Debug, Default)]
 pub struct Tally {
@@ -98,12 +130,16 @@ pub struct Tally {
     pub taken: u64,
     /// Requests that were not taken, and not refused.
     pub left: u64,
+    /// Old records moved to the new form.
+    pub widened: Moves,
+    /// Records moved back.
+    pub narrowed: Moves,
     /// Other calls.
     pub others: u64,
     /// Steps that the library did, by either call.
     pub done: u64,
     /// How often each number was answered.
-    pub met: [u64; 10],
+    pub met: [u64; 11],
 }
 
 impl Tally {
@@ -114,12 +150,19 @@ impl Tally {
         self.requests += other.requests;
         self.taken += other.taken;
         self.left += other.left;
+        self.widened = self.widened.and(other.widened);
+        self.narrowed = self.narrowed.and(other.narrowed);
         self.others += other.others;
         self.done += other.done;
         for (met, more) in self.met.iter_mut().zip(other.met) {
             *met += more;
         }
         self
+    }
+
+    /// How many records were to be moved, either way.
+    pub fn moves(&self) -> u64 {
+        self.widened.and(self.narrowed).all()
     }
 
     fn add(&mut self, call: Call, answer: Answer) {
@@ -138,6 +181,8 @@ impl Tally {
                 self.taken += u64::from(done && answer.count == 1);
                 self.left += u64::from(done && answer.count == 0);
             }
+            Call::Widen => self.widened.add(answer.number),
+            Call::Narrow => self.narrowed.add(answer.number),
             Call::Reset | Call::Show(_) => self.others += 1,
         }
         if let Some(met) = self.met.get_mut(usize::from(answer.number)) {
@@ -194,7 +239,7 @@ impl Judge {
         if !self.agree(case, answer, other) {
             self.failures += 1;
             if self.failures <= MOST_PRINTED {
-                self.narrow(case);
+                self.look_into(case);
                 // What the call left is wanted, not what the search left.
                 self.both(case);
             }
@@ -244,6 +289,8 @@ impl Judge {
             Call::Request(level, vector) => {
                 Answer::request(self.library.request(record, ram, rom, level, vector))
             }
+            Call::Widen => Answer::number(self.library.widen(record, ram)),
+            Call::Narrow => Answer::number(self.library.narrow(record, ram)),
         };
 
         self.other_record.clone_from(&case.record);
@@ -269,7 +316,7 @@ impl Judge {
 
     /// Prints a disagreement. In a run, the first step that differs is
     /// looked for; it says more than the whole run.
-    fn narrow(&mut self, case: &Case) {
+    fn look_into(&mut self, case: &Case) {
         // Other groups print nothing in the middle of it.
         let _whole = std::io::stdout().lock();
         let steps = match case.call {
@@ -312,20 +359,25 @@ impl Judge {
         let (answer, other) = self.both(case);
         println!("DISAGREE");
         println!("  --case '{}'", case.text());
-        let what = match case.call {
-            Call::Request(..) => "vector: ",
-            _ => "code:   ",
-        };
-        println!("  {what} {}", spaced(case.code()));
-        let told = |answer, record: &[u8]| told(case.call, answer, record);
-        println!("  library: {}", told(answer, self.record.bytes()));
-        println!("  second:  {}", told(other, &self.other_record));
+        match case.call {
+            Call::Widen | Call::Narrow => {}
+            Call::Request(..) => println!("  vector:  {}", spaced(case.code())),
+            _ => println!("  code:    {}", spaced(case.code())),
+        }
+        let ours = written(case.call, self.record.bytes(), self.ram.bytes());
+        println!("  library: {}", told(case.call, answer, ours));
+        let others = written(case.call, &self.other_record, &self.other_ram);
+        println!("  second:  {}", told(case.call, other, others));
         for (place, ours, others) in differing(self.record.bytes(), &self.other_record) {
             let name = field(place);
             println!("  {name}: library {ours:02X}, second {others:02X}");
         }
         for (place, ours, others) in differing(self.ram.bytes(), &self.other_ram) {
-            println!("  RAM {place:04X}: library {ours:02X}, second {others:02X}");
+            let name = match case.call.moves() {
+                true => format!("the room's {}", field(place)),
+                false => format!("RAM {place:04X}"),
+            };
+            println!("  {name}: library {ours:02X}, second {others:02X}");
         }
         if self.rom.bytes() != case.rom.bytes {
             println!("  the library changed ROM");
@@ -339,11 +391,11 @@ impl Judge {
     pub fn replay(&mut self, case: &Case) -> bool {
         let (answer, other) = self.both(case);
         if self.agree(case, answer, other) {
-            let told = told(case.call, answer, self.record.bytes());
-            println!("both:      {told}");
+            let ours = written(case.call, self.record.bytes(), self.ram.bytes());
+            println!("both:      {}", told(case.call, answer, ours));
             return true;
         }
-        self.narrow(case);
+        self.look_into(case);
         false
     }
 }
@@ -383,6 +435,15 @@ fn register_at(place: usize) -> String {
         format!("{told} of bank {bank}")
     } else {
         told
+    }
+}
+
+/// Where a call leaves a record: a move does not write the one that it is given.
+fn written<'a>(call: Call, record: &'a [u8], ram: &'a [u8]) -> &'a [u8] {
+    if call.moves() {
+        ram
+    } else {
+        record
     }
 }
 

@@ -1,9 +1,9 @@
 //! The proved library and the second interpreter, held against each other.
 //!
 //! Both are given the same record, memories and call; number, address, count or
-//! whether it was taken, record and RAM must be the same afterwards. The second interpreter is
-//! unproved; that the two agree proves nothing, but where they differ one is
-//! wrong.
+//! whether it was taken, record and RAM, or the room for a record that is moved,
+//! must be the same afterwards. The second interpreter is unproved; that the two
+//! agree proves nothing, but where they differ one is wrong.
 //!
 //! ```text
 //! compare [--seed N] [--rounds N] [--group NAME] [--case 'TEXT']
@@ -102,6 +102,18 @@ fn compare(wish: &Wish) -> bool {
     let (mut passed, mut failed) = (judges.len() - failed, failed);
     let tallies = judges.iter().map(|judge| judge.tally);
     let all = tallies.fold(Tally::default(), Tally::and);
+    tell(&all);
+    if wish.group.is_none() {
+        let enough = enough(&all);
+        passed += usize::from(enough);
+        failed += usize::from(!enough);
+    }
+    println!("{passed} passed, {failed} failed");
+    failed == 0 && passed > 0
+}
+
+/// Prints what was compared.
+fn tell(all: &Tally) {
     println!(
         "compare: {} steps done by the library; {} single steps, {} runs and {} other calls compared",
         all.done, all.single, all.runs, all.others
@@ -110,14 +122,17 @@ fn compare(wish: &Wish) -> bool {
         "compare: {} requests offered, {} taken and {} not taken",
         all.requests, all.taken, all.left
     );
-    println!("compare: numbers 0 to 9 answered {:?} times", all.met);
-    if wish.group.is_none() {
-        let enough = enough(&all);
-        passed += usize::from(enough);
-        failed += usize::from(!enough);
-    }
-    println!("{passed} passed, {failed} failed");
-    failed == 0 && passed > 0
+    let (widened, narrowed) = (all.widened, all.narrowed);
+    println!(
+        "compare: {} moves compared: {} records widened, {} refused with 2; {} narrowed, {} refused with 2 and {} with 10",
+        all.moves(),
+        widened.done,
+        widened.bad,
+        narrowed.done,
+        narrowed.bad,
+        narrowed.unheld
+    );
+    println!("compare: numbers 0 to 10 answered {:?} times", all.met);
 }
 
 /// Does the groups, as many at a time as there are processors: each hangs on
@@ -151,11 +166,12 @@ fn judged(Group(name, work): &Group, wish: &Wish) -> Judge {
         rounds: wish.rounds,
     });
     println!(
-        "{:>26}: {:>8} single steps, {:>8} steps in all, {:>7} requests, {:>5.1} s, {}",
+        "{:>26}: {:>8} single steps, {:>8} steps in all, {:>7} requests, {:>6} moves, {:>5.1} s, {}",
         name,
         judge.tally.single,
         judge.tally.done,
         judge.tally.requests,
+        judge.tally.moves(),
         start.elapsed().as_secs_f64(),
         if judge.failures == 0 {
             "agreed"
@@ -167,13 +183,18 @@ fn judged(Group(name, work): &Group, wish: &Wish) -> Judge {
 }
 
 /// Whether enough was compared for the agreement to say anything: millions
-/// of steps, a million requests, half of them taken, and every number answered.
+/// of steps, a million requests, half of them taken, a million moves with each
+/// outcome among them, and every number answered.
 fn enough(all: &Tally) -> bool {
     let enough = all.done >= 5_000_000
         && all.single >= 1_000_000
         && all.requests >= 1_000_000
         && 2 * all.taken >= all.requests
         && all.left >= 50_000
+        && all.moves() >= 1_000_000
+        && all.widened.done.min(all.widened.bad) >= 50_000
+        && all.narrowed.done.min(all.narrowed.bad) >= 50_000
+        && all.narrowed.unheld >= 50_000
         && all.met.iter().all(|&times| times > 100);
     if !enough {
         println!("WRONG: too little was compared");

@@ -8,6 +8,7 @@
 #![forbid(unsafe_code)]
 
 pub mod marks;
+pub mod records;
 pub mod requests;
 
 /// One line for each form, in hex: bytes or ranges of bytes; `n` for a byte of

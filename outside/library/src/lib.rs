@@ -67,6 +67,20 @@ mod surface {
             taken: *mut u8,
             at: *mut u32,
         ) -> u8;
+
+        pub fn tlcs900h_widen(
+            old: *const u8,
+            old_length: usize,
+            new: *mut u8,
+            new_length: usize,
+        ) -> u8;
+
+        pub fn tlcs900h_narrow(
+            new: *const u8,
+            new_length: usize,
+            old: *mut u8,
+            old_length: usize,
+        ) -> u8;
     }
 }
 
@@ -79,7 +93,7 @@ pub enum Empty {
     Null,
 }
 
-/// The library's five calls. Each takes slices of any length. Those of which the
+/// The library's seven calls. Each takes slices of any length. Those of which the
 /// benchmark counts every call are compiled into it, to add little to the count.
 #[derive(Clone, Copy, Debug)]
 pub struct Library {
@@ -210,5 +224,20 @@ impl Library {
         let taken = std::mem::replace(&mut bytes[MIDDLE], UNWRITTEN_BYTE);
         let alone = bytes == [UNWRITTEN_BYTE; 2 * MIDDLE];
         (if alone { taken } else { UNWRITTEN_BYTE }, number, at)
+    }
+
+    /// Moves an old record to the new form, and gives the number.
+    #[inline]
+    pub fn widen(self, old: &[u8], new: &mut [u8]) -> u8 {
+        // SAFETY: each pointer and length is one whole slice, lent for the
+        // call; the new record is lent alone.
+        unsafe { surface::tlcs900h_widen(self.read(old), old.len(), self.write(new), new.len()) }
+    }
+
+    /// Moves a record back to the old form, and gives the number.
+    #[inline]
+    pub fn narrow(self, new: &[u8], old: &mut [u8]) -> u8 {
+        // SAFETY: as for the other way; the old record is lent alone.
+        unsafe { surface::tlcs900h_narrow(self.read(new), new.len(), self.write(old), old.len()) }
     }
 }

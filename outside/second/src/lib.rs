@@ -21,6 +21,7 @@
 //! missing, 4 a code not listed, 5 an operand missing, 6 a store to ROM. K6
 //! adds 8, for a flag that is read and that 000 leaves undefined; it comes
 //! after 4 and before 5. K8 adds 9, for a request that there cannot be; it
+//! comes after 2. K9 adds 10, for a record that the old form cannot hold; it
 //! comes after 2. To 5 and 6 a step, a run or a request adds the address that
 //! K3 names; with any other number it adds 0.
 
@@ -33,6 +34,7 @@ mod execute;
 mod flags;
 mod machine;
 mod memory;
+mod moves;
 mod program;
 pub mod record;
 mod refusal;
@@ -61,12 +63,15 @@ pub mod number {
     pub const UNDEFINED: u8 = 8;
     /// A request has no level from 1 to 7, or no address for its vector.
     pub const BAD_REQUEST: u8 = 9;
+    /// A record to move back has a mark, or its nesting count is not 0.
+    pub const NO_OLD_FORM: u8 = 10;
 }
 
 pub use execute::{run, step, MOST_STEPS};
 pub use flags::Marks;
 pub use machine::Machine;
 pub use memory::{show, MOST_BYTES};
+pub use moves::{narrow, widen};
 pub use program::{line, reset};
 pub use request::request;
 pub use width::Width;

@@ -2,7 +2,7 @@
 
 use crate::flags::{Flags, Marks};
 use crate::number;
-use crate::record::{self, COUNTER, F_PRIME, LENGTH, MARKS, NESTING, SR, ZEROS};
+use crate::record::{self, COUNTER, F_PRIME, LAST, LENGTH, MARKS, NESTING, OLD_LENGTH, SR, ZERO};
 use crate::width::{gather, scatter, Width};
 
 /// How many addresses there are: every address is taken modulo this.
@@ -85,11 +85,20 @@ impl Machine {
     /// stands). Any other length, or any bit that no valid state has, is
     /// refused with 2.
     pub fn from_record(record: &[u8]) -> Result<Machine, u8> {
-        if record.len() != LENGTH || ZEROS.iter().any(|&zero| record[zero] != 0) {
+        if record.len() != LENGTH || record[LAST] != 0 || record[MARKS] > MOST_MARKS {
             return Err(number::NOT_VALID);
         }
-        let marks = record[MARKS];
-        if marks > MOST_MARKS {
+        let mut machine = Machine::from_old_record(&record[..OLD_LENGTH])?;
+        machine.marks = Marks::from_bits(record[MARKS] % 4);
+        machine.marks_prime = Marks::from_bits(record[MARKS] / 4);
+        machine.nesting = gather(&record[NESTING..MARKS]) as u16;
+        machine.if_valid()
+    }
+
+    /// The state saved in an old record, which has no marks and no nesting
+    /// count: these are 0. What is refused is refused with 2 here, too.
+    pub fn from_old_record(record: &[u8]) -> Result<Machine, u8> {
+        if record.len() != OLD_LENGTH || record[ZERO] != 0 {
             return Err(number::NOT_VALID);
         }
         let status = gather(&record[SR..F_PRIME]);
@@ -102,11 +111,12 @@ impl Machine {
         machine.f = (status % 256) as u8;
         machine.set_upper_status(status);
         machine.f_prime = record[F_PRIME];
-        machine.marks = Marks::from_bits(marks % 4);
-        machine.marks_prime = Marks::from_bits(marks / 4);
-        machine.nesting = gather(&record[NESTING..MARKS]) as u16;
-        if machine.valid() {
-            Ok(machine)
+        machine.if_valid()
+    }
+
+    fn if_valid(self) -> Result<Machine, u8> {
+        if self.valid() {
+            Ok(self)
         } else {
             Err(number::NOT_VALID)
         }

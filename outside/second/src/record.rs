@@ -1,7 +1,8 @@
 //! Where everything stands in a state's record. It begins as document 01 has
 //! it: banks 0 to 3 (XWA, XBC, XDE, XHL each), XIX, XIY, XIZ, XSP, the counter
-//! in four bytes, SR in two, F' in one, a zero byte. For K6 and K8 there are
-//! four more: the nesting count in two, the marks in one, a zero byte.
+//! in four bytes, SR in two, F' in one, a zero byte. That was all of the old
+//! record; for K6 and K8 the new one has four more: the nesting count in two,
+//! the marks in one, a zero byte.
 //!
 //! Whoever looks into a record goes by this. One test states the offsets as
 //! numbers (`where_everything_lies` in `tests/records.rs`).
@@ -26,8 +27,10 @@ pub const BANK: usize = SR + 1;
 pub const F_PRIME: usize = SR + 2;
 /// The byte behind F', which is always zero.
 pub const ZERO: usize = F_PRIME + 1;
+/// The length of an old record, and where what it lacks begins.
+pub const OLD_LENGTH: usize = ZERO + 1;
 /// The nesting count, which ends at the marks. It may have any value.
-pub const NESTING: usize = ZERO + 1;
+pub const NESTING: usize = OLD_LENGTH;
 /// The marks: bit 0 for H of F, bit 1 for V of F, bit 2 for H of F', bit 3 for
 /// V of F'. Bits 4 to 7 are always zero.
 pub const MARKS: usize = NESTING + 2;

@@ -3,61 +3,26 @@
 mod common;
 
 use common::{Chance, XSP, XWA};
-use second::record::{self, BANK, COUNTER, F, F_PRIME, LAST, LENGTH, MARKS, NESTING, SR, ZERO};
+use forms::records::{is_new, marks_fit, mend, MARKED};
+use second::record::{
+    self, BANK, COUNTER, F, F_PRIME, LAST, LENGTH, MARKS, NESTING, OLD_LENGTH, SR, ZERO,
+};
 use second::{run, Machine, Marks, Width};
-
-/// Each mark's bit in its byte, with the byte and the bit of its flag.
-const MARKED: [(usize, usize, usize); 4] = [(0, F, 4), (1, F, 2), (2, F_PRIME, 4), (3, F_PRIME, 2)];
-
-/// Whether a bit of a record may be either, and if not which it must be.
-fn fixed_bit(byte: usize, bit: usize) -> Option<bool> {
-    match (byte, bit) {
-        (F | F_PRIME, 3 | 5) => Some(false),
-        (BANK, 2) => Some(false),    // SR bit 10
-        (BANK, 3 | 7) => Some(true), // SR bits 11 and 15
-        (ZERO | LAST, _) => Some(false),
-        (MARKS, 4..) => Some(false),
-        _ if byte == COUNTER + 3 => Some(false), // the counter has 24 bits
-        _ => None,
-    }
-}
-
-fn is_set(bytes: &[u8], byte: usize, bit: usize) -> bool {
-    bytes[byte] >> bit & 1 == 1
-}
-
-/// Whether every marked flag is 0.
-fn marks_fit(bytes: &[u8]) -> bool {
-    MARKED.iter().all(|&(mark, flags, bit)| {
-        let marked = is_set(bytes, MARKS, mark);
-        !(marked && is_set(bytes, flags, bit))
-    })
-}
-
-fn is_record(bytes: &[u8]) -> bool {
-    bytes.len() == LENGTH
-        && marks_fit(bytes)
-        && (0..LENGTH).all(|byte| {
-            (0..8).all(|bit| {
-                let set = is_set(bytes, byte, bit);
-                fixed_bit(byte, bit).is_none_or(|wanted| wanted == set)
-            })
-        })
-}
 
 /// The record with the free bits as given; but a flag that is 1 is not marked.
 fn record_of(free: impl Fn(usize, usize) -> bool) -> [u8; LENGTH] {
     let mut record = [0; LENGTH];
     for (byte, value) in record.iter_mut().enumerate() {
         for bit in 0..8 {
-            if fixed_bit(byte, bit).unwrap_or_else(|| free(byte, bit)) {
+            if free(byte, bit) {
                 *value |= 1 << bit;
             }
         }
     }
-    for (mark, flags, bit) in MARKED {
-        if is_set(&record, flags, bit) {
-            record[MARKS] &= !(1 << mark);
+    mend(&mut record);
+    for (mark, place, flag) in MARKED {
+        if record[place] & flag != 0 {
+            record[MARKS] &= !mark;
         }
     }
     record
@@ -80,7 +45,7 @@ fn every_single_bit() {
                 let mut flipped = record;
                 flipped[byte] ^= 1 << bit;
                 let read = Machine::from_record(&flipped);
-                if !is_record(&flipped) {
+                if !is_new(&flipped) {
                     assert_eq!(read, Err(2), "byte {byte} bit {bit}");
                 } else {
                     let machine = read.unwrap();
@@ -112,13 +77,13 @@ fn any_bytes_read_back_or_are_refused() {
         }
         match Machine::from_record(&record) {
             Ok(machine) => {
-                assert!(is_record(&record));
+                assert!(is_new(&record));
                 assert_eq!(machine.to_record(), Ok(record));
                 taken += 1;
             }
             Err(number) => {
                 assert_eq!(number, 2);
-                assert!(!is_record(&record));
+                assert!(!is_new(&record));
             }
         }
     }
@@ -205,6 +170,7 @@ fn where_everything_lies() {
     }
     assert_eq!((COUNTER, SR, F, BANK, F_PRIME), (80, 84, 84, 85, 86));
     assert_eq!((ZERO, NESTING, MARKS, LAST, LENGTH), (87, 88, 90, 91, 92));
+    assert_eq!(OLD_LENGTH, 88);
     assert_eq!(record::ZEROS, [87, 91]);
 }
 

@@ -5,9 +5,9 @@ use crate::aim::{self, Layout};
 use crate::case::{Call, Case};
 use crate::image::Image;
 use library::Empty;
-use second::record::LENGTH;
+use second::record::{LENGTH, OLD_LENGTH};
 
-const CALLS: [Call; 13] = [
+const CALLS: [Call; 15] = [
     Call::Reset,
     Call::Step,
     Call::Run(0),
@@ -21,6 +21,8 @@ const CALLS: [Call; 13] = [
     Call::Request(7, 0xFF_FFFF),
     Call::Request(8, 0),
     Call::Request(0xFFFF_FFFF, 0xFFFF_FFFF),
+    Call::Widen,
+    Call::Narrow,
 ];
 
 const LAYOUT: Layout = Layout { ram: 300, rom: 300 };
@@ -29,6 +31,7 @@ pub fn all(bench: &mut Bench) {
     for empty in [Empty::Null, Empty::Dangling] {
         bench.judge.hand_empty_as(empty);
         nothing_lent(bench);
+        nothing_to_move(bench);
         noise_lent(bench);
     }
     bench.judge.hand_empty_as(Empty::Dangling);
@@ -54,11 +57,35 @@ fn nothing_lent(bench: &mut Bench) {
     }
 }
 
+/// A record to move, the room for it, both or neither; of the lengths that each
+/// way needs, and of those of the other way.
+fn nothing_to_move(bench: &mut Bench) {
+    for call in [Call::Widen, Call::Narrow] {
+        for length in [0, OLD_LENGTH, LENGTH] {
+            for room in [0, OLD_LENGTH, LENGTH] {
+                let mut record = aim::plain_record(&mut bench.chance, LAYOUT);
+                record.truncate(length);
+                let room = aim::noise(&mut bench.chance, room);
+                bench.judge.hold(&Case::of_move(call, record, room));
+            }
+        }
+    }
+}
+
 /// Records of noise of any length, and states' records, over memories of noise
 /// of any length.
 fn noise_lent(bench: &mut Bench) {
     for _ in 0..5_000 * bench.rounds {
-        let lengths = [0, 1, 88, LENGTH - 1, LENGTH, LENGTH, LENGTH + 1, 200];
+        let lengths = [
+            0,
+            1,
+            OLD_LENGTH,
+            LENGTH - 1,
+            LENGTH,
+            LENGTH,
+            LENGTH + 1,
+            200,
+        ];
         let mut record = vec![0; bench.chance.pick(&lengths)];
         bench.chance.fill(&mut record);
         // Noise is hardly ever a state's record.

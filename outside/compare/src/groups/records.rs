@@ -4,7 +4,7 @@ use super::Bench;
 use crate::aim::{self, Layout};
 use crate::case::{Call, Case};
 use crate::image::Image;
-use second::record::{COUNTER, F, F_PRIME, LENGTH, MARKS};
+use second::record::{COUNTER, F, F_PRIME, MARKS};
 
 const LAYOUT: Layout = Layout { ram: 32, rom: 32 };
 const CALLS: [Call; 6] = [
@@ -37,32 +37,40 @@ fn hold_all(bench: &mut Bench, case: &mut Case) {
 pub fn bits(bench: &mut Bench) {
     for _ in 0..6 * bench.rounds {
         let mut case = with_record(aim::record(&mut bench.chance, LAYOUT));
-        for bit in 0..8 * LENGTH {
-            case.record[bit / 8] ^= 1 << (bit % 8);
-            hold_all(bench, &mut case);
-            let other = bench.chance.below(8 * LENGTH as u32) as usize;
-            case.record[other / 8] ^= 1 << (other % 8);
-            hold_all(bench, &mut case);
-            case.record[other / 8] ^= 1 << (other % 8);
-            case.record[bit / 8] ^= 1 << (bit % 8);
-        }
-        for place in COUNTER..LENGTH {
-            let kept = case.record[place];
-            for value in 0..=255 {
-                case.record[place] = value;
-                hold_all(bench, &mut case);
-            }
-            case.record[place] = kept;
-        }
-        marks(bench, &mut case);
+        near(bench, &mut case, hold_all);
+        marks(bench, &mut case, hold_all);
         if bench.judge.weary() {
             return;
         }
     }
 }
 
+/// Each bit of a record turned over, alone and with another; and every value of
+/// the bytes from the counter on.
+pub fn near(bench: &mut Bench, case: &mut Case, hold: fn(&mut Bench, &mut Case)) {
+    let turn = |case: &mut Case, bit: usize| case.record[bit / 8] ^= 1 << (bit % 8);
+    let bits = 8 * case.record.len();
+    for bit in 0..bits {
+        turn(case, bit);
+        hold(bench, case);
+        let other = bench.chance.below(bits as u32) as usize;
+        turn(case, other);
+        hold(bench, case);
+        turn(case, other);
+        turn(case, bit);
+    }
+    for place in COUNTER..case.record.len() {
+        let kept = case.record[place];
+        for value in 0..=255 {
+            case.record[place] = value;
+            hold(bench, case);
+        }
+        case.record[place] = kept;
+    }
+}
+
 /// Every value of the byte with the marks, with every H and V of F and F'.
-fn marks(bench: &mut Bench, case: &mut Case) {
+pub fn marks(bench: &mut Bench, case: &mut Case, hold: fn(&mut Bench, &mut Case)) {
     const H_AND_V: [u8; 4] = [0x00, 0x04, 0x10, 0x14];
     for marks in 0..=255 {
         case.record[MARKS] = marks;
@@ -70,7 +78,7 @@ fn marks(bench: &mut Bench, case: &mut Case) {
             for spare in H_AND_V {
                 case.record[F] = case.record[F] & !0x14 | f;
                 case.record[F_PRIME] = case.record[F_PRIME] & !0x14 | spare;
-                hold_all(bench, case);
+                hold(bench, case);
             }
         }
     }

@@ -11,7 +11,7 @@ use crate::case::{Call, Case};
 use crate::chance::Chance;
 use crate::image::Image;
 use crate::judge::Answer;
-pub use among::{between_steps, in_repeats};
+pub use among::{a_turn, between_steps, in_repeats, program};
 use forms::{marks as listed, requests};
 use library::Empty;
 use met::Met;

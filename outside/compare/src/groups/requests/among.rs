@@ -84,7 +84,7 @@ pub fn between_steps(bench: &mut Bench) {
 
 /// One request, and then a few steps or none. The mask and the level are noted.
 /// By how many more requests were taken than RETIs done.
-fn a_turn(bench: &mut Bench, case: &mut Case, offered: &mut BTreeSet<(u8, u32)>) -> i32 {
+pub fn a_turn(bench: &mut Bench, case: &mut Case, offered: &mut BTreeSet<(u8, u32)>) -> i32 {
     let before = aim::nesting(&case.record);
     let chance = &mut bench.chance;
     let level = chance.below(8);
@@ -111,7 +111,9 @@ fn a_turn(bench: &mut Bench, case: &mut Case, offered: &mut BTreeSet<(u8, u32)>)
     i32::from(aim::nesting(&case.record).wrapping_sub(before) as i16)
 }
 
-fn program(chance: &mut Chance, forms: &[Form]) -> Case {
+/// Handlers, and behind them a program of listed instructions that ends by going
+/// back to its start.
+pub fn program(chance: &mut Chance, forms: &[Form]) -> Case {
     let mut case = Case {
         call: Call::Step,
         record: aim::record(chance, LAYOUT),
