@@ -1,10 +1,11 @@
 /*
- * Moves a saved state between the old form of 88 bytes and the new one of 92, from one file to another. Which way it goes is
- * told by the length of the first file. The second is written only when the move was done, and is otherwise left as it was.
+ * Moves a saved state between the old form of 88 bytes and the new one of 92, from one file to another. The second file is
+ * written only when the move was done, and is otherwise left as it was; it may be the first one.
  *
  *   ./build
  *   cc -I dist examples/old_record.c dist/libtlcs900h.a -o old_record
- *   ./old_record state.old state.new
+ *   ./old_record widen state.old state.new
+ *   ./old_record narrow state.new state.old
  */
 #define _XOPEN_SOURCE 700
 #include <stdio.h>
@@ -30,10 +31,11 @@ static int may_write(const char *name) {
     return lstat(name, &there) != 0 || S_ISREG(there.st_mode);
 }
 
-/* Writes NAME.part, and gives it the name only when all of it is there: on a full disk the old file stays. */
+/* Writes NAME.part, which must not be there yet, and gives it the name only when all of it is written: on a full disk the old
+   file stays. */
 static int write_file(const char *name, const uint8_t *bytes, size_t length) {
     char *part = malloc(strlen(name) + sizeof ".part");
-    FILE *file = part ? fopen(strcat(strcpy(part, name), ".part"), "wb") : NULL;
+    FILE *file = part ? fopen(strcat(strcpy(part, name), ".part"), "wbx") : NULL;
     int done = file && fwrite(bytes, 1, length, file) == length;
     if (file) done = fclose(file) == 0 && done && rename(part, name) == 0;
     if (file && !done) remove(part);
@@ -44,26 +46,30 @@ static int write_file(const char *name, const uint8_t *bytes, size_t length) {
 int main(int argc, char **argv) {
     uint8_t from[TLCS900H_RECORD + 1], to[TLCS900H_RECORD], number;
     size_t length, room;
+    int widens = argc == 4 && strcmp(argv[1], "widen") == 0;
 
-    if (argc != 3 || !may_write(argv[2])) {
-        fprintf(stderr, "usage: old_record FROM TO, where TO is a plain file or none\n");
+    if (!widens && !(argc == 4 && strcmp(argv[1], "narrow") == 0)) {
+        fprintf(stderr, "usage: old_record widen|narrow FROM TO\n");
         return 2;
     }
-    if (!read_file(argv[1], from, sizeof from, &length)) {
-        perror(argv[1]);
+    if (!may_write(argv[3])) {
+        fprintf(stderr, "%s: not a plain file, nothing written\n", argv[3]);
         return 1;
     }
-    room = length == TLCS900H_OLD_RECORD ? TLCS900H_RECORD : TLCS900H_OLD_RECORD;
-    /* any length but these two is refused */
-    number = room == TLCS900H_RECORD ? tlcs900h_widen(from, length, to, room) : tlcs900h_narrow(from, length, to, room);
-    if (number != TLCS900H_DONE) {
-        printf("%s: number %u (%s), nothing written\n", argv[1], number, tlcs900h_name(number));
-        return 1;
-    }
-    if (!write_file(argv[2], to, room)) {
+    if (!read_file(argv[2], from, sizeof from, &length)) {
         perror(argv[2]);
         return 1;
     }
-    printf("%s: a record of %u bytes, written to %s as one of %u\n", argv[1], (unsigned)length, argv[2], (unsigned)room);
+    room = widens ? TLCS900H_RECORD : TLCS900H_OLD_RECORD;
+    number = widens ? tlcs900h_widen(from, length, to, room) : tlcs900h_narrow(from, length, to, room);
+    if (number != TLCS900H_DONE) {
+        fprintf(stderr, "%s: number %u (%s), nothing written\n", argv[2], number, tlcs900h_name(number));
+        return 1;
+    }
+    if (!write_file(argv[3], to, room)) {
+        perror(argv[3]);
+        return 1;
+    }
+    printf("%s: a record of %u bytes, written to %s as one of %u\n", argv[2], (unsigned)length, argv[3], (unsigned)room);
     return 0;
 }

@@ -27,11 +27,13 @@
  * SBC and CP of a long and after CCF and ZCF, V after AND, OR, XOR and the shifts of a long. Its bit is 0, and a record where
  * it is 1 is no state's. The mark goes when the flag gets a value; EX F,F' exchanges those of F and F'; POP F, POP SR and
  * RETI clear those of F; reset leaves none.
- * The old record, as it was before 3.0, is the first TLCS900H_OLD_RECORD bytes of this one, of a state with no mark and the
- * nesting count 0. tlcs900h_widen makes it one of 92 bytes, and tlcs900h_narrow goes back.
  *
- * It may be copied, stored and handed back later; tlcs900h_reset makes the first one. A run of 0 steps tells whether a
+ * A record may be copied, stored and handed back later; tlcs900h_reset makes the first one. A run of 0 steps tells whether a
  * record is good: with both memories empty it changes nothing, and answers 0 for a state's record and 2 for any other.
+ *
+ * Before 3.0 a record had only the first TLCS900H_OLD_RECORD of these bytes. No call but tlcs900h_widen takes such an old
+ * record; it makes it a new one. To go back, call tlcs900h_narrow, and do not just cut a record off: it refuses one that has
+ * a mark or whose nesting count is not 0, which the old record cannot hold.
  *
  * Parts of a register: WA is the low two bytes of XWA, A its byte 0 and W its byte 1. So it is with BC, C and B; with DE, E
  * and D; with HL, L and H; and IX, IY, IZ and SP are the low two bytes of theirs. The bank in use is
@@ -41,9 +43,10 @@
  *
  * The caller's part
  *   Every pointer is the caller's memory, lent for the length of the call. Each must be good for the length that follows
- *   it, and for writing where it is not const. A null pointer with length 0 is an empty memory. `done`, `taken`, `at` and
- *   `length` are never null. The parts of one call must not overlap: `done` and `at` are two variables, and so are `taken`
- *   and `at`; a record is moved to another place than its own. Nothing else may write any of them while it runs.
+ *   it, and for writing where it is not const. A null pointer with length 0 is an empty memory, or a record of no bytes.
+ *   `done`, `taken`, `at` and `length` are never null. The parts of one call must not overlap: `done` and `at` are two
+ *   variables, and so are `taken` and `at`; a record is moved to another place than its own. Nothing else may write any of
+ *   them while it runs.
  *
  * The answer of each call is a number, 0 to 10, and depends on nothing but what the call is given. A step or run that was
  * refused with 1 to 6 or 8, asked again for a step or more, is refused with the same number and address (and *done is then 0)
@@ -80,11 +83,11 @@ extern "C" {
  *   1.1  LDF with 04 to 07 is done, where it was refused with 4: it selects the bank of the number's low two bits, 0 to 3
  *   2.0  tlcs900h_step and tlcs900h_run have one more parameter, `at`: the address that goes with 5 and 6. Compile again all
  *        that calls them: the linker does not notice an old call
- *   3.0  a record has 92 bytes, with the marks at offset 90; one of 88 is refused with 2. A jump whose condition reads a
- *        marked V, and PUSH F with a mark of F set, are refused with 8; before, they took the undefined flag as 0
+ *   3.0  a record has 92 bytes, with the marks at offset 90; one of 88 is refused with 2 (see 3.2). A jump whose condition
+ *        reads a marked V, and PUSH F with a mark of F set, are refused with 8; before, they took the undefined flag as 0
  *   3.1  tlcs900h_request, and its number 9. PUSH SR (02), POP SR (03), EI (06, then 00 to 07) and RETI (07) are done, where
  *        they were refused with 4. The record has the nesting count at offset 88, where two zero bytes were
- *   3.2  tlcs900h_widen and tlcs900h_narrow, and their number 10
+ *   3.2  tlcs900h_widen makes an old record of 88 bytes a new one; tlcs900h_narrow goes back, and has the number 10
  */
 #define TLCS900H_VERSION_MAJOR 3
 #define TLCS900H_VERSION_MINOR 2
@@ -227,7 +230,8 @@ uint8_t tlcs900h_show(const uint8_t *ram, size_t ram_len, const uint8_t *rom, si
 
 /*
  * Moves an old record to the new form: the same TLCS900H_OLD_RECORD bytes, and behind them four zero bytes, so that the nesting
- * count is 0 and no flag is marked. The state in it is the same.
+ * count is 0 and no flag is marked. The state in it is the same. A flag that was undefined when the old record was made is 0
+ * in it, as before 3.0, and counts as known.
  * Looks for 2: `old` is not TLCS900H_OLD_RECORD bytes long, or they are no state's; or the room for the new one is not
  * TLCS900H_RECORD bytes. What the room holds does not matter, and a refusal leaves it as it was.
  */

@@ -121,7 +121,7 @@ static uint8_t request_to(uint32_t level, uint32_t vector, uint8_t taken, uint32
     return tlcs900h_request(at(&record), record.length, at(&ram), ram.length, at(&rom), rom.length, level, vector, &flag[1], &place[1]);
 }
 
-/* A record is moved from where records are to where RAM else is. */
+/* A record is moved from where records stand to where RAM otherwise stands. */
 static uint8_t widen(void) { return tlcs900h_widen(at(&record), record.length, at(&ram), ram.length); }
 
 static uint8_t narrow(void) { return tlcs900h_narrow(at(&record), record.length, at(&ram), ram.length); }

@@ -8,7 +8,7 @@ pub enum Why {
     TooMany,
     // RAM or ROM is longer than 65,536 bytes.
     TooLong,
-    // The state is not valid, an address to show is too high, or a saved record breaks its rules.
+    // The state is not valid, an address to show is too high, or a saved record, or the room for one, breaks its rules.
     Invalid,
     // A request's level is not 1 to 7, or its vector's address is too high.
     BadRequest,

@@ -3,9 +3,9 @@ use Prim.Native.Nat.{ℕ}
 use mathlib.Core.Path.{_≡_, refl, ap, sym, _∙_}
 use mathlib.Core.Logic.{_⊎_, ⊎-elim, inl, inr}
 use mathlib.Core.Bool.{Bool, true, false, _&&_, not, and-false}
-use mathlib.Core.List.{List, _++_}
+use mathlib.Core.List.{List}
 use native.Mathlib.Omega.{arith}
-use lib.ListN.{length, take, replicate}
+use lib.ListN.{length}
 use lib.Dec.{eqb}
 use borrow.Author.Tests.{eq-eqb, ne-eqb, eqb-true, eqb-false}
 use Rattle.little.specs.Bytes.{Bytes}
@@ -16,12 +16,13 @@ use Rattle.answer.specs.declared.Why.the-variants.{Invalid, NoOldForm}
 use Rattle.answer.specs.Number.{whyNumber, numberOf}
 use Rattle.state.proofs.Valid.{and-true}
 use Rattle.saved.specs.declared.Restored.{Restored}
-use Rattle.saved.specs.Record.{recordLength, oldLength, recordOf, oldRecordOf, fitsOld, stateAt, isRecordOf, isRecord, isOldRecord}
+use Rattle.saved.specs.Record.{recordLength, oldLength, recordOf, oldRecordOf, widened, narrowed, fitsOld, stateAt}
+use Rattle.saved.specs.Record.{isRecordOf, isRecord, isOldRecord}
 use Rattle.saved.specs.Record.{SaveMeets, OldSaveMeets, restoredFrom, restoredOf, oldRestoredOf}
 use Rattle.saved.proofs.Laws.{load-good}
 use Rattle.saved.proofs.Refusals.{saves, old-saves, bad-records}
 use Rattle.saved.proofs.RoundTrip.{front-is-old, sound-at, good-says, read-saves-back, old-records-are-of-states}
-use Rattle.moves.specs.Moves.{widened, widenAnswer, widenBytes, narrowed, narrowAnswer, narrowBytes, CWidenMeets, CNarrowMeets}
+use Rattle.moves.specs.Moves.{widenAnswer, widenBytes, narrowAnswer, narrowBytes, CWidenMeets, CNarrowMeets}
 use Rattle.moves.specs.Statements.{Widens, Settled}
 
 -- ---- what is promised is settled
@@ -35,15 +36,15 @@ settled = (λ old new b c n m. alike, λ new old b c n m. alike)
 pub wide-bytes : (old : List ℕ) → Bytes old → isOldRecord old ≡ true → recordOf (stateAt old) ≡ widened old
 wide-bytes old h e =
     let g = old-records-are-of-states .1 old h e in
-    front-is-old (stateAt old) (sound-at old h) .1 (g .1) ∙ ap (λ (l : List ℕ). l ++ replicate 4 0) (g .2)
+    front-is-old (stateAt old) (sound-at old h) .1 (g .1) ∙ ap widened (g .2)
 
 pub narrow-bytes : (new : List ℕ) → Bytes new → isRecord new ≡ true → oldRecordOf (stateAt new) ≡ narrowed new
-narrow-bytes new h e = sym (front-is-old (stateAt new) (sound-at new h) .0) ∙ ap (take oldLength) (read-saves-back new h e)
+narrow-bytes new h e = sym (front-is-old (stateAt new) (sound-at new h) .0) ∙ ap narrowed (read-saves-back new h e)
 
 -- ---- the cases
 pub widens : Widens
 unfolding widenAnswer widenBytes
-widens old new = (
+widens old room = (
   λ g e. (rw (g, eq-eqb _ _ e) refl, rw (g, eq-eqb _ _ e) refl),
   ⊎-elim
       (λ g. (rw g refl, rw g refl))
@@ -51,22 +52,22 @@ widens old new = (
 )
 
 pub narrow-done :
-    (new old : List ℕ) → isRecord new ≡ true → length old ≡ oldLength → fitsOld (stateAt new) ≡ true →
-    (narrowAnswer new (length old) ≡ Done) × (narrowBytes new old ≡ narrowed new)
+    (new room : List ℕ) → isRecord new ≡ true → length room ≡ oldLength → fitsOld (stateAt new) ≡ true →
+    (narrowAnswer new (length room) ≡ Done) × (narrowBytes new room ≡ narrowed new)
 unfolding narrowAnswer narrowBytes
-narrow-done new old g e f = (rw (g, eq-eqb _ _ e, f) refl, rw (g, eq-eqb _ _ e, f) refl)
+narrow-done new room g e f = (rw (g, eq-eqb _ _ e, f) refl, rw (g, eq-eqb _ _ e, f) refl)
 
 pub narrow-ten :
-    (new old : List ℕ) → isRecord new ≡ true → length old ≡ oldLength → fitsOld (stateAt new) ≡ false →
-    (narrowAnswer new (length old) ≡ Refused NoOldForm) × (narrowBytes new old ≡ old)
+    (new room : List ℕ) → isRecord new ≡ true → length room ≡ oldLength → fitsOld (stateAt new) ≡ false →
+    (narrowAnswer new (length room) ≡ Refused NoOldForm) × (narrowBytes new room ≡ room)
 unfolding narrowAnswer narrowBytes
-narrow-ten new old g e f = (rw (g, eq-eqb _ _ e, f) refl, rw (g, eq-eqb _ _ e, f) refl)
+narrow-ten new room g e f = (rw (g, eq-eqb _ _ e, f) refl, rw (g, eq-eqb _ _ e, f) refl)
 
 pub narrow-two :
-    (new old : List ℕ) → (isRecord new ≡ false) ⊎ (length old ≡ oldLength → ⊥) →
-    (narrowAnswer new (length old) ≡ Refused Invalid) × (narrowBytes new old ≡ old)
+    (new room : List ℕ) → (isRecord new ≡ false) ⊎ (length room ≡ oldLength → ⊥) →
+    (narrowAnswer new (length room) ≡ Refused Invalid) × (narrowBytes new room ≡ room)
 unfolding narrowAnswer narrowBytes
-narrow-two new old =
+narrow-two new room =
     ⊎-elim
     (λ g. (rw g refl, rw g refl))
     (λ e. (simp (ne-eqb _ _ e, and-false), simp (ne-eqb _ _ e, and-false)))
@@ -107,60 +108,60 @@ told :
 told k e f d = (k ∙ ap numberOf (e ∙ sym (d .0)), f ∙ sym (d .1))
 
 pub widen-stops :
-    (old new : List ℕ) {o : Restored} {n : ℕ} → o ≡ oldRestoredOf old → (w : Why) → o .answer ≡ Refused w → n ≡ whyNumber w → CWidenMeets old new n new
-widen-stops old new e w r k = let l = load-refused oldLength old e w r in told k (l .1) refl (widens old new .1 (inl (l .0)))
+    (old room : List ℕ) {o : Restored} {n : ℕ} → o ≡ oldRestoredOf old → (w : Why) → o .answer ≡ Refused w → n ≡ whyNumber w → CWidenMeets old room n room
+widen-stops old room e w r k = let l = load-refused oldLength old e w r in told k (l .1) refl (widens old room .1 (inl (l .0)))
 
 -- the state in a good record, saved in the other form
 wide-saved :
-    (old new : List ℕ) {a : Answer} {b : List ℕ} {n : ℕ} → Bytes old → isOldRecord old ≡ true → SaveMeets (stateAt old) new a b → n ≡ numberOf a →
-    CWidenMeets old new n b
-wide-saved old new {a = a} {b = b} {n = n} h g m k = go (eqb (length new) recordLength) refl
+    (old room : List ℕ) {a : Answer} {b : List ℕ} {n : ℕ} → Bytes old → isOldRecord old ≡ true → SaveMeets (stateAt old) room a b → n ≡ numberOf a →
+    CWidenMeets old room n b
+wide-saved old room {a = a} {b = b} {n = n} h g m k = go (eqb (length room) recordLength) refl
   where
-    go : (x : Bool) → eqb (length new) recordLength ≡ x → CWidenMeets old new n b
+    go : (x : Bool) → eqb (length room) recordLength ≡ x → CWidenMeets old room n b
     go true x =
-        let room = eqb-true _ _ x in
-        let s = saves (stateAt old) new .0 (good-says oldLength old g .1) room in
-        told k (m .0 ∙ s .0) (m .1 ∙ s .1 ∙ wide-bytes old h g) (widens old new .0 g room)
+        let fit = eqb-true _ _ x in
+        let s = saves (stateAt old) room .0 (good-says oldLength old g .1) fit in
+        told k (m .0 ∙ s .0) (m .1 ∙ s .1 ∙ wide-bytes old h g) (widens old room .0 g fit)
     go false x =
-        let s = saves (stateAt old) new .1 (inr (eqb-false _ _ x)) in
-        told k (m .0 ∙ s .0) (m .1 ∙ s .1) (widens old new .1 (inr (eqb-false _ _ x)))
+        let s = saves (stateAt old) room .1 (inr (eqb-false _ _ x)) in
+        told k (m .0 ∙ s .0) (m .1 ∙ s .1) (widens old room .1 (inr (eqb-false _ _ x)))
 
 pub widen-saves :
-    (old new : List ℕ) {o : Restored} {a : Answer} {b : List ℕ} {n : ℕ} → Bytes old → o ≡ oldRestoredOf old → o .answer ≡ Done →
-    SaveMeets (o .state) new a b → n ≡ numberOf a → CWidenMeets old new n b
-widen-saves old new h e r m k = let l = load-done oldLength old e r in wide-saved old new h (l .0) (rw (l .1) at m) k
+    (old room : List ℕ) {o : Restored} {a : Answer} {b : List ℕ} {n : ℕ} → Bytes old → o ≡ oldRestoredOf old → o .answer ≡ Done →
+    SaveMeets (o .state) room a b → n ≡ numberOf a → CWidenMeets old room n b
+widen-saves old room h e r m k = let l = load-done oldLength old e r in wide-saved old room h (l .0) (rw (l .1) at m) k
 
 pub narrow-stops :
-    (new old : List ℕ) {o : Restored} {n : ℕ} → o ≡ restoredOf new → (w : Why) → o .answer ≡ Refused w → n ≡ whyNumber w → CNarrowMeets new old n old
-narrow-stops new old e w r k = let l = load-refused recordLength new e w r in told k (l .1) refl (narrow-two new old (inl (l .0)))
+    (new room : List ℕ) {o : Restored} {n : ℕ} → o ≡ restoredOf new → (w : Why) → o .answer ≡ Refused w → n ≡ whyNumber w → CNarrowMeets new room n room
+narrow-stops new room e w r k = let l = load-refused recordLength new e w r in told k (l .1) refl (narrow-two new room (inl (l .0)))
 
 -- the room is an old record's, and the state has no old form
 pub narrow-turned :
-    (new old : List ℕ) {o : Restored} {f : Bool} {n : ℕ} → o ≡ restoredOf new → o .answer ≡ Done → f ≡ fitsOld (o .state) →
-    eqb (length old) oldLength && not f ≡ true → n ≡ whyNumber NoOldForm → CNarrowMeets new old n old
-narrow-turned new old {f = f} e r q t k =
+    (new room : List ℕ) {o : Restored} {f : Bool} {n : ℕ} → o ≡ restoredOf new → o .answer ≡ Done → f ≡ fitsOld (o .state) →
+    eqb (length room) oldLength && not f ≡ true → n ≡ whyNumber NoOldForm → CNarrowMeets new room n room
+narrow-turned new room {f = f} e r q t k =
     let l = load-done recordLength new e r in
-    let a = and-true (eqb (length old) oldLength) _ t in
-    told k refl refl (narrow-ten new old (l .0) (eqb-true _ _ (a .0)) (rw (l .1) at (sym q ∙ not-true f (a .1))))
+    let a = and-true (eqb (length room) oldLength) _ t in
+    told k refl refl (narrow-ten new room (l .0) (eqb-true _ _ (a .0)) (rw (l .1) at (sym q ∙ not-true f (a .1))))
 
 narrow-saved :
-    (new old : List ℕ) {a : Answer} {b : List ℕ} {n : ℕ} → Bytes new → isRecord new ≡ true → eqb (length old) oldLength && not (fitsOld (stateAt new)) ≡ false →
-    OldSaveMeets (stateAt new) old a b → n ≡ numberOf a → CNarrowMeets new old n b
-narrow-saved new old {a = a} {b = b} {n = n} h g t m k = go (eqb (length old) oldLength) refl
+    (new room : List ℕ) {a : Answer} {b : List ℕ} {n : ℕ} → Bytes new → isRecord new ≡ true → eqb (length room) oldLength && not (fitsOld (stateAt new)) ≡ false →
+    OldSaveMeets (stateAt new) room a b → n ≡ numberOf a → CNarrowMeets new room n b
+narrow-saved new room {a = a} {b = b} {n = n} h g t m k = go (eqb (length room) oldLength) refl
   where
-    go : (x : Bool) → eqb (length old) oldLength ≡ x → CNarrowMeets new old n b
+    go : (x : Bool) → eqb (length room) oldLength ≡ x → CNarrowMeets new room n b
     go true x =
-        let room = eqb-true _ _ x in
+        let fit = eqb-true _ _ x in
         let fits = not-false (fitsOld (stateAt new)) (rw x at t) in
-        let s = old-saves (stateAt new) old .0 (good-says recordLength new g .1) fits room in
-        told k (m .0 ∙ s .0) (m .1 ∙ s .1 ∙ narrow-bytes new h g) (narrow-done new old g room fits)
+        let s = old-saves (stateAt new) room .0 (good-says recordLength new g .1) fits fit in
+        told k (m .0 ∙ s .0) (m .1 ∙ s .1 ∙ narrow-bytes new h g) (narrow-done new room g fit fits)
     go false x =
-        let s = old-saves (stateAt new) old .1 (inr (inr (eqb-false _ _ x))) in
-        told k (m .0 ∙ s .0) (m .1 ∙ s .1) (narrow-two new old (inr (eqb-false _ _ x)))
+        let s = old-saves (stateAt new) room .1 (inr (inr (eqb-false _ _ x))) in
+        told k (m .0 ∙ s .0) (m .1 ∙ s .1) (narrow-two new room (inr (eqb-false _ _ x)))
 
 pub narrow-saves :
-    (new old : List ℕ) {o : Restored} {f : Bool} {a : Answer} {b : List ℕ} {n : ℕ} → Bytes new → o ≡ restoredOf new → o .answer ≡ Done →
-    f ≡ fitsOld (o .state) → eqb (length old) oldLength && not f ≡ false → OldSaveMeets (o .state) old a b → n ≡ numberOf a → CNarrowMeets new old n b
-narrow-saves new old h e r q t m k =
+    (new room : List ℕ) {o : Restored} {f : Bool} {a : Answer} {b : List ℕ} {n : ℕ} → Bytes new → o ≡ restoredOf new → o .answer ≡ Done →
+    f ≡ fitsOld (o .state) → eqb (length room) oldLength && not f ≡ false → OldSaveMeets (o .state) room a b → n ≡ numberOf a → CNarrowMeets new room n b
+narrow-saves new room h e r q t m k =
     let l = load-done recordLength new e r in
-    narrow-saved new old h (l .0) (rw (q, l .1) at t) (rw (l .1) at m) k
+    narrow-saved new room h (l .0) (rw (q, l .1) at t) (rw (l .1) at m) k

@@ -32,13 +32,13 @@ unfolding stateAt
 fits-is l h = ap (λ (m : ℕ). eqb m 0 && eqb (nestingAt l) 0) (marks-same l h)
 
 pub narrows : Narrows
-narrows new old h = (
-  λ g e n m. narrow-done new old g e (fits-is new h ∙ rw (eq-eqb (marksAt new) 0 m, eq-eqb (nestingAt new) 0 n) refl),
+narrows new room h = (
+  λ g e n m. narrow-done new room g e (fits-is new h ∙ rw (eq-eqb (marksAt new) 0 m, eq-eqb (nestingAt new) 0 n) refl),
   λ g e.
       ⊎-elim
-      (λ n. narrow-ten new old g e (fits-is new h ∙ rw (ne-eqb (nestingAt new) 0 n) (and-false (eqb (marksAt new) 0))))
-      (λ m. narrow-ten new old g e (fits-is new h ∙ rw (ne-eqb (marksAt new) 0 m) refl)),
-  narrow-two new old,
+      (λ n. narrow-ten new room g e (fits-is new h ∙ rw (ne-eqb (nestingAt new) 0 n) (and-false (eqb (marksAt new) 0))))
+      (λ m. narrow-ten new room g e (fits-is new h ∙ rw (ne-eqb (marksAt new) 0 m) refl)),
+  narrow-two new room,
 )
 
 -- ---- a state saved and moved
@@ -55,7 +55,7 @@ moved-saves s room ok v = (
   λ f e.
       let d = narrow-done (recordOf s) room (records-are-of-states .0 s ok v) e (ap fitsOld (state-back s ok v) ∙ f) in
       (d .0, d .1 ∙ front-is-old s ok .0),
-  λ f e. narrow-ten (recordOf s) room (records-are-of-states .0 s ok v) e (ap fitsOld (state-back s ok v) ∙ f) .0,
+  λ f e. narrow-ten (recordOf s) room (records-are-of-states .0 s ok v) e (ap fitsOld (state-back s ok v) ∙ f),
 )
 
 -- ---- a record that was moved
@@ -67,47 +67,47 @@ all-passed false f w e = done-or e refl
 
 -- it wrote the record of the state in the one that it read
 widened-is :
-    (old new : List ℕ) → Bytes old → widenAnswer old (length new) ≡ Done →
-    (isOldRecord old ≡ true) × (fitsOld (stateAt old) ≡ true) × (widenBytes old new ≡ recordOf (stateAt old))
+    (old room : List ℕ) → Bytes old → widenAnswer old (length room) ≡ Done →
+    (isOldRecord old ≡ true) × (fitsOld (stateAt old) ≡ true) × (widenBytes old room ≡ recordOf (stateAt old))
 unfolding widenAnswer
-widened-is old new h e =
-    let p = and-true (isOldRecord old) _ (all-passed (isOldRecord old && eqb (length new) recordLength) true Invalid e .0) in
-    let w = widens old new .0 (p .0) (eqb-true _ _ (p .1)) in
+widened-is old room h e =
+    let p = and-true (isOldRecord old) _ (all-passed (isOldRecord old && eqb (length room) recordLength) true Invalid e .0) in
+    let w = widens old room .0 (p .0) (eqb-true _ _ (p .1)) in
     (p .0, old-records-are-of-states .1 old h (p .0) .1, w .1 ∙ sym (wide-bytes old h (p .0)))
 
 narrowed-is :
-    (new old : List ℕ) → Bytes new → narrowAnswer new (length old) ≡ Done →
-    (isRecord new ≡ true) × (fitsOld (stateAt new) ≡ true) × (narrowBytes new old ≡ oldRecordOf (stateAt new))
+    (new room : List ℕ) → Bytes new → narrowAnswer new (length room) ≡ Done →
+    (isRecord new ≡ true) × (fitsOld (stateAt new) ≡ true) × (narrowBytes new room ≡ oldRecordOf (stateAt new))
 unfolding narrowAnswer
-narrowed-is new old h e =
-    let t = all-passed (isRecord new && eqb (length old) oldLength) (fitsOld (stateAt new)) NoOldForm e in
+narrowed-is new room h e =
+    let t = all-passed (isRecord new && eqb (length room) oldLength) (fitsOld (stateAt new)) NoOldForm e in
     let p = and-true (isRecord new) _ (t .0) in
-    (p .0, t .1, narrow-done new old (p .0) (eqb-true _ _ (p .1)) (t .1) .1 ∙ sym (narrow-bytes new h (p .0)))
+    (p .0, t .1, narrow-done new room (p .0) (eqb-true _ _ (p .1)) (t .1) .1 ∙ sym (narrow-bytes new h (p .0)))
 
 pub widens-back : WidensBack
-widens-back old new room h e k =
-    let m = widened-is old new h e in
+widens-back old room back h e k =
+    let m = widened-is old room h e in
     let o = old-records-are-of-states .1 old h (m .0) in
-    let d = moved-saves (stateAt old) room (sound-at old h) (o .0) .1 (m .1) k in
-    (ap (λ (l : List ℕ). narrowAnswer l (length room)) (m .2) ∙ d .0, ap (λ (l : List ℕ). narrowBytes l room) (m .2) ∙ d .1 ∙ o .2)
+    let d = moved-saves (stateAt old) back (sound-at old h) (o .0) .1 (m .1) k in
+    (ap (λ (l : List ℕ). narrowAnswer l (length back)) (m .2) ∙ d .0, ap (λ (l : List ℕ). narrowBytes l back) (m .2) ∙ d .1 ∙ o .2)
 
 pub narrows-back : NarrowsBack
-narrows-back new old room h e k =
-    let m = narrowed-is new old h e in
-    let d = moved-saves (stateAt new) room (sound-at new h) (good-says recordLength new (m .0) .1) .0 (m .1) k in (
-      ap (λ (l : List ℕ). widenAnswer l (length room)) (m .2) ∙ d .0,
-      ap (λ (l : List ℕ). widenBytes l room) (m .2) ∙ d .1 ∙ read-saves-back new h (m .0),
+narrows-back new room back h e k =
+    let m = narrowed-is new room h e in
+    let d = moved-saves (stateAt new) back (sound-at new h) (good-says recordLength new (m .0) .1) .0 (m .1) k in (
+      ap (λ (l : List ℕ). widenAnswer l (length back)) (m .2) ∙ d .0,
+      ap (λ (l : List ℕ). widenBytes l back) (m .2) ∙ d .1 ∙ read-saves-back new h (m .0),
     )
 
 pub moved-loads : MovedLoads
 moved-loads = (
-  λ old new h e.
-      let m = widened-is old new h e in
+  λ old room h e.
+      let m = widened-is old room h e in
       ap restoredOf (m .2)
       ∙ saved-reads-back (stateAt old) (sound-at old h) (good-says oldLength old (m .0) .1) .0
       ∙ sym (load-good oldLength old (m .0)),
-  λ new old h e.
-      let m = narrowed-is new old h e in
+  λ new room h e.
+      let m = narrowed-is new room h e in
       ap oldRestoredOf (m .2)
       ∙ saved-reads-back (stateAt new) (sound-at new h) (good-says recordLength new (m .0) .1) .1 (m .1)
       ∙ sym (load-good recordLength new (m .0)),

@@ -1,4 +1,4 @@
-// What C and Rust call to move a record between its two forms: an archive of its own, so that a program with no old records holds none of it.
+// What C and Rust call to move a record between its two forms: apart from the other calls, so that a program with no old records holds none of it.
 ghost use Rattle.moves.specs.Moves.{CWidenMeets, CNarrowMeets};
 use answer::Answer;
 use answer::Why;
@@ -16,7 +16,7 @@ pub extern "C" fn tlcs900h_widen(old: &[u8], new: &mut [u8]) -> u8
     answer::number(saved::save(o.state, new))
 }
 
-// Writes the old record of the state that a new one holds; where there is none, 10, but after 2.
+// Writes the old record of the state that a new one holds. 10 comes after 2: a room of another length is left to the save, which says 2.
 #[no_mangle]
 pub extern "C" fn tlcs900h_narrow(new: &[u8], old: &mut [u8]) -> u8
     ensures { λ r. ⌜ CNarrowMeets (now (new .entry)) (now (old .entry)) r (now (old .exit)) ⌝ }

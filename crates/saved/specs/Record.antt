@@ -1,5 +1,6 @@
 -- A saved state: one record of bytes with no header. The old record is the first 88 bytes of it: it has no nesting count and no marks.
-use Rattle.little.specs.Words.{ℕ, zero, suc, _+_, _*_, _/_, _%_, _^_, _≡_, List, [], _∷_, _++_, Bool, cond, _&&_, length, getD, take, drop, eqb}
+use Rattle.little.specs.Words.{ℕ, zero, suc, _+_, _-_, _*_, _/_, _%_, _^_, _≡_, List, [], _∷_, _++_, Bool, cond, _&&_}
+use Rattle.little.specs.Words.{length, getD, take, drop, replicate, eqb}
 use Rattle.answer.specs.declared.{Answer.Answer, Answer.the-variants.Done, Answer.the-variants.Refused, Why.Why, Why.the-variants.Invalid}
 use Rattle.little.specs.Bytes.{valueOf, bytesFrom}
 use Rattle.state.specs.{declared.State.State, State.validOf, State.zeroState, State.fOf, State.marksOf}
@@ -29,6 +30,14 @@ marksByte s = marksOf (s .flags) + 4 * marksOf (s .spare)
 -- the record: the old one, the nesting count in two bytes, the marks, a zero byte
 unfoldable pub recordOf : State → List ℕ
 recordOf s = oldRecordOf s ++ (bytesFrom 2 (s .nesting) ++ (marksByte s ∷ 0 ∷ []))
+
+-- an old record with zeros for what it lacks: the count 0, no marks, a zero byte
+abbrev pub widened : List ℕ → List ℕ
+widened old = old ++ replicate (recordLength - oldLength) 0
+
+-- the part of a record that is an old one
+abbrev pub narrowed : List ℕ → List ℕ
+narrowed new = take oldLength new
 
 -- no mark, and the count 0: the old record leaves nothing of the state out
 abbrev pub fitsOld : State → Bool

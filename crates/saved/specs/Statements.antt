@@ -1,18 +1,17 @@
 -- What is proved of saving and loading, beside what each call promises. Each statement is proved in proofs/RoundTrip.antt, Refusals.antt or Marked.antt.
-use Rattle.little.specs.Words.{ℕ, _-_, _≡_, true, false, _⊎_, List, [], _∷_, _++_, length, take, drop, getD, set, replicate}
+use Rattle.little.specs.Words.{ℕ, _≡_, true, false, _⊎_, List, [], _∷_, length, drop, getD, set, replicate}
 use Rattle.answer.specs.declared.{Answer.Answer, Answer.the-variants.Done, Answer.the-variants.Refused, Why.the-variants.Invalid}
 use Rattle.little.specs.Bytes.{Bytes}
 use Rattle.state.specs.{declared.State.State, State.zeroState, State.withNesting, State.withBothFlags, State.clear, State.validOf, Sound.Sound}
-use Rattle.saved.specs.Record.{recordLength, oldLength, recordOf, oldRecordOf, fitsOld, saveAnswer, saveBytes, SaveMeets}
+use Rattle.saved.specs.Record.{recordLength, oldLength, recordOf, oldRecordOf, widened, narrowed, fitsOld, saveAnswer, saveBytes, SaveMeets}
 use Rattle.saved.specs.Record.{oldSaveAnswer, oldSaveBytes, OldSaveMeets, marksAt, stateAt, isRecordOf, isRecord, isOldRecord}
 use Rattle.saved.specs.Record.{restoredFrom, restoredOf, oldRestoredOf, LoadMeets, OldLoadMeets}
 use Rattle.saved.specs.declared.Restored.{Restored}
 
--- the two records share the old one: it is the front of the new one, and of a state with no marks and the count 0 the rest is zeros
+-- the old record is the front of the new one; where the state has no marks and the count 0, the rest is zeros
 abbrev pub FrontIsOld : Type 0
 FrontIsOld =
-    (s : State) → Sound s →
-    (take oldLength (recordOf s) ≡ oldRecordOf s) × (fitsOld s ≡ true → recordOf s ≡ oldRecordOf s ++ replicate (recordLength - oldLength) 0)
+    (s : State) → Sound s → (narrowed (recordOf s) ≡ oldRecordOf s) × (fitsOld s ≡ true → recordOf s ≡ widened (oldRecordOf s))
 
 -- a saved state reads back as itself; in the old form, one with no marks and the count 0
 abbrev pub SavedReadsBack : Type 0
