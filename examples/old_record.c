@@ -32,12 +32,13 @@ static int may_write(const char *name) {
 }
 
 /* Writes NAME.part, which must not be there yet, and gives it the name only when all of it is written: on a full disk the old
-   file stays. */
+   file stays. Says so where that fails. */
 static int write_file(const char *name, const uint8_t *bytes, size_t length) {
     char *part = malloc(strlen(name) + sizeof ".part");
     FILE *file = part ? fopen(strcat(strcpy(part, name), ".part"), "wbx") : NULL;
     int done = file && fwrite(bytes, 1, length, file) == length;
     if (file) done = fclose(file) == 0 && done && rename(part, name) == 0;
+    if (!done) perror(part ? part : name);
     if (file && !done) remove(part);
     free(part);
     return done;
@@ -66,10 +67,7 @@ int main(int argc, char **argv) {
         fprintf(stderr, "%s: number %u (%s), nothing written\n", argv[2], number, tlcs900h_name(number));
         return 1;
     }
-    if (!write_file(argv[3], to, room)) {
-        perror(argv[3]);
-        return 1;
-    }
+    if (!write_file(argv[3], to, room)) return 1;
     printf("%s: a record of %u bytes, written to %s as one of %u\n", argv[2], (unsigned)length, argv[3], (unsigned)room);
     return 0;
 }

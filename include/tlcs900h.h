@@ -138,15 +138,15 @@ enum {
 
 /* The numbers that a call answers. */
 enum {
-    TLCS900H_DONE = 0,       /* done */
-    TLCS900H_TOO_LONG = 1,   /* RAM or ROM is longer than 65,536 bytes */
-    TLCS900H_INVALID = 2,    /* a record, or the room for one, has the wrong length; a record is no state's; an address to show is 2^24 or more */
-    TLCS900H_NO_CODE = 3,    /* no memory at the counter, or the instruction goes on where its memory ends */
-    TLCS900H_UNLISTED = 4,   /* the bytes at the counter begin no listed instruction */
-    TLCS900H_MISSING = 5,    /* an operand lies in neither memory, or only partly in one, see *at; at reset: ROM has fewer than 256 bytes */
-    TLCS900H_TO_ROM = 6,     /* a store would go to ROM, see *at */
-    TLCS900H_TOO_MANY = 7,   /* a run is asked for more than 1,000,000 steps */
-    TLCS900H_UNDEFINED = 8,  /* a jump reads V (LT, LE, V, their opposites) and V is marked; or PUSH F or PUSH SR, and H or V of F is marked */
+    TLCS900H_DONE = 0,        /* done */
+    TLCS900H_TOO_LONG = 1,    /* RAM or ROM is longer than 65,536 bytes */
+    TLCS900H_INVALID = 2,     /* a record, or the room for one, has the wrong length; a record is no state's; an address to show is 2^24 or more */
+    TLCS900H_NO_CODE = 3,     /* no memory at the counter, or the instruction goes on where its memory ends */
+    TLCS900H_UNLISTED = 4,    /* the bytes at the counter begin no listed instruction */
+    TLCS900H_MISSING = 5,     /* an operand lies in neither memory, or only partly in one, see *at; at reset: ROM has fewer than 256 bytes */
+    TLCS900H_TO_ROM = 6,      /* a store would go to ROM, see *at */
+    TLCS900H_TOO_MANY = 7,    /* a run is asked for more than 1,000,000 steps */
+    TLCS900H_UNDEFINED = 8,   /* a jump reads V (LT, LE, V, their opposites) and V is marked; or PUSH F or PUSH SR, and H or V of F is marked */
     TLCS900H_BAD_REQUEST = 9, /* a request's level is not 1 to 7, or its vector's address is 2^24 or more */
     TLCS900H_NO_OLD_FORM = 10 /* a record to narrow has a mark, or its nesting count is not 0: 88 bytes cannot hold its state */
 };

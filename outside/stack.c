@@ -133,10 +133,14 @@ static int keeps(const char *name, void (*call)(void)) {
 }
 
 int main(void) {
-    int passed = keeps("tlcs900h_reset", resets) + keeps("tlcs900h_step", steps) + keeps("tlcs900h_run", runs) +
-                 keeps("tlcs900h_show", shows) + (keeps("tlcs900h_request", requests) && taken_requests > 0) +
-                 (keeps("tlcs900h_widen", widens) && answers[TLCS900H_INVALID] > 0) +
-                 (keeps("tlcs900h_narrow", narrows) && answers[TLCS900H_INVALID] > 0 && answers[TLCS900H_NO_OLD_FORM] > 0);
+    int passed = 0;
+    passed += keeps("tlcs900h_reset", resets);
+    passed += keeps("tlcs900h_step", steps);
+    passed += keeps("tlcs900h_run", runs);
+    passed += keeps("tlcs900h_show", shows);
+    passed += keeps("tlcs900h_request", requests) && taken_requests > 0;
+    passed += keeps("tlcs900h_widen", widens) && answers[TLCS900H_INVALID] > 0;
+    passed += keeps("tlcs900h_narrow", narrows) && answers[TLCS900H_INVALID] > 0 && answers[TLCS900H_NO_OLD_FORM] > 0;
     printf("%d passed, %d failed\n", passed, 7 - passed);
     return passed != 7;
 }

@@ -6,7 +6,7 @@ use mathlib.Core.Bool.{Bool, true, false, not, _||_}
 use mathlib.Core.Logic.{inl, ⊎-elim}
 use native.Mathlib.Omega.{arith}
 use lib.Dec.{eqb}
-use borrow.Author.Tests.{eqb-true}
+use borrow.Author.Tests.{eqb-true, not-false}
 use Rattle.answer.specs.Number.{numberOf}
 use Rattle.answer.specs.declared.Answer.{Answer}
 use Rattle.answer.specs.declared.Answer.the-variants.{Done}
@@ -82,11 +82,7 @@ jump-reads-defined s ram rom i what d e g a =
     known-decides (flagsIn s) g _ (sym (ap (λ (op : Op). usesMarked op s) e) ∙ done-unused s ram rom i d) a
 
 none-marked : (n : ℕ) → not (eqb n 0) ≡ false → n ≡ 0
-none-marked n e = eqb-true n 0 (turned (eqb n 0) e)
-  where
-    turned : (b : Bool) → not b ≡ false → b ≡ true
-    turned true h = refl
-    turned false h = let z : _≡_ {A = ℕ} 0 1 = cc in absurd (omega arith)
+none-marked n e = eqb-true n 0 (not-false (eqb n 0) e)
 
 pub push-stores-defined : PushStoresDefined
 unfolding usesMarked

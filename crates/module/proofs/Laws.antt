@@ -6,7 +6,7 @@ use mathlib.Core.Bool.{Bool, true, false, cond, not}
 use native.Mathlib.Omega.{arith}
 use lib.ListN.{length}
 use lib.Dec.{eqb}
-use borrow.Author.Tests.{lt-ltb, le-ltb, eq-eqb, eqb-true}
+use borrow.Author.Tests.{lt-ltb, le-ltb, eq-eqb, not-true, not-false}
 use Rattle.answer.specs.declared.Answer.{Answer}
 use Rattle.answer.specs.declared.Answer.the-variants.{Done, Refused}
 use Rattle.answer.specs.declared.Why.{Why}
@@ -16,12 +16,14 @@ use Rattle.little.specs.declared.Size.the-variants.{Long}
 use Rattle.memory.specs.Access as access
 use Rattle.memory.specs.declared.Loaded.{Loaded}
 use Rattle.memory.specs.declared.Loaded.the-variants as loaded
-use Rattle.state.specs.State.{validOf, zeroState}
+use Rattle.state.specs.State.{zeroState}
 use Rattle.state.specs.Sound.{Sound}
 use Rattle.state.specs.declared.State.{State}
-use Rattle.state.proofs.Valid.{Valid, valid-says, valid-from, valid-zero, valid-reset, and-true}
+use Rattle.state.proofs.Valid.{Valid, valid-says, valid-from, valid-zero, valid-reset}
 use Rattle.saved.specs.declared.Restored.{Restored}
-use Rattle.saved.specs.Record.{recordLength, recordOf, saveAnswer, saveBytes, stateAt, fixedAt, isRecord, restoredFrom, restoredOf, refusedRecord}
+use Rattle.saved.specs.Record.{recordLength, recordOf, saveAnswer, saveBytes, stateAt, restoredOf, refusedRecord}
+use Rattle.saved.proofs.Laws.{load-done}
+use Rattle.saved.proofs.RoundTrip.{good-says}
 use Rattle.step.specs.declared.Stepped.{Stepped}
 use Rattle.operand.specs.Try.{Try, did, no, Outcome, after, leaves}
 use Rattle.step.specs.Result.{refusedWith}
@@ -30,7 +32,6 @@ use Rattle.step.specs.Reset.{resetFrom, resetOf}
 use Rattle.facts.proofs.Statements.{keeps-valid}
 use Rattle.request.specs.declared.Requested.{Requested}
 use Rattle.request.specs.Request.{requestOf, tookOf, RequestMeets}
-use Rattle.request.proofs.Laws.{off, on}
 use Rattle.turn.specs.declared.Ran.{Ran}
 use Rattle.turn.specs.Many.{Result, result}
 use Rattle.run.specs.Run.{runOf}
@@ -86,16 +87,11 @@ pub run-sound : (n : ℕ) (s : State) (ram rom : List ℕ) → Sound s → Sound
 run-sound = run-keeps Sound (λ s ram rom t m e ok. try-keeps s ram rom t m e .1 ok)
 
 -- ---- a record that is opened
-load-done : (b : List ℕ) → restoredOf b .answer ≡ Done → Valid (restoredOf b .state) × (length b ≡ recordLength)
-unfolding restoredFrom
-load-done b h = go (isRecord b) refl h
-  where
-    go : (x : Bool) → isRecord b ≡ x → cond x (record { answer = Done; state = stateAt b }) (refusedRecord Invalid) .answer ≡ Done →
-        Valid (cond x (record { answer = Done; state = stateAt b }) (refusedRecord Invalid) .state) × (length b ≡ recordLength)
-    go true e f =
-        let a = and-true (eqb (length b) recordLength) _ e in
-        (valid-says (stateAt b) (and-true (validOf (stateAt b)) (fixedAt b) (a .1) .0), eqb-true _ _ (a .0))
-    go false e f = let z : _≡_ {A = ℕ} 0 1 = cc in absurd (omega arith)
+load-valid : (b : List ℕ) → restoredOf b .answer ≡ Done → Valid (restoredOf b .state) × (length b ≡ recordLength)
+load-valid b h =
+    let l = load-done recordLength b refl h in
+    let g = good-says recordLength b (l .0) in
+    (subst Valid (sym (l .1)) (valid-says (stateAt b) (g .1)), g .0)
 
 opened-done : (b : List ℕ) (m n : ℕ) → openedOf b m n .answer ≡ Done → Valid (openedOf b m n .state) × (length b ≡ recordLength)
 unfolding openedOf
@@ -104,7 +100,7 @@ opened-done b m n h = go (tooLong m n) h
     go : (x : Bool) → cond x (record { answer = Refused TooLong; state = zeroState }) (restoredOf b) .answer ≡ Done →
         Valid (cond x (record { answer = Refused TooLong; state = zeroState }) (restoredOf b) .state) × (length b ≡ recordLength)
     go true f = let z : _≡_ {A = ℕ} 0 1 = cc in absurd (omega arith)
-    go false f = load-done b f
+    go false f = load-valid b f
 
 -- ---- a valid state is saved wherever there is room
 saves : (s : State) (b : List ℕ) → Valid s → (saveAnswer s (length b) ≡ cond (eqb (length b) recordLength) Done (Refused Invalid)) × (saveBytes s b ≡ cond (eqb (length b) recordLength) (recordOf s) b)
@@ -202,13 +198,13 @@ module _ (b ram rom : List ℕ) (o : Restored) (is : o ≡ openedOf b (length ra
 
       pub request-not : {n x : ℕ} → not (q .taken) ≡ true → n ≡ numberOf (q .answer) → x ≡ atOf (q .answer) →
           CRequestMeets level vector b ram rom n 0 x b m
-      request-not d = request-told false (off (q .taken) d) refl
+      request-not d = request-told false (not-true (q .taken) d) refl
 
       pub request-took : {n x : ℕ} {b' : List ℕ} → not (q .taken) ≡ false → b' ≡ saveBytes (q .state) b → n ≡ numberOf (q .answer) →
           x ≡ atOf (q .answer) → CRequestMeets level vector b ram rom n 1 x b' m
       request-took d f =
           let k = saved-over (q .state) good (λ v. subst (λ (x : Outcome). Valid (x .state)) (sym came) (offer-valid level vector _ ram rom v)) in
-          request-told true (on (q .taken) d) (f ∙ k .1)
+          request-told true (not-false (q .taken) d) (f ∙ k .1)
 
 -- ---- many steps
 module _ (n : ℕ) (b ram rom : List ℕ) where

@@ -1,13 +1,12 @@
 -- What is promised is settled; what each call answers and leaves, by its cases, and the bytes of a moved record.
 use Prim.Native.Nat.{ℕ}
 use mathlib.Core.Path.{_≡_, refl, ap, sym, _∙_}
-use mathlib.Core.Logic.{_⊎_, ⊎-elim, inl, inr}
-use mathlib.Core.Bool.{Bool, true, false, _&&_, not, and-false}
+use mathlib.Core.Logic.{_⊎_, inl, inr}
+use mathlib.Core.Bool.{Bool, true, false, _&&_, not}
 use mathlib.Core.List.{List}
-use native.Mathlib.Omega.{arith}
 use lib.ListN.{length}
 use lib.Dec.{eqb}
-use borrow.Author.Tests.{eq-eqb, ne-eqb, eqb-true, eqb-false}
+use borrow.Author.Tests.{eq-eqb, eqb-true, eqb-false, not-true, not-false}
 use Rattle.little.specs.Bytes.{Bytes}
 use Rattle.answer.specs.declared.Answer.{Answer}
 use Rattle.answer.specs.declared.Answer.the-variants.{Done, Refused}
@@ -17,18 +16,14 @@ use Rattle.answer.specs.Number.{whyNumber, numberOf}
 use Rattle.state.proofs.Valid.{and-true}
 use Rattle.saved.specs.declared.Restored.{Restored}
 use Rattle.saved.specs.Record.{recordLength, oldLength, recordOf, oldRecordOf, widened, narrowed, fitsOld, stateAt}
-use Rattle.saved.specs.Record.{isRecordOf, isRecord, isOldRecord}
-use Rattle.saved.specs.Record.{SaveMeets, OldSaveMeets, restoredFrom, restoredOf, oldRestoredOf}
-use Rattle.saved.proofs.Laws.{load-good}
-use Rattle.saved.proofs.Refusals.{saves, old-saves, bad-records}
+use Rattle.saved.specs.Record.{isRecord, isOldRecord, SaveMeets, OldSaveMeets, restoredOf, oldRestoredOf}
+use Rattle.saved.proofs.Laws.{load-done, load-refused}
+use Rattle.saved.proofs.Refusals.{either-fails, saves, old-saves, alike}
 use Rattle.saved.proofs.RoundTrip.{front-is-old, sound-at, good-says, read-saves-back, old-records-are-of-states}
 use Rattle.moves.specs.Moves.{widenAnswer, widenBytes, narrowAnswer, narrowBytes, CWidenMeets, CNarrowMeets}
 use Rattle.moves.specs.Statements.{Widens, Settled}
 
 -- ---- what is promised is settled
-alike : {n m x : ℕ} {b c y : List ℕ} → (n ≡ x) × (b ≡ y) → (m ≡ x) × (c ≡ y) → (n ≡ m) × (b ≡ c)
-alike p q = (p .0 ∙ sym (q .0), p .1 ∙ sym (q .1))
-
 pub settled : Settled
 settled = (λ old new b c n m. alike, λ new old b c n m. alike)
 
@@ -46,9 +41,7 @@ pub widens : Widens
 unfolding widenAnswer widenBytes
 widens old room = (
   λ g e. (rw (g, eq-eqb _ _ e) refl, rw (g, eq-eqb _ _ e) refl),
-  ⊎-elim
-      (λ g. (rw g refl, rw g refl))
-      (λ e. (simp (ne-eqb _ _ e, and-false), simp (ne-eqb _ _ e, and-false))),
+  λ x. let z = either-fails _ _ _ x in (rw z refl, rw z refl),
 )
 
 pub narrow-done :
@@ -67,42 +60,10 @@ pub narrow-two :
     (new room : List ℕ) → (isRecord new ≡ false) ⊎ (length room ≡ oldLength → ⊥) →
     (narrowAnswer new (length room) ≡ Refused Invalid) × (narrowBytes new room ≡ room)
 unfolding narrowAnswer narrowBytes
-narrow-two new room =
-    ⊎-elim
-    (λ g. (rw g refl, rw g refl))
-    (λ e. (simp (ne-eqb _ _ e, and-false), simp (ne-eqb _ _ e, and-false)))
+narrow-two new room x = let z = either-fails _ _ _ x in (rw z refl, rw z refl)
 
 -- ---- each call, by what its own calls gave
-pub done-or : {X : Type 0} {a : Answer} {w : Why} → a ≡ Done → a ≡ Refused w → X
-done-or e f = let z : _≡_ {A = ℕ} 0 1 = cc in absurd (omega arith)
-
--- a load that is refused is of a bad record, and says 2
-load-refused :
-    (n : ℕ) (l : List ℕ) {o : Restored} → o ≡ restoredFrom n l → (w : Why) → o .answer ≡ Refused w →
-    (isRecordOf n l ≡ false) × (_≡_ {A = Answer} (Refused w) (Refused Invalid))
-load-refused n l e w r = go (isRecordOf n l) refl
-  where
-    go : (b : Bool) → isRecordOf n l ≡ b → (isRecordOf n l ≡ false) × (_≡_ {A = Answer} (Refused w) (Refused Invalid))
-    go true g = done-or (ap (λ (o : Restored). o .answer) (e ∙ load-good n l g)) r
-    go false g = (g, sym r ∙ ap (λ (o : Restored). o .answer) (e ∙ bad-records n l g))
-
--- one that is done gives the state in a good one
-load-done : (n : ℕ) (l : List ℕ) {o : Restored} → o ≡ restoredFrom n l → o .answer ≡ Done → (isRecordOf n l ≡ true) × (o .state ≡ stateAt l)
-load-done n l {o = o} e r = go (isRecordOf n l) refl
-  where
-    go : (b : Bool) → isRecordOf n l ≡ b → (isRecordOf n l ≡ true) × (o .state ≡ stateAt l)
-    go true g = (g, ap (λ (o : Restored). o .state) (e ∙ load-good n l g))
-    go false g = done-or r (ap (λ (o : Restored). o .answer) (e ∙ bad-records n l g))
-
-not-true : (f : Bool) → not f ≡ true → f ≡ false
-not-true false e = refl
-not-true true e = sym e
-
-not-false : (f : Bool) → not f ≡ false → f ≡ true
-not-false true e = refl
-not-false false e = sym e
-
--- two pairs of an answer and bytes are the same, and so is the number
+-- what a call gave, a and b, and what is defined, y and v, are both those of the case, x and u: the promise is met
 told :
     {x y a : Answer} {u v b : List ℕ} {n : ℕ} → n ≡ numberOf a → a ≡ x → b ≡ u → (y ≡ x) × (v ≡ u) → (n ≡ numberOf y) × (b ≡ v)
 told k e f d = (k ∙ ap numberOf (e ∙ sym (d .0)), f ∙ sym (d .1))

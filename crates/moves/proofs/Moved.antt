@@ -12,6 +12,7 @@ use Rattle.little.specs.Bytes.{Bytes}
 use Rattle.answer.specs.declared.Answer.the-variants.{Done, Refused}
 use Rattle.answer.specs.declared.Why.{Why}
 use Rattle.answer.specs.declared.Why.the-variants.{Invalid, NoOldForm}
+use Rattle.answer.proofs.Laws.{not-refused}
 use Rattle.state.specs.State.{validOf}
 use Rattle.state.proofs.Valid.{and-true}
 use Rattle.state.specs.Sound.{Sound}
@@ -23,7 +24,7 @@ use Rattle.saved.proofs.Laws.{load-good}
 use Rattle.saved.proofs.RoundTrip.{front-is-old, sound-at, marks-same, good-says, saved-reads-back, read-saves-back, records-are-of-states, old-records-are-of-states}
 use Rattle.moves.specs.Moves.{widenAnswer, widenBytes, narrowAnswer, narrowBytes}
 use Rattle.moves.specs.Statements.{Narrows, WidensBack, NarrowsBack, MovedLoads, MovedSaves}
-use Rattle.moves.proofs.Laws.{wide-bytes, narrow-bytes, widens, narrow-done, narrow-ten, narrow-two, done-or}
+use Rattle.moves.proofs.Laws.{wide-bytes, narrow-bytes, widens, narrow-done, narrow-ten, narrow-two}
 
 -- ---- when each number is given
 -- that the old form holds the state in a record is told by its bytes
@@ -62,8 +63,8 @@ moved-saves s room ok v = (
 -- a move that is done passed all that is looked for
 all-passed : (b f : Bool) (w : Why) → cond b (cond f Done (Refused w)) (Refused Invalid) ≡ Done → (b ≡ true) × (f ≡ true)
 all-passed true true w e = (refl, refl)
-all-passed true false w e = done-or e refl
-all-passed false f w e = done-or e refl
+all-passed true false w e = not-refused e refl
+all-passed false f w e = not-refused e refl
 
 -- it wrote the record of the state in the one that it read
 widened-is :

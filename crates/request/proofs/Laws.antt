@@ -57,14 +57,6 @@ pub pushed-is : (s : State) → validOf s ≡ true → pushedOf s ≡ returnAddr
 pushed-is s v = let h = sr-lt s (valid-says s v) in let e : srOf s % 2 ^ 16 ≡ srOf s = omega (arith, h) in rw e refl
 
 -- ---- the checks
-pub off : (b : Bool) → not b ≡ true → b ≡ false
-off true e = let z : _≡_ {A = ℕ} 0 1 = cc in absurd (omega arith)
-off false e = refl
-
-pub on : (b : Bool) → not b ≡ false → b ≡ true
-on true e = refl
-on false e = let z : _≡_ {A = ℕ} 0 1 = cc in absurd (omega arith)
-
 -- a level that is not bad is one of seven
 pub level-is : (level address : ℕ) → badRequest level address ≡ false → level % 8 ≡ level
 level-is level address e = go (leb 1 level) (leb level 7) refl e

@@ -12,6 +12,7 @@ use Rattle.answer.specs.declared.Answer.{Answer}
 use Rattle.answer.specs.declared.Answer.the-variants.{Done, Refused}
 use Rattle.answer.specs.declared.Why.{Why}
 use Rattle.answer.specs.declared.Why.the-variants.{TooMany, TooLong, Invalid}
+use Rattle.answer.proofs.Laws.{not-refused}
 use Rattle.state.specs.State.{validOf}
 use Rattle.state.specs.declared.State.{State}
 use Rattle.operand.specs.Try.{Try, did, no, Outcome, after, leaves}
@@ -29,9 +30,6 @@ run-settled s ram rom n p q l m e f =
     (ap (λ (r : Result). record { state = r .state; done = r .done; answer = r .answer }) g, ap (λ (r : Result). r .ram) g)
 
 -- ---- steps left, from any count
-not-refused : {A : Type 0} {a : Answer} {w : Why} → a ≡ Done → a ≡ Refused w → A
-not-refused e f = let z : _≡_ {A = ℕ} 0 1 = cc in absurd (omega arith)
-
 shift : (n d : ℕ) (s : State) (ram rom : List ℕ) → manyOf n d s ram rom ≡ later d (manyOf n 0 s ram rom)
 shift zero d s ram rom =
     many-none d s ram rom ∙ sym (ap (later d) (many-none 0 s ram rom) ∙ ap (λ (k : ℕ). ends k s ram Done) (add-zero d))

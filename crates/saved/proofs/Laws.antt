@@ -2,29 +2,30 @@
 use Prim.Native.Nat.{ℕ, _+_, _*_, _/_, _%_, _^_, _<_}
 use mathlib.Core.Path.{_≡_, refl, ap, sym, _∙_}
 use mathlib.Core.List.{List, [], _∷_, _++_, append-assoc}
-use mathlib.Core.Bool.{true}
+use mathlib.Core.Bool.{Bool, true, false}
 use native.Mathlib.Omega.{arith}
-use lib.Dec.{ltb}
 use lib.ListN.{length, getD, take, drop}
 use lib.Seq.{take-all, getD-drop}
-use borrow.Author.Tests.{ltb-true}
-use Rattle.answer.specs.declared.Answer.the-variants.{Done}
+use Rattle.answer.specs.declared.Answer.{Answer}
+use Rattle.answer.specs.declared.Answer.the-variants.{Done, Refused}
+use Rattle.answer.specs.declared.Why.{Why}
+use Rattle.answer.specs.declared.Why.the-variants.{Invalid}
+use Rattle.answer.proofs.Laws.{not-refused}
 use Rattle.little.specs.Bytes.{valueOf, bytesFrom}
-use Rattle.state.specs.State.{clear, flagsValid, marksOf}
+use Rattle.state.specs.State.{flagsValid, marksOf}
 use Rattle.state.specs.declared.State.{State}
 use Rattle.state.specs.Sr.{srOf, fIn, bankIn, levelIn}
-use Rattle.state.proofs.Valid.{Valid, and-true}
+use Rattle.state.proofs.Valid.{Valid, flags-say}
 use Rattle.saved.specs.Record.{recordLength, oldLength, longsBytes, oldRecordOf, marksByte, recordOf}
 use Rattle.saved.specs.Record.{longsAt, srAt, nestingAt, marksAt, stateAt, isRecordOf, restoredFrom}
+use Rattle.saved.specs.declared.Restored.{Restored}
 use Rattle.saved.proofs.Numbers.{two}
+use Rattle.saved.proofs.Refusals.{bad-records}
 
 -- ---- saving
 -- valid flags have two marks at most
 pub marks-lt : (f : ℕ) → flagsValid f ≡ true → marksOf f < 4
-marks-lt f e =
-    let a = and-true (clear 5 f) _ e in
-    let b = and-true (clear 3 f) _ (a .1) in
-    omega (arith, ltb-true f (2 ^ 10) (and-true (ltb f (2 ^ 10)) _ (b .1) .0))
+marks-lt f e = omega (arith, flags-say f e .0)
 
 -- what each write of `save_front` leaves, one after the other, is the old record
 pub front-filled :
@@ -84,3 +85,22 @@ state-made l e f g i j k = rw (e, f, g, i, j, k)
 pub load-good : (n : ℕ) (l : List ℕ) → isRecordOf n l ≡ true → restoredFrom n l ≡ record { answer = Done; state = stateAt l }
 unfolding restoredFrom
 load-good n l e = rw e refl
+
+-- a load that is done is of a good record, and gives the state in it
+pub load-done :
+    (n : ℕ) (l : List ℕ) {o : Restored} → o ≡ restoredFrom n l → o .answer ≡ Done → (isRecordOf n l ≡ true) × (o .state ≡ stateAt l)
+load-done n l {o = o} e r = go (isRecordOf n l) refl
+  where
+    go : (b : Bool) → isRecordOf n l ≡ b → (isRecordOf n l ≡ true) × (o .state ≡ stateAt l)
+    go true g = (g, ap (λ (o : Restored). o .state) (e ∙ load-good n l g))
+    go false g = not-refused r (ap (λ (o : Restored). o .answer) (e ∙ bad-records n l g))
+
+-- a load that is refused is of a bad record, and says 2
+pub load-refused :
+    (n : ℕ) (l : List ℕ) {o : Restored} → o ≡ restoredFrom n l → (w : Why) → o .answer ≡ Refused w →
+    (isRecordOf n l ≡ false) × (_≡_ {A = Answer} (Refused w) (Refused Invalid))
+load-refused n l e w r = go (isRecordOf n l) refl
+  where
+    go : (b : Bool) → isRecordOf n l ≡ b → (isRecordOf n l ≡ false) × (_≡_ {A = Answer} (Refused w) (Refused Invalid))
+    go true g = not-refused (ap (λ (o : Restored). o .answer) (e ∙ load-good n l g)) r
+    go false g = (g, sym r ∙ ap (λ (o : Restored). o .answer) (e ∙ bad-records n l g))

@@ -4,13 +4,12 @@ use mathlib.Core.Path.{_≡_, refl}
 use mathlib.Core.Bool.{Bool, true, false, _||_}
 use mathlib.Core.List.{List}
 use native.Mathlib.Omega.{arith}
-use lib.Dec.{ltb}
 use lib.ListN.{getD, drop}
 use lib.Seq.{getD-drop}
 use Rattle.little.specs.Bytes.{Bytes}
 use Rattle.state.specs.State.{clear, flagsValid}
 use Rattle.state.specs.Sr.{fIn}
-use Rattle.state.proofs.Valid.{valid-says, and-true}
+use Rattle.state.proofs.Valid.{valid-says, flags-say}
 use Rattle.saved.specs.Record.{recordLength, srAt, marksAt, stateAt, isRecord}
 use Rattle.saved.specs.Statements.{MarkedOnesAreBad}
 use Rattle.saved.proofs.Numbers.{two}
@@ -20,15 +19,12 @@ use Rattle.saved.proofs.RoundTrip.{good-says}
 marked-zero : (b k : ℕ) → b < 2 ^ 8 → flagsValid (b + 2 ^ 8 * k) ≡ true → ((clear 0 k || clear 4 b) ≡ true) × ((clear 1 k || clear 2 b) ≡ true)
 marked-zero b k h e =
     let f = b + 2 ^ 8 * k in
-    let a = and-true (clear 5 f) _ e in
-    let c = and-true (clear 3 f) _ (a .1) in
-    let d = and-true (ltb f (2 ^ 10)) _ (c .1) in
-    let g = and-true (clear 8 f || clear 4 f) _ (d .1) in
+    let g = flags-say f e in
     let m0 : f / 2 ^ 8 % 2 ≡ k / 2 ^ 0 % 2 = omega arith in
     let m1 : f / 2 ^ 9 % 2 ≡ k / 2 ^ 1 % 2 = omega arith in
     let f4 : f / 2 ^ 4 % 2 ≡ b / 2 ^ 4 % 2 = omega arith in
     let f2 : f / 2 ^ 2 % 2 ≡ b / 2 ^ 2 % 2 = omega arith in
-    (rw (m0, f4) at (g .0), rw (m1, f2) at (g .1))
+    (rw (m0, f4) at (g .1), rw (m1, f2) at (g .2))
 
 -- neither is clear: then such a test fails
 neither : (x y : Bool) → x ≡ false → y ≡ false → (x || y) ≡ true → ⊥

@@ -2,11 +2,11 @@
 use Prim.Native.Nat.{ℕ, _%_, _^_, _<_}
 use mathlib.Core.Path.{_≡_, refl, ap, sym, _∙_}
 use mathlib.Core.List.{List}
-use mathlib.Core.Bool.{Bool, true, false, _&&_}
+use mathlib.Core.Bool.{Bool, true, false, _&&_, _||_}
 use native.Mathlib.Omega.{arith}
 use lib.Dec.{ltb}
 use borrow.Author.Tests.{lt-ltb, ltb-true}
-use Rattle.state.specs.State.{flagsValid, validOf, zeroState, resetState, lent, nested, withCounter, withBank, withLevel, withNesting, withFlags, withBothFlags, withLong}
+use Rattle.state.specs.State.{clear, flagsValid, validOf, zeroState, resetState, lent, nested, withCounter, withBank, withLevel, withNesting, withFlags, withBothFlags, withLong}
 use Rattle.state.specs.Register.{setSlot, setRegister}
 use Rattle.little.specs.declared.Size.{Size}
 use Rattle.state.specs.declared.Slot.{Slot}
@@ -22,6 +22,15 @@ pub record Valid (s : State) : Type 0 where
 pub and-true : (a b : Bool) → a && b ≡ true → (a ≡ true) × (b ≡ true)
 and-true true b e = (refl, e)
 and-true false b e = let z : _≡_ {A = ℕ} 0 1 = cc in absurd (omega arith)
+
+-- valid flags have their marks in bits 8 and 9, and a marked flag is 0
+pub flags-say : (f : ℕ) → flagsValid f ≡ true → (f < 2 ^ 10) × ((clear 8 f || clear 4 f) ≡ true) × ((clear 9 f || clear 2 f) ≡ true)
+flags-say f e =
+    let a = and-true (clear 5 f) _ e in
+    let b = and-true (clear 3 f) _ (a .1) in
+    let c = and-true (ltb f (2 ^ 10)) _ (b .1) in
+    let d = and-true (clear 8 f || clear 4 f) _ (c .1) in
+    (ltb-true _ _ (c .0), d .0, d .1)
 
 pub valid-says : (s : State) → validOf s ≡ true → Valid s
 unfolding validOf

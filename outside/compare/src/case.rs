@@ -24,7 +24,7 @@ impl Call {
 }
 
 /// A call and what it is given. `Show` takes no record. `Widen` and `Narrow` take
-/// no memories: the room for what is moved stands where RAM else does.
+/// no memories: the room for what is moved stands where RAM otherwise does.
 #[derive(Clone, Debug, PartialEq, Eq)]
 pub struct Case {
     pub call: Call,

@@ -3,7 +3,8 @@ use mathlib.Core.Bool.{true, false, not}
 use Rattle.state.specs.State.{validOf}
 use Rattle.step.specs.Step.{guarded}
 use Rattle.request.specs.Request.{badRequest, takes, offeredOf, requestOf, tookOf}
-use Rattle.request.proofs.Laws.{off, on, level-is, pushed-is, taken-by}
+use Rattle.request.proofs.Laws.{level-is, pushed-is, taken-by}
+use borrow.Author.Tests.{not-true, not-false}
 use borrow.Author.Needs.{needs}
 use Rattle.request.proofs.request.Statement.{statement}
 use Rattle.request.proofs.request.Tie as tie
@@ -26,7 +27,7 @@ untaken-requires-2 c κs = search needs
 
 returns-2 : tie.Need-returns-2
 unfolding requestOf tookOf offeredOf guarded
-returns-2 c = rw (c .untaken2 .ensures, sym (c .before .before .before .before .too-long .ensures) ∙ c .before .before .before .if1 .left, off (validOf (c .before .before .before .before .before .before .before .args .s)) (ap not (sym (c .before .before .valid .ensures)) ∙ c .before .if2 .taken)) (refl, refl)
+returns-2 c = rw (c .untaken2 .ensures, sym (c .before .before .before .before .too-long .ensures) ∙ c .before .before .before .if1 .left, not-true (validOf (c .before .before .before .before .before .before .before .args .s)) (ap not (sym (c .before .before .valid .ensures)) ∙ c .before .if2 .taken)) (refl, refl)
 
 bad-requires : tie.Need-bad-requires
 bad-requires c κs = search needs
@@ -36,7 +37,7 @@ untaken-requires-3 c κs = search needs
 
 returns-3 : tie.Need-returns-3
 unfolding requestOf tookOf offeredOf guarded
-returns-3 c = rw (c .untaken3 .ensures, sym (c .before .before .before .before .before .before .too-long .ensures) ∙ c .before .before .before .before .before .if1 .left, on (validOf (c .before .before .before .before .before .before .before .before .before .args .s)) (ap not (sym (c .before .before .before .before .valid .ensures)) ∙ c .before .before .before .if2 .left), sym (c .before .before .bad .ensures) ∙ c .before .if3 .taken) (refl, refl)
+returns-3 c = rw (c .untaken3 .ensures, sym (c .before .before .before .before .before .before .too-long .ensures) ∙ c .before .before .before .before .before .if1 .left, not-false (validOf (c .before .before .before .before .before .before .before .before .before .args .s)) (ap not (sym (c .before .before .before .before .valid .ensures)) ∙ c .before .before .before .if2 .left), sym (c .before .before .bad .ensures) ∙ c .before .if3 .taken) (refl, refl)
 
 cast-t20 : tie.Need-cast-t20
 cast-t20 c = search needs
@@ -55,7 +56,7 @@ returns-4 c =
     let a = c .before .before .before .before .before .before .before .before .before .before .before .before .before .before .args in
     let good : badRequest (a .level) (a .vector) ≡ false = sym (c .before .before .before .before .before .before .before .bad .ensures) ∙ c .before .before .before .before .before .before .if3 .left in
     let n = level-is (a .level) (a .vector) good in
-    let valid : validOf (a .s) ≡ true = on _ (ap not (sym (c .before .before .before .before .before .before .before .before .before .valid .ensures)) ∙ c .before .before .before .before .before .before .before .before .if2 .left) in
+    let valid : validOf (a .s) ≡ true = not-false _ (ap not (sym (c .before .before .before .before .before .before .before .before .before .valid .ensures)) ∙ c .before .before .before .before .before .before .before .before .if2 .left) in
     let lets : takes (a .s .level .0) (a .level) ≡ true = ap (takes (a .s .level .0)) (sym n) ∙ sym (c .before .before .before .before .before .admits .ensures) ∙ c .before .before .before .before .if4 .taken in
     taken-by (a .level) (a .vector) (a .s) (a .ram .now) (a .rom .now) (c .before .before .take .result) _
     (sym (c .before .before .before .before .before .before .before .before .before .before .before .too-long .ensures) ∙ c .before .before .before .before .before .before .before .before .before .before .if1 .left) valid good lets
@@ -70,7 +71,7 @@ returns-5 c =
     let a = c .before .before .before .before .before .before .before .before .before .before .before .args in
     let good : badRequest (a .level) (a .vector) ≡ false = sym (c .before .before .before .before .bad .ensures) ∙ c .before .before .before .if3 .left in
     let out : takes (a .s .level .0) (a .level) ≡ false = ap (takes (a .s .level .0)) (sym (level-is (a .level) (a .vector) good)) ∙ sym (c .before .before .admits .ensures) ∙ c .before .if4 .left in
-    rw (c .untaken4 .ensures, sym (c .before .before .before .before .before .before .before .before .too-long .ensures) ∙ c .before .before .before .before .before .before .before .if1 .left, on (validOf (a .s)) (ap not (sym (c .before .before .before .before .before .before .valid .ensures)) ∙ c .before .before .before .before .before .if2 .left), good, out) (refl, refl)
+    rw (c .untaken4 .ensures, sym (c .before .before .before .before .before .before .before .before .too-long .ensures) ∙ c .before .before .before .before .before .before .before .if1 .left, not-false (validOf (a .s)) (ap not (sym (c .before .before .before .before .before .before .valid .ensures)) ∙ c .before .before .before .before .before .if2 .left), good, out) (refl, refl)
 
 pub request-spec : {M : Type 1} → statement M
 request-spec =

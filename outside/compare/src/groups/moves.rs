@@ -144,16 +144,18 @@ pub fn lengths(bench: &mut Bench) {
     expect_all(bench);
 }
 
-/// Good records that are cut short or made longer, noise, and zeros.
+/// Good records, one that the old form holds and one that it does not, cut short
+/// or made longer; noise; and zeros.
 fn each_sort(bench: &mut Bench, length: usize, room: usize) {
     let chance = &mut bench.chance;
     let mut plain = aim::plain_record(chance, LAYOUT);
-    let mut any = aim::record(chance, LAYOUT);
+    let mut unheld = aim::record(chance, LAYOUT);
+    aim::set_nesting(&mut unheld, 1 + chance.below(0xFFFF) as u16);
     let mut noise = vec![0; length];
     plain.resize(length, 0);
-    any.resize(length, 0);
+    unheld.resize(length, 0);
     chance.fill(&mut noise);
-    for record in [plain, any, noise, vec![0; length]] {
+    for record in [plain, unheld, noise, vec![0; length]] {
         for call in [Call::Widen, Call::Narrow] {
             let case = to_room(&mut bench.chance, call, record.clone(), room);
             held(bench, &case);
