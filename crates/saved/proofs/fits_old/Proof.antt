@@ -1,7 +1,4 @@
-use Prim.Native.Nat.{ℕ}
-use mathlib.Core.Path.{ap}
-use mathlib.Core.Bool.{_&&_}
-use lib.Dec.{eqb}
+use mathlib.Core.Path.{refl}
 use borrow.Author.Needs.{needs}
 use Rattle.saved.proofs.fits_old.Statement.{statement}
 use Rattle.saved.proofs.fits_old.Tie as tie
@@ -10,7 +7,7 @@ marks-byte-requires : tie.Need-marks-byte-requires
 marks-byte-requires c κs = search needs
 
 returns : tie.Need-returns
-returns c = ap (λ (m : ℕ). eqb m 0 && eqb (c .before .before .args .s .nesting) 0) (c .before .marks-byte .ensures)
+returns c = rw (c .before .marks-byte .ensures) refl
 
 pub fits-old-spec : {M : Type 1} → statement M
 fits-old-spec = tie.close (tie.spec marks-byte-requires returns)
