@@ -3,15 +3,15 @@ use Prim.Native.Nat.{ℕ, zero, suc, _<_, _≤_}
 use mathlib.Core.Path.{_≡_, refl, ap, sym, _∙_, subst}
 use mathlib.Core.List.{List}
 use mathlib.Core.Bool.{Bool, true, false, cond, not}
-use native.Mathlib.Omega.{arith}
 use lib.ListN.{length}
 use lib.Dec.{eqb}
-use borrow.Author.Tests.{lt-ltb, le-ltb, eq-eqb, not-true, not-false}
+use borrow.Author.Tests.{lt-ltb, le-ltb, not-true, not-false}
 use Rattle.answer.specs.declared.Answer.{Answer}
 use Rattle.answer.specs.declared.Answer.the-variants.{Done, Refused}
 use Rattle.answer.specs.declared.Why.{Why}
 use Rattle.answer.specs.declared.Why.the-variants.{TooMany, TooLong, Invalid}
 use Rattle.answer.specs.Number.{whyNumber, numberOf, atOf, whereDone}
+use Rattle.answer.proofs.Laws.{not-refused}
 use Rattle.little.specs.declared.Size.the-variants.{Long}
 use Rattle.memory.specs.Access as access
 use Rattle.memory.specs.declared.Loaded.{Loaded}
@@ -23,6 +23,7 @@ use Rattle.state.proofs.Valid.{Valid, valid-says, valid-from, valid-zero, valid
 use Rattle.saved.specs.declared.Restored.{Restored}
 use Rattle.saved.specs.Record.{recordLength, recordOf, saveAnswer, saveBytes, stateAt, restoredOf, refusedRecord}
 use Rattle.saved.proofs.Laws.{load-done}
+use Rattle.saved.proofs.Refusals as saved
 use Rattle.saved.proofs.RoundTrip.{good-says}
 use Rattle.step.specs.declared.Stepped.{Stepped}
 use Rattle.operand.specs.Try.{Try, did, no, Outcome, after, leaves}
@@ -99,7 +100,7 @@ opened-done b m n h = go (tooLong m n) h
   where
     go : (x : Bool) → cond x (record { answer = Refused TooLong; state = zeroState }) (restoredOf b) .answer ≡ Done →
         Valid (cond x (record { answer = Refused TooLong; state = zeroState }) (restoredOf b) .state) × (length b ≡ recordLength)
-    go true f = let z : _≡_ {A = ℕ} 0 1 = cc in absurd (omega arith)
+    go true f = not-refused f refl
     go false f = load-valid b f
 
 -- ---- a valid state is saved wherever there is room
@@ -108,10 +109,7 @@ unfolding saveAnswer saveBytes
 saves s b ok = (rw (valid-from s ok) refl, rw (valid-from s ok) refl)
 
 saved-whole : (s : State) (b : List ℕ) → Valid s → length b ≡ recordLength → (saveAnswer s (length b) ≡ Done) × (saveBytes s b ≡ recordOf s)
-saved-whole s b ok e =
-    let k = saves s b ok in
-    let t = eq-eqb (length b) recordLength e in
-    (k .0 ∙ rw t refl, k .1 ∙ rw t refl)
+saved-whole s b ok e = saved.saves s b .0 (valid-from s ok) e
 
 pub opened-long : (b : List ℕ) (m n : ℕ) → tooLong m n ≡ true → openedOf b m n ≡ refusedRecord TooLong
 unfolding openedOf

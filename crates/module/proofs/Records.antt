@@ -6,21 +6,23 @@ use mathlib.Core.List.{List}
 use mathlib.Core.Bool.{Bool, true, false}
 use native.Mathlib.Omega.{arith}
 use lib.ListN.{length}
-use lib.Dec.{ltb, eqb}
+use lib.Dec.{ltb}
 use borrow.Author.Tests.{le-ltb, ltb-true, ltb-false}
 use Rattle.answer.specs.declared.Answer.{Answer}
 use Rattle.answer.specs.declared.Answer.the-variants.{Done, Refused}
 use Rattle.answer.specs.declared.Why.{Why}
 use Rattle.answer.specs.declared.Why.the-variants.{TooMany, TooLong, Invalid}
 use Rattle.answer.specs.Number.{whyNumber, numberOf, atOf, whereDone}
+use Rattle.answer.proofs.Laws.{not-refused}
 use Rattle.little.specs.Bytes.{Bytes}
-use Rattle.state.specs.State.{validOf}
 use Rattle.state.specs.Sound.{Sound}
 use Rattle.state.specs.declared.State.{State}
-use Rattle.state.proofs.Valid.{Valid, valid-says, valid-from, and-true}
+use Rattle.state.proofs.Valid.{Valid, valid-says, valid-from}
 use Rattle.saved.specs.declared.Restored.{Restored}
-use Rattle.saved.specs.Record.{recordLength, recordOf, stateAt, fixedAt, isRecord, restoredFrom, restoredOf, refusedRecord}
-use Rattle.saved.proofs.RoundTrip.{saved-reads-back, read-saves-back, sound-at}
+use Rattle.saved.specs.Record.{recordLength, recordOf, stateAt, isRecord, restoredOf, refusedRecord}
+use Rattle.saved.proofs.Laws.{load-good}
+use Rattle.saved.proofs.Refusals.{bad-records}
+use Rattle.saved.proofs.RoundTrip.{saved-reads-back, read-saves-back, sound-at, good-says}
 use Rattle.operand.specs.Try.{Try, did, no, leaves}
 use Rattle.step.specs.Step.{tooLong, tryOf, stepOf}
 use Rattle.turn.specs.Many.{Result, ends}
@@ -45,25 +47,23 @@ pub record Opens (b : List ℕ) (s : State) : Type 0 where
   pub valid : Valid s
 
 opens : (b : List ℕ) → Bytes b → Opens b (stateAt b) ⊎ (restoredOf b ≡ refusedRecord Invalid)
-unfolding restoredFrom
 opens b h = go (isRecord b) refl
   where
     go : (x : Bool) → isRecord b ≡ x → Opens b (stateAt b) ⊎ (restoredOf b ≡ refusedRecord Invalid)
     go true e =
-        let a = and-true (eqb (length b) recordLength) _ e in
         inl (record {
-          load = rw e refl;
+          load = load-good recordLength b e;
           back = read-saves-back b h e;
           sound = sound-at b h;
-          valid = valid-says (stateAt b) (and-true (validOf (stateAt b)) (fixedAt b) (a .1) .0);
+          valid = valid-says (stateAt b) (good-says recordLength b e .1);
         })
-    go false e = inr (rw e refl)
+    go false e = inr (bad-records recordLength b e)
 
 pub held : (b : List ℕ) (s : State) → HasState b s → Opens b s
 held b s h =
     ⊎-elim
     (λ (o : Opens b (stateAt b)). subst (Opens b) (ap (λ (r : Restored). r .state) (sym (o .load) ∙ h .1)) o)
-    (λ (f : restoredOf b ≡ refusedRecord Invalid). let g = ap (λ (r : Restored). r .answer) (sym f ∙ h .1) in let z : _≡_ {A = ℕ} 0 1 = cc in absurd (omega arith))
+    (λ (f : restoredOf b ≡ refusedRecord Invalid). not-refused (ap (λ (r : Restored). r .answer) (h .1)) (ap (λ (r : Restored). r .answer) f))
     (opens b (h .0))
 
 pub saved-opens : (s : State) → Sound s → Valid s → Opens (recordOf s) s
