@@ -7,14 +7,17 @@
 
 #![forbid(unsafe_code)]
 
+pub mod banks;
 pub mod marks;
 pub mod records;
 pub mod requests;
 
-/// One line for each form, in hex: bytes or ranges of bytes; `n` for a byte of
-/// a constant, `a` of an address, `d` of a displacement. Where forms differ
-/// only in what they do they may share a line; the comparison draws equally
-/// often from each line.
+/// One line for each form, in hex: bytes or ranges of bytes, `00-3F/2` for every
+/// second byte of a range; `n` for a byte of a constant, `a` of an address, `d`
+/// of a displacement. Where forms differ only in what they do they may share a
+/// line; the comparison draws equally often from each line. What K1 adds is
+/// called any byte, any word, any long: these have few lines, or there would be
+/// too much of them in what is drawn.
 const LISTED: &str = "
     NOP                 | 00
     INCF                | 0C
@@ -64,6 +67,21 @@ const LISTED: &str = "
     SLA SRA SLL SRL n,r | C8-CF,D8-DF,E8-EF EC-EF 00-0F
     EXTZ r              | D8-DF,E8-EF 12
     EXTS r              | D8-DF,E8-EF 13
+
+    any byte with n8    | C7 00-3F,D0-FF 03,C8-CF n
+    any word with n16   | D7 00-3F/2,D0-FF/2 03,C8-CF n n
+    any long with n32   | E7 00-3F/4,D0-FF/4 03,C8-CF n n n n
+    any byte with R     | C7 00-3F,D0-FF 80-9F,A0-A7,B0-B7,C0-C7,D0-D7,E0-E7,F0-F7
+    any word with R     | D7 00-3F/2,D0-FF/2 80-9F,A0-A7,B0-B7,C0-C7,D0-D7,E0-E7,F0-F7
+    any long with R     | E7 00-3F/4,D0-FF/4 80-9F,A0-A7,B0-B7,C0-C7,D0-D7,E0-E7,F0-F7
+    INC DEC any byte    | C7 00-3F,D0-FF 60-6F
+    INC DEC any word    | D7 00-3F/2,D0-FF/2 60-6F
+    INC DEC any long    | E7 00-3F/4,D0-FF/4 60-6F
+    SLA to SRL any byte | C7 00-3F,D0-FF EC-EF 00-0F
+    SLA to SRL any word | D7 00-3F/2,D0-FF/2 EC-EF 00-0F
+    SLA to SRL any long | E7 00-3F/4,D0-FF/4 EC-EF 00-0F
+    EXTZ EXTS any word  | D7 00-3F/2,D0-FF/2 12-13
+    EXTZ EXTS any long  | E7 00-3F/4,D0-FF/4 12-13
 
     LD R,(R)            | 80-87,90-97,A0-A7 20-27
     ADD to CP R,(R)     | 80-87,90-97,A0-A7 80-87,90-97,A0-A7,B0-B7,C0-C7,D0-D7,E0-E7,F0-F7
@@ -115,8 +133,9 @@ pub struct Form {
     pub slots: Vec<Slot>,
 }
 
-/// Forms in which every byte of the first place, or of the second, is another
-/// instruction; elsewhere its lowest three bits name a register or a number.
+/// Forms in which every byte of the first place, of the second, or of the third
+/// is another instruction; elsewhere its lowest three bits name a register or a
+/// number.
 const WHOLE_FIRST: [&str; 3] = ["RCF SCF CCF ZCF", "JR cc,d8", "JRL cc,d16"];
 const WHOLE_SECOND: [&str; 6] = [
     "ADD to CP r,n8",
@@ -126,8 +145,24 @@ const WHOLE_SECOND: [&str; 6] = [
     "LDI LDIR LDD LDDR",
     "CPI CPIR CPD CPDR",
 ];
+const WHOLE_THIRD: [&str; 8] = [
+    "any byte with n8",
+    "any word with n16",
+    "any long with n32",
+    "SLA to SRL any byte",
+    "SLA to SRL any word",
+    "SLA to SRL any long",
+    "EXTZ EXTS any word",
+    "EXTZ EXTS any long",
+];
 
 impl Form {
+    /// Whether it begins with C7, D7 or E7.
+    pub fn is_of_k1(&self) -> bool {
+        let mut firsts = banks::SIZES.iter().map(|size| size.any);
+        firsts.any(|first| self.slots[0].takes(first))
+    }
+
     /// The form taken apart: each part does one thing in one size, whatever
     /// registers and numbers it names.
     pub fn kinds(&self) -> Vec<Form> {
@@ -144,7 +179,10 @@ impl Form {
         match place {
             0 if WHOLE_FIRST.contains(&self.name) => 0xFF,
             0 => 0xF0,
+            // All of it names a register.
+            1 if self.is_of_k1() => 0x00,
             1 if WHOLE_SECOND.contains(&self.name) => 0xFF,
+            2 if WHOLE_THIRD.contains(&self.name) => 0xFF,
             _ => 0xF8,
         }
     }
@@ -179,6 +217,23 @@ pub fn named(name: &str) -> Form {
     form.unwrap_or_else(|| panic!("no form is called {name}"))
 }
 
+/// What code answers where nothing comes behind it, judged byte by byte: 0 and
+/// the length of the instruction that it begins with, or 3 or 4.
+pub fn judged(forms: &[Form], code: &[u8]) -> (u8, usize) {
+    let mut fitting: Vec<&Form> = forms.iter().collect();
+    for (place, &byte) in code.iter().enumerate() {
+        fitting.retain(|form| form.slots[place].takes(byte));
+        let length = place + 1;
+        if fitting.is_empty() {
+            return (4, 0);
+        }
+        if fitting.iter().any(|form| form.slots.len() == length) {
+            return (0, length);
+        }
+    }
+    (3, 0)
+}
+
 fn form(line: &'static str) -> Form {
     let (name, codes) = line.split_once('|').expect("a name and its codes");
     Form {
@@ -196,8 +251,9 @@ fn slot(word: &str) -> Slot {
     }
 }
 
-fn range(word: &str) -> std::ops::RangeInclusive<u8> {
+fn range(word: &str) -> impl Iterator<Item = u8> {
     let value = |digits: &str| u8::from_str_radix(digits, 16).expect("a byte in hex");
-    let (low, high) = word.split_once('-').unwrap_or((word, word));
-    value(low)..=value(high)
+    let (ends, step) = word.split_once('/').unwrap_or((word, "1"));
+    let (low, high) = ends.split_once('-').unwrap_or((ends, ends));
+    (value(low)..=value(high)).step_by(usize::from(value(step)))
 }

@@ -1,8 +1,8 @@
 //! What the listed codes do to the marks of K6, as data to test with.
 //!
-//! Written from K6, K8 and the flag lines of 000 alone. Marks stand in the bits of a
-//! record's byte: bit 0 for H of F, bit 1 for V of F, bit 2 for H of F', bit 3
-//! for V of F'.
+//! Written from K1, K6, K8 and the flag lines of 000 alone. Marks stand in the
+//! bits of a record's byte: bit 0 for H of F, bit 1 for V of F, bit 2 for H of F',
+//! bit 3 for V of F'.
 
 /// H of F.
 pub const H: u8 = 1;
@@ -67,6 +67,8 @@ fn fate(code: &[u8]) -> Fate {
         [0x16] => Fate::Exchanged,
         // POP SR, RETI, POP F
         [0x03 | 0x07 | 0x19] => Fate::Defined,
+        // behind the code that names a register
+        [first @ (0xC7 | 0xD7 | 0xE7), _, second, ..] => of_register_form(first, second),
         [first @ (0xC8..=0xCF | 0xD8..=0xDF | 0xE8..=0xEF), second, ..] => {
             of_register_form(first, second)
         }
@@ -78,16 +80,17 @@ fn fate(code: &[u8]) -> Fate {
 }
 
 fn of_register_form(first: u8, second: u8) -> Fate {
+    let long = first >= 0xE7;
     match second {
         // INC and DEC
         0x60..=0x6F if first <= 0xCF => Fate::Defined,
         // with a constant
-        0xC8..=0xCF => of_operation(first >= 0xE8, second & 7),
+        0xC8..=0xCF => of_operation(long, second & 7),
         // shifts
-        0xEC..=0xEF if first >= 0xE8 => Fate::VUndefinedHDefined,
+        0xEC..=0xEF if long => Fate::VUndefinedHDefined,
         0xEC..=0xEF => Fate::Defined,
         // with a register
-        0x80..=0xF7 if second & 8 == 0 => of_operation(first >= 0xE8, second >> 4 & 7),
+        0x80..=0xF7 if second & 8 == 0 => of_operation(long, second >> 4 & 7),
         _ => Fate::Kept,
     }
 }

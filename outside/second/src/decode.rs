@@ -2,11 +2,13 @@
 //!
 //! A code byte is taken as three octal digits (2, 3 and 3 bits): almost every
 //! listed code is a group in the first two digits with a register, a small
-//! number or a member of the group in the last. Bytes are taken one at a
-//! time, so the first byte that is missing or fits nothing decides.
+//! number or a member of the group in the last. Only the byte by which K1 names
+//! a register is another matter ([`Register`]). Bytes are taken one at a time,
+//! so the first byte that is missing or fits nothing decides.
 
 use crate::arithmetic::{Operation, Shift};
 use crate::number;
+use crate::register::Register;
 use crate::width::{gather, Width};
 
 /// A listed instruction, with everything its bytes say.
@@ -48,18 +50,18 @@ pub(crate) enum Instruction {
     /// INC, DEC: 1 to 8 up, or down if negative.
     Count {
         width: Width,
-        register: u8,
+        register: Register,
         by: i64,
     },
     Shift {
         kind: Shift,
         width: Width,
-        register: u8,
+        register: Register,
         places: u32,
     },
     Extend {
         width: Width,
-        register: u8,
+        register: Register,
         keep_sign: bool,
     },
     /// LDI, LDIR, LDD, LDDR: one round.
@@ -83,12 +85,19 @@ pub(crate) struct Round {
     pub repeat: bool,
 }
 
-/// A register by its code, a constant, or a place in memory.
+/// A register, a constant, or a place in memory.
 #[derive(Clone, Copy, Debug, PartialEq, Eq)]
 pub(crate) enum Operand {
-    Register(u8),
+    Register(Register),
     Constant(u32),
     Memory(Place),
+}
+
+impl Operand {
+    /// The register of a code from 0 to 7.
+    fn short(code: u8) -> Operand {
+        Operand::Register(Register::Short(code))
+    }
 }
 
 /// How an address is given.
@@ -176,6 +185,11 @@ impl Code<'_> {
         Ok(Place::Fixed(self.number(usize::from(digit) + 1)?))
     }
 
+    /// The byte after C7, D7 and E7: 4 if it names no register of this width.
+    fn register(&mut self, width: Width) -> Result<Register, u8> {
+        Register::from_byte(self.byte()?, width).ok_or(number::NOT_LISTED)
+    }
+
     fn near(&mut self, register: u8) -> Result<Place, u8> {
         Ok(Place::Near(register, self.displacement(Width::Byte)?))
     }
@@ -212,9 +226,9 @@ fn first(code: &mut Code) -> Decoded {
         (0, 3, 4) => Instruction::Call(Target::At(code.number(2)?)),
         (0, 3, 5) => Instruction::Call(Target::At(code.number(3)?)),
         (0, 3, 6) => Instruction::Call(Target::Away(code.displacement(Word)?)),
-        (0, 4, register) => load_constant(code, Byte, register)?,
-        (0, 6, register) => load_constant(code, Word, register)?,
-        (1, 0, register) => load_constant(code, Long, register)?,
+        (0, 4, register) => load_constant(code, Byte, Register::Short(register))?,
+        (0, 6, register) => load_constant(code, Word, Register::Short(register))?,
+        (1, 0, register) => load_constant(code, Long, Register::Short(register))?,
         (0, 5, register @ 0..=6) => Instruction::Push(Word, register),
         (0, 7, register @ 0..=6) => Instruction::Push(Long, register),
         (1, 1, register @ 0..=6) => Instruction::Pop(Word, register),
@@ -244,7 +258,14 @@ fn first(code: &mut Code) -> Decoded {
             let place = code.fixed(digit)?;
             to_memory(place, code.octal()?)?
         }
-        (3, group @ (1 | 3 | 5), register) => on_register(code, width_of(group / 2), register)?,
+        (3, group @ (0 | 2 | 4), 7) => {
+            let width = width_of(group / 2);
+            let register = code.register(width)?;
+            on_register(code, width, register)?
+        }
+        (3, group @ (1 | 3 | 5), register) => {
+            on_register(code, width_of(group / 2), Register::Short(register))?
+        }
         _ => return NOT_LISTED,
     })
 }
@@ -278,7 +299,7 @@ fn operation_at(high: u8, middle: u8) -> Operation {
     operation_of((high - 2) * 4 + middle / 2)
 }
 
-fn load_constant(code: &mut Code, width: Width, register: u8) -> Decoded {
+fn load_constant(code: &mut Code, width: Width, register: Register) -> Decoded {
     Ok(Instruction::Load {
         width,
         to: Operand::Register(register),
@@ -291,8 +312,8 @@ fn relative_jump(code: &mut Code, condition: u8, width: Width) -> Decoded {
     Ok(Instruction::Jump(condition, target))
 }
 
-/// After C8+r, D8+r, E8+r.
-fn on_register(code: &mut Code, width: Width, register: u8) -> Decoded {
+/// After C8+r, D8+r, E8+r, and after C7, D7, E7 and the byte that names r.
+fn on_register(code: &mut Code, width: Width, register: Register) -> Decoded {
     let this = Operand::Register(register);
     Ok(match code.octal()? {
         (0, 0, 3) => load_constant(code, width, register)?,
@@ -313,13 +334,13 @@ fn on_register(code: &mut Code, width: Width, register: u8) -> Decoded {
         },
         (2, 1, other) => Instruction::Load {
             width,
-            to: Operand::Register(other),
+            to: Operand::short(other),
             from: this,
         },
         (2, 3, other) => Instruction::Load {
             width,
             to: this,
-            from: Operand::Register(other),
+            from: Operand::short(other),
         },
         (3, 1, count) => Instruction::Combine {
             operation: operation_of(count),
@@ -333,7 +354,7 @@ fn on_register(code: &mut Code, width: Width, register: u8) -> Decoded {
         (high @ 2..=3, middle @ (0 | 2 | 4 | 6), other) => Instruction::Combine {
             operation: operation_at(high, middle),
             width,
-            left: Operand::Register(other),
+            left: Operand::short(other),
             right: this,
         },
         _ => return NOT_LISTED,
@@ -349,7 +370,7 @@ fn eight_for_zero(count: u8) -> i64 {
 }
 
 /// The byte after EC to EF: 1 to 15 places as such and 16 as 0.
-fn shift(code: &mut Code, kind: Shift, width: Width, register: u8) -> Decoded {
+fn shift(code: &mut Code, kind: Shift, width: Width, register: Register) -> Decoded {
     let places = match code.byte()? {
         0 => 16,
         count @ 1..=15 => u32::from(count),
@@ -396,20 +417,20 @@ fn from_memory(width: Width, place: Place, digits: (u8, u8, u8)) -> Decoded {
     Ok(match digits {
         (0, 4, register) => Instruction::Load {
             width,
-            to: Operand::Register(register),
+            to: Operand::short(register),
             from: memory,
         },
         (high @ 2..=3, middle @ (0 | 2 | 4 | 6), register) => Instruction::Combine {
             operation: operation_at(high, middle),
             width,
-            left: Operand::Register(register),
+            left: Operand::short(register),
             right: memory,
         },
         (high @ 2..=3, middle, register) => Instruction::Combine {
             operation: operation_at(high, middle),
             width,
             left: memory,
-            right: Operand::Register(register),
+            right: Operand::short(register),
         },
         _ => return NOT_LISTED,
     })
@@ -426,6 +447,6 @@ fn to_memory(place: Place, digits: (u8, u8, u8)) -> Decoded {
     Ok(Instruction::Load {
         width,
         to: Operand::Memory(place),
-        from: Operand::Register(register),
+        from: Operand::short(register),
     })
 }

@@ -7,6 +7,7 @@ use crate::machine::{address, Machine, BC, XSP};
 use crate::memory::{check_lengths, code_from, Memories};
 use crate::number;
 use crate::refusal::Refusal;
+use crate::register::Register;
 use crate::request::{count_on, FRAME};
 use crate::width::{gather, Width};
 
@@ -145,9 +146,9 @@ impl Work<'_> {
                 register,
                 places,
             } => {
-                let value = self.machine.get(width, register);
+                let value = self.machine.read(width, register);
                 let (result, flags) = shift(kind, width, value, places);
-                self.machine.set(width, register, result);
+                self.machine.write(width, register, result);
                 self.machine.set_flags(flags);
             }
             Instruction::Extend {
@@ -155,9 +156,9 @@ impl Work<'_> {
                 register,
                 keep_sign,
             } => {
-                let value = self.machine.get(width, register);
+                let value = self.machine.read(width, register);
                 let result = extend(width, value, keep_sign);
-                self.machine.set(width, register, result);
+                self.machine.write(width, register, result);
             }
             Instruction::CopyRound { to, from, round } => self.copy_round(to, from, round)?,
             Instruction::CompareRound { pointer, round } => self.compare_round(pointer, round)?,
@@ -183,7 +184,7 @@ impl Work<'_> {
 
     fn value(&self, width: Width, operand: Operand) -> Result<u32, Refusal> {
         match operand {
-            Operand::Register(register) => Ok(self.machine.get(width, register)),
+            Operand::Register(register) => Ok(self.machine.read(width, register)),
             Operand::Constant(value) => Ok(value),
             Operand::Memory(place) => self.memories.read(self.locate(place), width),
         }
@@ -191,7 +192,7 @@ impl Work<'_> {
 
     fn write(&mut self, width: Width, operand: Operand, value: u32) -> Outcome {
         match operand {
-            Operand::Register(register) => self.machine.set(width, register, value),
+            Operand::Register(register) => self.machine.write(width, register, value),
             Operand::Memory(place) => self.memories.store(self.locate(place), width, value)?,
             Operand::Constant(_) => unreachable!("no code writes to a constant"),
         }
@@ -292,15 +293,15 @@ impl Work<'_> {
 
     /// INC and DEC. Only bytes set flags, and they leave C as it was. Words
     /// and longs leave all flags, and all marks with them.
-    fn count(&mut self, width: Width, register: u8, by: i64) {
-        let value = self.machine.get(width, register);
+    fn count(&mut self, width: Width, register: Register, by: i64) {
+        let value = self.machine.read(width, register);
         let amount = by.unsigned_abs() as u32;
         let (result, flags) = if by < 0 {
             subtract(width, value, amount, false)
         } else {
             add(width, value, amount, false)
         };
-        self.machine.set(width, register, result);
+        self.machine.write(width, register, result);
         if width == Width::Byte {
             let c = self.machine.flags().c;
             self.machine.set_flags(Flags { c, ..flags });

@@ -38,6 +38,7 @@ mod moves;
 mod program;
 pub mod record;
 mod refusal;
+mod register;
 mod request;
 mod width;
 

@@ -2,7 +2,8 @@
 
 use crate::flags::{Flags, Marks};
 use crate::number;
-use crate::record::{self, COUNTER, F_PRIME, LAST, LENGTH, MARKS, NESTING, OLD_LENGTH, SR, ZERO};
+use crate::record::{COUNTER, F_PRIME, LAST, LENGTH, MARKS, NESTING, OLD_LENGTH, SR, ZERO};
+use crate::register::Register;
 use crate::width::{gather, scatter, Width};
 
 /// How many addresses there are: every address is taken modulo this.
@@ -163,16 +164,23 @@ impl Machine {
     /// What the register of this width and code (0 to 7) holds, in the
     /// current bank where it is one of the bank's.
     pub fn get(&self, width: Width, code: u8) -> u32 {
-        gather(&self.file[record::register(width, code, self.bank)])
+        self.read(width, Register::Short(code))
     }
 
     /// Writes the register of this width and code, and nothing beside it. A
     /// value too great for the register loses its high bytes.
     pub fn set(&mut self, width: Width, code: u8, value: u32) {
-        scatter(
-            value,
-            &mut self.file[record::register(width, code, self.bank)],
-        );
+        self.write(width, Register::Short(code), value);
+    }
+
+    /// As [`Machine::get`], however the register is named.
+    pub(crate) fn read(&self, width: Width, register: Register) -> u32 {
+        gather(&self.file[register.place(width, self.bank)])
+    }
+
+    /// As [`Machine::set`], however the register is named.
+    pub(crate) fn write(&mut self, width: Width, register: Register, value: u32) {
+        scatter(value, &mut self.file[register.place(width, self.bank)]);
     }
 
     /// Moves a register by a signed amount; it goes round at its own width.

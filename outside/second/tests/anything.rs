@@ -51,7 +51,7 @@ fn any_step_answers_and_refuses_cleanly() {
         let rom: Vec<u8> = (0..rom_length).map(|_| chance.byte()).collect();
         let mut machine = any_machine(&mut chance, &ram, &rom);
         let (bytes, shown) = show(&ram, &rom, machine.counter);
-        assert!(bytes.len() <= 6);
+        assert!(bytes.len() <= 7);
         assert_eq!(bytes.is_empty(), shown != 0);
         let number = step_once(&mut machine, &mut ram, &rom);
         // The code is judged alike by both; a step may go on to 8, 5 or 6.

@@ -73,9 +73,9 @@ fn every_code_is_taken_or_refused_at_the_right_byte() {
 }
 
 #[test]
-fn no_form_is_longer_than_six_bytes() {
+fn no_form_is_longer_than_seven_bytes() {
     let longest = forms::listed().iter().map(|form| form.slots.len()).max();
-    assert_eq!(longest, Some(6));
+    assert_eq!(longest, Some(7));
 }
 
 /// No bytes at all: nothing has been ruled out and the next is not there.

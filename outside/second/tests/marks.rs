@@ -1,5 +1,5 @@
 //! The marks of K6: what sets, clears, keeps and reads them, over every listed
-//! code, K8's too.
+//! code, K8's and K1's too.
 
 mod common;
 
@@ -83,10 +83,11 @@ fn every_listed_code() {
         let sets = |kind: &&Form| marks::after(&code(&mut Chance(1), kind), 0) == mark;
         kinds.iter().filter(sets).count()
     };
-    // Twelve forms have operands that are registers, constants or memory: five
-    // operations of sums, three of logic. A shift has low counts and high ones.
-    assert_eq!(setting(marks::H), 5 * 12 + 2);
-    assert_eq!(setting(marks::V), 3 * 12 + 4 * 2);
+    // Fourteen forms have operands that are registers, constants or memory: five
+    // operations of sums, three of logic. A shift is of 01's registers or of any,
+    // and has low counts and high ones.
+    assert_eq!(setting(marks::H), 5 * 14 + 2);
+    assert_eq!(setting(marks::V), 3 * 14 + 4 * 2 * 2);
     assert_eq!(setting(marks::BOTH), 0);
 }
 

@@ -111,6 +111,8 @@ fn numbers_3_and_4_at_the_byte_that_forces_them() {
         (&[0x50], 4),
         (&[0x5F], 4),
         (&[0xC3], 4),
+        (&[0xC6], 4),
+        (&[0xF7], 4),
         (&[0xF8], 4),
         (&[0xFF], 4),
         (&[0x17], 3),
