@@ -81,7 +81,7 @@ impl Case {
     }
 
     /// The bytes from the counter on, or from the address to show, or from the
-    /// vector on: at most six, fewer at a memory's end.
+    /// vector on: at most seven, fewer at a memory's end.
     pub fn code(&self) -> &[u8] {
         let at = match self.call {
             Call::Show(at) | Call::Request(_, at) => at as usize,
@@ -98,7 +98,7 @@ impl Case {
         } else {
             &[]
         };
-        &rest[..rest.len().min(6)]
+        &rest[..rest.len().min(7)]
     }
 }
 

@@ -1,6 +1,7 @@
 //! What is compared, group by group. Each group counts as one test.
 
 mod arithmetic;
+mod banks;
 mod blocks;
 mod codes;
 mod ends;
@@ -36,6 +37,9 @@ pub const GROUPS: &[Group] = &[
     Group("last-code-byte", codes::last_code_byte),
     Group("listed-forms", codes::listed_forms),
     Group("full-memories", codes::full_memories),
+    Group("every-register-code", banks::every_code),
+    Group("any-register-drawn", banks::drawn),
+    Group("register-codes-cut", banks::cut),
     Group("all-byte-pairs", arithmetic::all_byte_pairs),
     Group("turning-values", arithmetic::turning_values),
     Group("counts-shifts-extensions", arithmetic::one_operand),

@@ -68,18 +68,12 @@ impl Size {
     }
 
     /// The code of what 01 calls by 0 to 7.
-    pub fn code_of_plain(self, r: u8) -> u8 {
+    fn code_of_plain(self, r: u8) -> u8 {
         match self.bytes {
             1 => PLAIN_BYTES[usize::from(r)],
             _ => PLAIN_OTHERS[usize::from(r)],
         }
     }
-}
-
-/// R, if this byte of a register form has one beside r.
-pub fn r_beside(second: u8) -> Option<u8> {
-    let has = matches!(second, 0x80..=0x9F) || second >= 0xA0 && second & 8 == 0;
-    has.then_some(second & 7)
 }
 
 /// What a register form writes.
@@ -89,16 +83,19 @@ pub enum Written {
     Nothing,
     /// r, which a code of K1 can name.
     Named,
-    /// R.
-    Beside(u8),
+    /// R, which the lowest three bits name.
+    Beside,
 }
 
-/// What a register form with this byte writes.
+/// What a register form with this second byte, the first behind r, writes.
 pub fn written(second: u8) -> Written {
-    match (second, r_beside(second)) {
-        (0xCF | 0xF0..=0xF7, _) => Written::Nothing,
-        // LD r,R
-        (0x98..=0x9F, _) | (_, None) => Written::Named,
-        (_, Some(r)) => Written::Beside(r),
+    match second {
+        0xCF | 0xF0..=0xF7 => Written::Nothing,
+        // LD r,R; with a constant; shifts
+        0x98..=0x9F | 0xC8..=0xCE | 0xEC..=0xEF => Written::Named,
+        // LD R,r and what changes R
+        0x80..=0xE7 => Written::Beside,
+        // LD r,n; INC, DEC and extensions
+        _ => Written::Named,
     }
 }

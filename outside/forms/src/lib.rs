@@ -71,12 +71,9 @@ const LISTED: &str = "
     any byte with n8    | C7 00-3F,D0-FF 03,C8-CF n
     any word with n16   | D7 00-3F/2,D0-FF/2 03,C8-CF n n
     any long with n32   | E7 00-3F/4,D0-FF/4 03,C8-CF n n n n
-    any byte with R     | C7 00-3F,D0-FF 80-9F,A0-A7,B0-B7,C0-C7,D0-D7,E0-E7,F0-F7
-    any word with R     | D7 00-3F/2,D0-FF/2 80-9F,A0-A7,B0-B7,C0-C7,D0-D7,E0-E7,F0-F7
-    any long with R     | E7 00-3F/4,D0-FF/4 80-9F,A0-A7,B0-B7,C0-C7,D0-D7,E0-E7,F0-F7
-    INC DEC any byte    | C7 00-3F,D0-FF 60-6F
-    INC DEC any word    | D7 00-3F/2,D0-FF/2 60-6F
-    INC DEC any long    | E7 00-3F/4,D0-FF/4 60-6F
+    any byte, R or none | C7 00-3F,D0-FF 60-6F,80-9F,A0-A7,B0-B7,C0-C7,D0-D7,E0-E7,F0-F7
+    any word, R or none | D7 00-3F/2,D0-FF/2 60-6F,80-9F,A0-A7,B0-B7,C0-C7,D0-D7,E0-E7,F0-F7
+    any long, R or none | E7 00-3F/4,D0-FF/4 60-6F,80-9F,A0-A7,B0-B7,C0-C7,D0-D7,E0-E7,F0-F7
     SLA to SRL any byte | C7 00-3F,D0-FF EC-EF 00-0F
     SLA to SRL any word | D7 00-3F/2,D0-FF/2 EC-EF 00-0F
     SLA to SRL any long | E7 00-3F/4,D0-FF/4 EC-EF 00-0F

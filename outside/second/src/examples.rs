@@ -1,9 +1,10 @@
 //! Worked examples as data: the books' execution examples ([`book`]), the
 //! cases P1 to P12 of document 01 ([`cases`]), and more of our own, worked by
 //! hand from document 01 and the requests that have landed, for the codes that
-//! those leave out ([`hand`]); those for the marks of K6 and for the
-//! interrupts of K8 have tables to themselves ([`marks`], [`interrupts`]). They
-//! stand in five tables of plain text, to be held beside the books.
+//! those leave out ([`hand`]); those for the marks of K6, for the interrupts of
+//! K8 and for the bank registers of K1 have tables to themselves ([`marks`],
+//! [`interrupts`], [`banks`]). They stand in six tables of plain text, to be
+//! held beside the books.
 //!
 //! They are public so that any implementation that speaks in records and
 //! memories can be run over them: [`Example::start`] gives what to begin
@@ -53,16 +54,22 @@ pub fn interrupts() -> Vec<Example> {
     table::read("interrupts.txt", include_str!("examples/interrupts.txt"))
 }
 
+/// Examples for the bank registers of K1, worked by hand.
+pub fn banks() -> Vec<Example> {
+    table::read("banks.txt", include_str!("examples/banks.txt"))
+}
+
 /// Every example: the books', then the cases, then those worked by hand, the
-/// marks and the interrupts last.
+/// marks, the interrupts and the bank registers last.
 pub fn all() -> Vec<Example> {
-    [book(), cases(), hand(), marks(), interrupts()].concat()
+    [book(), cases(), hand(), marks(), interrupts(), banks()].concat()
 }
 
 /// One thing that a state or RAM holds.
 #[derive(Clone, Copy, Debug, PartialEq, Eq)]
 pub enum Part {
-    /// A register by its book name, of bank 0 where it has a bank.
+    /// A register by its book name, of bank 0 where it has a bank and the name
+    /// no bank's number.
     Register(&'static str, u32),
     /// The whole flag register F.
     F(u8),

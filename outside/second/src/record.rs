@@ -63,15 +63,24 @@ pub fn register(width: Width, code: u8, bank: u8) -> Range<usize> {
 }
 
 /// The bytes of the register of this name, of bank 0 where it is one of a
-/// bank's. `None` if no register is called so.
+/// bank's; a long one may have its bank's number behind it, as XWA2. `None` if
+/// no register is called so.
 pub fn named(name: &str) -> Option<Range<usize>> {
     let widths = [
         (Width::Byte, BYTES),
         (Width::Word, WORDS),
         (Width::Long, LONGS),
     ];
-    widths.iter().find_map(|(width, names)| {
+    let plain = widths.iter().find_map(|(width, names)| {
         let code = names.iter().position(|&known| known == name)?;
         Some(register(*width, code as u8, 0))
-    })
+    });
+    plain.or_else(|| numbered(name))
+}
+
+fn numbered(name: &str) -> Option<Range<usize>> {
+    let (long, number) = (name.get(..3)?, name.get(3..)?);
+    let code = LONGS[..4].iter().position(|&known| known == long)?;
+    let bank = ["0", "1", "2", "3"].iter().position(|&one| one == number)?;
+    Some(register(Width::Long, code as u8, bank as u8))
 }

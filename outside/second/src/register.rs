@@ -17,7 +17,7 @@ pub(crate) enum Register {
     /// By 01's code from 0 to 7.
     Short(u8),
     /// By K1's byte: among which sixteen, and at which of them it begins.
-    Among(Sixteen, usize),
+    Among(Sixteen, u8),
 }
 
 /// Sixteen bytes of registers.
@@ -44,8 +44,8 @@ impl Register {
             0xF => Sixteen::Shared,
             _ => return None,
         };
-        let begin = usize::from(byte % 16);
-        let begins_one = begin % width.bytes() == 0;
+        let begin = byte % 16;
+        let begins_one = usize::from(begin) % width.bytes() == 0;
         begins_one.then_some(Register::Among(sixteen, begin))
     }
 
@@ -55,7 +55,7 @@ impl Register {
         match self {
             Register::Short(code) => record::register(width, code, bank),
             Register::Among(sixteen, begin) => {
-                let first = sixteen.first(bank) + begin;
+                let first = sixteen.first(bank) + usize::from(begin);
                 first..first + width.bytes()
             }
         }

@@ -203,9 +203,20 @@ fn the_list_has_the_same_map() {
         }
         assert_eq!(size.named(code, bank), named, "{code:02X} in bank {bank}");
     });
-    for size in SIZES {
+    let of_01 = [
+        "W A B C D E H L",
+        "WA BC DE HL IX IY IZ SP",
+        "XWA XBC XDE XHL XIX XIY XIZ XSP",
+    ];
+    for (size, names) in SIZES.into_iter().zip(of_01) {
         let lines = forms.iter().filter(|form| form.slots[0].takes(size.any));
-        assert!(lines.count() >= 4);
+        assert!(lines.count() >= 3);
+        for (r, name) in names.split(' ').enumerate() {
+            for bank in 0..4 {
+                let plain = size.plain(r as u8, bank as u8);
+                assert_eq!(plain, place(name, bank), "{name} in bank {bank}");
+            }
+        }
     }
 }
 
@@ -421,7 +432,7 @@ fn nothing_else_is_written() {
             let may_change = match written(second) {
                 Written::Nothing => 0..0,
                 Written::Named => named.clone(),
-                Written::Beside(r) => size.plain(r, bank),
+                Written::Beside => size.plain(second & 7, bank),
             };
             for place in (0..COUNTER).filter(|place| !may_change.contains(place)) {
                 assert_eq!(after[place], before[place], "{code:02X} {second:02X}");

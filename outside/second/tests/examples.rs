@@ -1,6 +1,6 @@
 //! Runs every worked example through records and memories alone.
 
-use second::examples::{all, book, cases, hand, interrupts, marks, Example};
+use second::examples::{all, banks, book, cases, hand, interrupts, marks, Example};
 use second::{request, run, show, step, Machine};
 
 /// Whether the example is of a state that is not valid.
@@ -70,6 +70,12 @@ fn the_interrupts() {
     interrupts().iter().for_each(check);
 }
 
+#[test]
+fn the_bank_registers() {
+    assert_eq!(banks().len(), 105);
+    banks().iter().for_each(check);
+}
+
 /// How often each number is what the examples end with.
 fn refused_in(examples: &[Example]) -> [u32; 10] {
     let mut met = [0; 10];
@@ -87,6 +93,7 @@ fn what_is_refused() {
     assert_eq!(refused_in(&[book(), cases(), hand()].concat()), [0; 10]);
     assert_eq!(refused_in(&marks()), [0, 0, 9, 2, 1, 2, 2, 0, 33, 0]);
     assert_eq!(refused_in(&interrupts()), [0, 0, 0, 2, 5, 45, 5, 0, 10, 15]);
+    assert_eq!(refused_in(&banks()), [0, 0, 0, 6, 20, 0, 0, 0, 1, 0]);
 }
 
 /// Of the requests so many are taken; the others are refused, or are not taken.

@@ -174,7 +174,8 @@ fn where_everything_lies() {
     assert_eq!(record::ZEROS, [87, 91]);
 }
 
-/// The registers by code 0 to 7, as document 01 names them.
+/// The registers by code 0 to 7, as document 01 names them, and the long ones of
+/// a bank with its number.
 #[test]
 fn what_everything_is_called() {
     for (width, names) in [
@@ -187,7 +188,16 @@ fn what_everything_is_called() {
             assert_eq!(record::named(name), Some(place), "{name}");
         }
     }
-    assert_eq!(record::named("PC"), None);
+    for bank in 0..4 {
+        for (code, name) in (0..4).zip(["XWA", "XBC", "XDE", "XHL"]) {
+            let place = record::register(Width::Long, code, bank);
+            let named = record::named(&format!("{name}{bank}"));
+            assert_eq!(named, Some(place), "{name} of bank {bank}");
+        }
+    }
+    for none in ["PC", "XWA4", "XIX0", "WA2", "XWA20", "XWA ", "2", ""] {
+        assert_eq!(record::named(none), None, "{none}");
+    }
 }
 
 #[test]

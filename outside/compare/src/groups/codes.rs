@@ -8,11 +8,11 @@ use forms::{Form, Slot};
 use second::record::COUNTER;
 
 /// What follows the first two bytes.
-const TAILS: [[u8; 4]; 4] = [
-    [0x00, 0x00, 0x00, 0x00],
-    [0xFF, 0xFF, 0xFF, 0xFF],
-    [0x0F, 0x20, 0x00, 0x88],
-    [0x9B, 0x00, 0xF1, 0x45],
+const TAILS: [[u8; 5]; 4] = [
+    [0x00, 0x00, 0x00, 0x00, 0x00],
+    [0xFF, 0xFF, 0xFF, 0xFF, 0xFF],
+    [0x0F, 0x20, 0x00, 0x88, 0x03],
+    [0x9B, 0x00, 0xF1, 0x45, 0x80],
 ];
 
 const MIDDLING: Layout = Layout { ram: 320, rom: 320 };
@@ -41,7 +41,8 @@ fn first_two_bytes(bench: &mut Bench, memory: Memory) {
                 for first in 0..=255 {
                     let mut case = blank(&mut bench.chance, memory, at_ease);
                     for second in 0..=255 {
-                        let code = [first, second, tail[0], tail[1], tail[2], tail[3]];
+                        let [a, b, c, d, e] = tail;
+                        let code = [first, second, a, b, c, d, e];
                         put_code(&mut case, memory, &code);
                         bench.judge.hold(&case);
                     }
@@ -83,8 +84,8 @@ fn put_code(case: &mut Case, memory: Memory, code: &[u8]) {
     }
 }
 
-/// Forms whose last byte comes after an address, a displacement or a
-/// register and a shift: with every last byte.
+/// Forms whose last byte comes after an address, a displacement, a register
+/// and a shift, or a register's code: with every last byte.
 pub fn last_code_byte(bench: &mut Bench) {
     for (first, form) in long_beginnings() {
         for _ in 0..16 * bench.rounds {
@@ -184,7 +185,7 @@ fn place_code(chance: &mut Chance, layout: Layout, case: &mut Case, code: &[u8])
     let room = length.saturating_sub(code.len());
     let place = match chance.below(8) {
         0 => room,
-        1 => length.saturating_sub(chance.below(7) as usize),
+        1 => length.saturating_sub(chance.below(8) as usize),
         _ => chance.below(room as u32 + 1) as usize,
     };
     let (image, start) = if in_ram {

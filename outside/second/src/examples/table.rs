@@ -15,7 +15,8 @@
 //! vector at 1000, which is offered first; then there may be no code, and no
 //! step is done. Before and after stand:
 //!
-//! - `HL=1234`: a register by its book name, `F=42` and `F'=42` the flags,
+//! - `HL=1234`: a register by its book name, in bank 0 where it has a bank,
+//!   `XHL2=1234` a long one of another bank, `F=42` and `F'=42` the flags,
 //!   `BANK=3` the current bank, `LEVEL=7` the level, `NEST=0001` the nesting
 //!   count;
 //! - `F?=H`, `F?=V`, `F?=HV`, `F?=-`: which flags of F are marked as undefined,
@@ -322,6 +323,9 @@ mod tests {
             "NOP | 01 | @12000 00 | | +1",
             "NOP | 01 | 00 x | | +1",
             "NOP | 01 | 00 | Q=00 | +1",
+            "NOP | 01 | 00 | XWA4=00 | +1",
+            "NOP | 01 | 00 | XIX0=00 | +1",
+            "NOP | 01 | 00 | WA2=00 | +1",
             "NOP | 01 | 00 | A | +1",
             "NOP | 01 | 00 | A= | +1",
             "NOP | 01 | 00 | A=100 | +1",
