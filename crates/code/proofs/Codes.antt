@@ -22,12 +22,12 @@ use Rattle.code.specs.declared.Operand.{Operand}
 use Rattle.code.specs.declared.Operand.the-variants.{Constant}
 use Rattle.code.specs.Rows.{Row, lookup, byRows, noLong}
 use Rattle.code.specs.Memory.{form, memoryRows, storeRows, copies, compares, blocks, blockRows, indirectRows}
-use Rattle.code.specs.Listed.{alone, withConstant, formWith, absoluteRows, upToSevenRows, bankRows, flagRows, constantRows, stackRows, jumpRows, relativeRows, interruptRows, registerFormRows, memoryFormRows, memoryAtRows, storeFormRows, aloneRows, memoryFirstRows, firstRows}
+use Rattle.code.specs.Listed.{alone, withConstant, formWith, absoluteRows, upToSevenRows, bankRows, flagRows, constantRows, stackRows, jumpRows, relativeRows, interruptRows, registerFormRows, memoryFormRows, memoryAtRows, storeFormRows, aloneRows, memoryFirstRows, namedFormRows, firstRows}
 use Rattle.code.specs.Range.{Holds, that, InRange, baseRange, pointerRange}
 use Rattle.code.specs.Written.{codeOf, placeCode, sizeStep}
 use Rattle.code.proofs.RowBytes.{run-in, columns-in, computes, computes-into}
 use Rattle.code.proofs.Walk.{Can, Walk, Rows, by-rows, both}
-use Rattle.code.proofs.RegisterRows.{register-walk}
+use Rattle.code.proofs.RegisterRows.{register-walk, code-byte-walk}
 
 -- ---- a byte of each list that makes it whole
 can-load : (z : Size) (o : Operand) (more : List Row) → Can (byRows (memoryRows z o ++ more))
@@ -56,7 +56,7 @@ can-first = (0, omega arith, tt)
 -- Y says that all are bytes
 module _ (Y : Type 0) where
   -- ---- memory forms, after the bytes p of the form
-  module _ (z : Size) (base : Base) (n i : ℕ) (p : List ℕ) (l : i ≤ 6) (q : Y → Holds (baseRange base n)) where
+  module _ (z : Size) (base : Base) (n i : ℕ) (p : List ℕ) (l : i ≤ 7) (q : Y → Holds (baseRange base n)) where
     memory-rows : p ≡ placeCode (sizeStep z) (form base n) → Rows Y (memoryRows z (form base n)) i p
     unfolding memoryRows codeOf
     memory-rows e = (
@@ -91,7 +91,7 @@ module _ (Y : Type 0) where
     copy-rows : (to : ℕ) → Holds (pointerRange true to r) → Rows Y (copies z to r) 2 (a ∷ [])
     unfolding copies codeOf
     copy-rows to q =
-        let l : 2 ≤ 6 = omega arith in (
+        let l : 2 ≤ 7 = omega arith in (
           λ b h. (l, both-bytes b 0x10 (eqb-true b _ h), λ y. (q, (w, (refl, (refl, refl))))),
           (
             λ b h. (l, both-bytes b 0x11 (eqb-true b _ h), λ y. (q, (w, (refl, (refl, refl))))),
@@ -108,7 +108,7 @@ module _ (Y : Type 0) where
     compare-rows : Holds (pointerRange false r r) → Rows Y (compares z r) 2 (a ∷ [])
     unfolding compares codeOf
     compare-rows q =
-        let l : 2 ≤ 6 = omega arith in (
+        let l : 2 ≤ 7 = omega arith in (
           λ b h. (l, both-bytes b 0x14 (eqb-true b _ h), λ y. (q, (w, (refl, (refl, refl))))),
           (
             λ b h. (l, both-bytes b 0x15 (eqb-true b _ h), λ y. (q, (w, (refl, (refl, refl))))),
@@ -156,7 +156,7 @@ module _ (Y : Type 0) where
   module _
       (g : ℕ) (rows : Operand → List Row)
       (can : (o : Operand) → Can (byRows (rows o)))
-      (k : (base : Base) (n i : ℕ) (p : List ℕ) → i ≤ 6 → (Y → Holds (baseRange base n)) → p ≡ placeCode g (form base n) → Rows Y (rows (form base n)) i p)
+      (k : (base : Base) (n i : ℕ) (p : List ℕ) → i ≤ 7 → (Y → Holds (baseRange base n)) → p ≡ placeCode g (form base n) → Rows Y (rows (form base n)) i p)
     where
       form-with :
           (base : Base) (n a c : ℕ) → n ≤ 3 → a ≡ c → ((v : ℕ) → v < 256 ^ n → Holds (baseRange base v)) →
@@ -334,6 +334,19 @@ module _ (Y : Type 0) where
     ),
   )
 
+  named-form-rows : Rows Y namedFormRows 1 []
+  unfolding namedFormRows
+  named-form-rows = (
+    λ b h. code-byte-walk Y Byte b (eqb-true b 0xC7 h),
+    (
+      λ b h. code-byte-walk Y Word b (eqb-true b 0xD7 h),
+      (
+        λ b h. code-byte-walk Y Long b (eqb-true b 0xE7 h),
+        tt,
+      ),
+    ),
+  )
+
   memory-form-rows : Rows Y memoryFormRows 1 []
   unfolding memoryFormRows
   memory-form-rows = (
@@ -385,5 +398,7 @@ module _ (Y : Type 0) where
       (both Y jumpRows _ 1 [] jump-rows
       (both Y relativeRows _ 1 [] relative-rows interrupt-rows))))))
       (both Y registerFormRows _ 1 [] register-form-rows
+      (both Y memoryFirstRows _ 1 []
       (both Y memoryFormRows _ 1 [] memory-form-rows
-      (both Y memoryAtRows _ 1 [] memory-at-rows store-form-rows))))
+      (both Y memoryAtRows _ 1 [] memory-at-rows store-form-rows))
+      named-form-rows)))

@@ -5,7 +5,10 @@ use mathlib.Core.Bool.{Bool, true, false}
 use mathlib.Core.List.{List, [], _++_}
 use mathlib.Core.Logic.{inl, inr}
 use native.Mathlib.Omega.{arith}
+use lib.Dec.{leb·zero}
+use borrow.Author.Tests.{le-leb, lt-ltb}
 use Rattle.little.specs.Width.{bytesOf}
+use Rattle.state.specs.Named.{isNamed}
 use Rattle.little.specs.declared.Size.{Size}
 use Rattle.little.specs.declared.Size.the-variants.{Byte, Word, Long}
 use Rattle.alu.specs.declared.Arith.{Arith}
@@ -18,16 +21,17 @@ use Rattle.code.specs.declared.Side.the-variants.{First, Second, With}
 use Rattle.code.specs.declared.Base.{Base}
 use Rattle.code.specs.declared.Base.the-variants.{Indirect, Displaced, Absolute8, Absolute16, Absolute24}
 use Rattle.code.specs.declared.Operand.{Operand}
-use Rattle.code.specs.declared.Operand.the-variants.{Register, Constant}
+use Rattle.code.specs.declared.Operand.the-variants.{Register, Named, Constant}
 use Rattle.code.specs.Said.{whole, number}
-use Rattle.code.specs.Rows.{Row, lookup, byRows, noLong, noByte}
+use Rattle.code.specs.Rows.{Row, lookup, byRows, only, noLong, noByte}
 use Rattle.code.specs.Registers.{registerRows}
 use Rattle.code.specs.Memory.{form, memoryRows, storeRows, copies, compares, block, copy, compare, blocks, blockRows, indirectRows}
-use Rattle.code.specs.Listed.{withConstant, upToSevenRows, firstRows}
+use Rattle.code.specs.Listed.{withConstant, upToSevenRows, codeByteRows, firstRows}
 use Rattle.code.specs.Range.{Holds, that, pointerRange}
 use Rattle.code.specs.Written.{sizeStep, arithNumber, blockCode}
 use Rattle.code.proofs.FirstRows.{first}
 use Rattle.code.proofs.Tables.{table, by-size, by-arith, each-size, each-arith, each-test, by-test}
+use Rattle.code.proofs.RegisterRows.{so-listed}
 use Rattle.code.proofs.Says.{Lists}
 
 -- ---- the first byte
@@ -63,6 +67,19 @@ up-to-seven op = table _ _ 8 refl
 pub register-form : (z : Size) (r : ℕ) → r < 8 → Lists firstRows (0xC8 + sizeStep z + r) (byRows (registerRows z (Register r)))
 unfolding first
 register-form = by-size _ _ 8 refl
+
+pub named-form : (z : Size) → Lists firstRows (0xC7 + sizeStep z) (byRows (codeByteRows z))
+unfolding first
+named-form Byte = refl
+named-form Word = refl
+named-form Long = refl
+
+any-code-byte : (z : Size) (c : ℕ) → c < 256 → Lists (codeByteRows z) c (only (isNamed (bytesOf z) c) (byRows (registerRows z (Named c))))
+unfolding codeByteRows lookup
+any-code-byte z c l = rw (leb·zero, le-leb c 0xFF (omega arith), lt-ltb c 256 l) refl
+
+pub code-byte : (z : Size) (c : ℕ) → c < 256 → Holds (that (isNamed (bytesOf z) c)) → Lists (codeByteRows z) c (byRows (registerRows z (Named c)))
+code-byte z c l h = so-listed (codeByteRows z) c (isNamed (bytesOf z) c) _ (any-code-byte z c l) h
 
 module _ (z : Size) (o : Operand) where
   pub load-constant : Lists (registerRows z o) 0x03 (number (bytesOf z) (λ n. whole (Puts (Number n)) z o))

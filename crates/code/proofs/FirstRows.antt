@@ -1,7 +1,7 @@
 -- Laws of the first byte's rows, group by group.
 use Prim.Native.Nat.{ℕ, _+_, _/_, _%_, _≤_, _<_}
 use mathlib.Core.Path.{_≡_, refl}
-use mathlib.Core.Bool.{cond}
+use mathlib.Core.Bool.{true, false, cond}
 use mathlib.Core.List.{List, [], _∷_}
 use native.Mathlib.Omega.{arith}
 use lib.Dec.{ltb}
@@ -18,14 +18,14 @@ use Rattle.code.specs.Said.{Said, whole, unlisted}
 use Rattle.code.specs.Rows.{Row, lookup, byRows}
 use Rattle.code.specs.Registers.{registerRows}
 use Rattle.code.specs.Memory.{form, memoryRows, indirectRows}
-use Rattle.code.specs.Listed.{withConstant, formWith, absoluteRows, bankRows, flagRows, constantRows, stackRows, jumpRows, relativeRows, interruptRows, registerFormRows, memoryFormRows, memoryAtRows, storeFormRows, aloneRows, memoryFirstRows, firstRows}
-use Rattle.code.specs.inner.Parts.{sizeOf, rowsBegun}
+use Rattle.code.specs.Listed.{withConstant, formWith, absoluteRows, bankRows, flagRows, constantRows, stackRows, jumpRows, relativeRows, interruptRows, registerFormRows, memoryFormRows, memoryAtRows, storeFormRows, namedFormRows, aloneRows, memoryFirstRows, firstRows}
+use Rattle.code.specs.inner.Parts.{sizeOf, rowsBegun, beginsRegister, registerSize, registerBegun}
 use Rattle.code.proofs.Groups.{Missed, Below, all-above}
 use Rattle.code.proofs.Tables.{table, besides, no-arm, in-run, in-arm, in-no-arm}
 
 -- all lists, opened
 unfoldable pub first : ℕ → Said
-unfolding firstRows aloneRows memoryFirstRows bankRows flagRows constantRows stackRows jumpRows relativeRows interruptRows registerFormRows memoryFormRows memoryAtRows storeFormRows absoluteRows lookup
+unfolding firstRows aloneRows memoryFirstRows bankRows flagRows constantRows stackRows jumpRows relativeRows interruptRows registerFormRows memoryFormRows memoryAtRows storeFormRows namedFormRows absoluteRows lookup
 first b = lookup firstRows b
 
 -- ---- which list a first byte stands in
@@ -33,19 +33,19 @@ pub in-alone : (b : ℕ) → b < 0x80 → lookup firstRows b ≡ lookup aloneRow
 unfolding first
 in-alone = table _ _ 0x80 refl
 
-abbrev pub register-groups : List ℕ
-register-groups = 25 ∷ 27 ∷ 29 ∷ []
+registers-there : (b : ℕ) → b < 256 → cond (beginsRegister b) (lookup firstRows b) unlisted ≡ cond (beginsRegister b) (registerBegun (registerSize b) b) unlisted
+unfolding first beginsRegister registerSize registerBegun
+registers-there = table _ _ 256 refl
 
-pub register-form : (b : ℕ) → OneOf register-groups (b / 8) → lookup firstRows b ≡ byRows (registerRows (sizeOf (8 + b / 16 % 4)) (Register (b % 8)))
-unfolding first sizeOf
-register-form = in-arm _ _ register-groups refl
+pub in-registers : (b : ℕ) → b < 256 → beginsRegister b ≡ true → lookup firstRows b ≡ registerBegun (registerSize b) b
+in-registers b h e = rw e at (registers-there b h)
 
-in-memory-arms : (b : ℕ) → b < 256 → Missed (register-groups ∷ Below 16) (b / 8) → lookup firstRows b ≡ lookup memoryFirstRows b
-unfolding first
-in-memory-arms = in-no-arm _ _ (register-groups ∷ Below 16) 256 refl
+memory-there : (b : ℕ) → 0x80 ≤ b → b < 0x80 + 0x80 → cond (beginsRegister b) unlisted (lookup firstRows b) ≡ cond (beginsRegister b) unlisted (lookup memoryFirstRows b)
+unfolding first beginsRegister
+memory-there = in-run _ _ 0x80 0x80 refl
 
-pub in-memory : (b : ℕ) → b < 256 → 0x80 ≤ b → (OneOf register-groups (b / 8) → ⊥) → lookup firstRows b ≡ lookup memoryFirstRows b
-in-memory b h k m = in-memory-arms b h (all-above 16 (b / 8) (omega arith), m)
+pub in-memory : (b : ℕ) → b < 256 → 0x80 ≤ b → beginsRegister b ≡ false → lookup firstRows b ≡ lookup memoryFirstRows b
+in-memory b h k e = rw e at (memory-there b k h)
 
 -- ---- 00 to 7F
 pub set-byte : (b : ℕ) → b / 8 ≡ 4 → lookup aloneRows b ≡ withConstant (Sets (b % 8)) Byte 1

@@ -26,19 +26,19 @@ use Rattle.code.specs.declared.Side.the-variants.{First, Second, With}
 use Rattle.code.specs.declared.Base.{Base}
 use Rattle.code.specs.declared.Base.the-variants.{Indirect, Displaced, Absolute8, Absolute16, Absolute24}
 use Rattle.code.specs.declared.Operand.{Operand}
-use Rattle.code.specs.declared.Operand.the-variants.{Register, Constant, Memory}
+use Rattle.code.specs.declared.Operand.the-variants.{Register, Named, Constant, Memory}
 use Rattle.code.specs.Said.{Said, whole, number}
 use Rattle.code.specs.Rows.{Row, byRows, onlyByte, noLong}
 use Rattle.code.specs.Registers.{registerRows}
 use Rattle.code.specs.Memory.{form, memoryRows, storeRows}
-use Rattle.code.specs.Listed.{alone, withConstant, upToSevenRows, firstRows}
+use Rattle.code.specs.Listed.{alone, withConstant, upToSevenRows, codeByteRows, firstRows}
 use Rattle.alu.specs.declared.Arith.{Arith}
-use Rattle.code.specs.Range.{Holds, that, InRange, controlRange, stackRange, interruptRange, sideRange, useRange, aloneRange, upToSevenRange, pointerRange, constantBelow, registerBelow, baseRange, memoryRange, placeRange, blockRange}
+use Rattle.code.specs.Range.{Holds, that, InRange, controlRange, stackRange, interruptRange, sideRange, useRange, aloneRange, upToSevenRange, pointerRange, constantBelow, registerBelow, baseRange, memoryRange, registerRange, placeRange, blockRange}
 use Rattle.code.specs.Written.{codeOf, controlCode, stackCode, interruptCode, sideCode, useCode, placeCode, baseCode, sizeStep, arithNumber, blockCode, constantIn, registerIn}
 use Rattle.code.proofs.FirstRows.{first}
 use Rattle.code.proofs.Says.{Says, Lists, byte, value, next}
 use Rattle.code.proofs.RegisterRows.{of-change}
-use Rattle.code.proofs.EachByte.{set, push, pop, short-jump, long-jump, up-to-seven, register-form, load-constant, load, into, compute, compute-constant, moreRows, rowsOf, indirect, displaced, absolute-8, absolute-16, absolute-24, load-memory, compute-memory, compute-into, indirect-store, displaced-store, absolute-store, store, block-byte}
+use Rattle.code.proofs.EachByte.{set, push, pop, short-jump, long-jump, up-to-seven, register-form, named-form, code-byte, load-constant, load, into, compute, compute-constant, moreRows, rowsOf, indirect, displaced, absolute-8, absolute-16, absolute-24, load-memory, compute-memory, compute-into, indirect-store, displaced-store, absolute-store, store, block-byte}
 
 -- the bytes p are this instruction
 abbrev Is : List ℕ → Op → Size → Operand → Type 0
@@ -47,16 +47,19 @@ Is p op z o = Says (byRows firstRows) p (whole op z o)
 -- ---- what is proved of an operand or a size in range only
 on-register : (P : Operand → Type 0) (n : ℕ) → ((r : ℕ) → r < n → P (Register r)) → (o : Operand) → Holds (registerBelow n o) → P o
 on-register P n f (Register r) h = f r h
+on-register P n f (Named c) h = absurd h
 on-register P n f (Constant v) h = absurd h
 on-register P n f (Memory m) h = absurd h
 
 on-constant : (P : Operand → Type 0) (n : ℕ) → ((v : ℕ) → v < n → P (Constant v)) → (o : Operand) → Holds (constantBelow n o) → P o
 on-constant P n f (Register r) h = absurd h
+on-constant P n f (Named c) h = absurd h
 on-constant P n f (Constant v) h = f v h
 on-constant P n f (Memory m) h = absurd h
 
 on-memory : (P : Operand → Type 0) → ((base : Base) (v : ℕ) → Holds (baseRange base v) → P (form base v)) → (o : Operand) → Holds (memoryRange o) → P o
 on-memory P f (Register r) h = absurd h
+on-memory P f (Named c) h = absurd h
 on-memory P f (Constant v) h = absurd h
 on-memory P f (Memory m) h = f (m .base) (m .number) h
 
@@ -85,8 +88,11 @@ is-pushed : (op : Op) (z : Size) (c : ℕ) → ((r : ℕ) → r < 7 → Lists fi
 is-pushed op z c e = on-register _ 7 (λ r h. byte firstRows (c + r) (e r h))
 
 -- ---- after a register, and after a memory form in the row g
-after-register : {q : List ℕ} {k : Said} (z : Size) (o : Operand) → Holds (registerBelow 8 o) → Says (byRows (registerRows z o)) q k → Says (byRows firstRows) (placeCode (sizeStep z) o ++ q) k
-after-register z = on-register _ 8 (λ r h s. next (byte firstRows (0xC8 + sizeStep z + r) (register-form z r h)) s)
+after-register : {q : List ℕ} {k : Said} (z : Size) (o : Operand) → Holds (registerRange z o) → Says (byRows (registerRows z o)) q k → Says (byRows firstRows) (placeCode (sizeStep z) o ++ q) k
+after-register z (Register r) h s = next (byte firstRows (0xC8 + sizeStep z + r) (register-form z r h)) s
+after-register z (Named c) h s = next (next (byte firstRows (0xC7 + sizeStep z) (named-form z)) (byte (codeByteRows z) c (code-byte z c (h .0) (h .1)))) s
+after-register z (Constant v) h s = absurd h
+after-register z (Memory m) h s = absurd h
 
 module _
     (g : ℕ) (rows : Base → ℕ → List Row)
@@ -116,21 +122,22 @@ after-store : {q : List ℕ} {k : Said} (o : Operand) → Holds (memoryRange o) 
 after-store = on-memory _ (λ base v h s. next (after-store-form base v h) s)
 
 -- one byte more
-register-byte : {k : Said} (z : Size) (o : Operand) (b : ℕ) → Holds (registerBelow 8 o) → Lists (registerRows z o) b k → Says (byRows firstRows) (placeCode (sizeStep z) o ++ (b ∷ [])) k
+register-byte : {k : Said} (z : Size) (o : Operand) (b : ℕ) → Holds (registerRange z o) → Lists (registerRows z o) b k → Says (byRows firstRows) (placeCode (sizeStep z) o ++ (b ∷ [])) k
 register-byte z o b h e = after-register z o h (byte (registerRows z o) b e)
 
 memory-byte : {k : Said} (z : Size) (o : Operand) (b : ℕ) → Holds (memoryRange o) → ((more : List Row) → Lists (memoryRows z o ++ more) b k) → Says (byRows firstRows) (placeCode (sizeStep z) o ++ (b ∷ [])) k
 memory-byte z o b h e = after-memory z o h (λ more. byte (memoryRows z o ++ more) b (e more))
 
 place-byte :
-    {k : Said} (z : Size) (o : Operand) (b : ℕ) → Holds (placeRange o) → Lists (registerRows z o) b k → ((more : List Row) → Lists (memoryRows z o ++ more) b k) →
+    {k : Said} (z : Size) (o : Operand) (b : ℕ) → Holds (placeRange z o) → Lists (registerRows z o) b k → ((more : List Row) → Lists (memoryRows z o ++ more) b k) →
     Says (byRows firstRows) (placeCode (sizeStep z) o ++ (b ∷ [])) k
 place-byte z (Register r) b h e f = register-byte z (Register r) b h e
+place-byte z (Named c) b h e f = register-byte z (Named c) b h e
 place-byte z (Constant v) b h e f = absurd h
 place-byte z (Memory m) b h e f = memory-byte z (Memory m) b h f
 
 -- one byte more, and a constant of the size
-register-constant : {f : ℕ → Said} (z : Size) (o : Operand) (b n : ℕ) → Holds (registerBelow 8 o) → n < 256 ^ bytesOf z → Lists (registerRows z o) b (number (bytesOf z) f) → Says (byRows firstRows) (placeCode (sizeStep z) o ++ (b ∷ bytesFrom (bytesOf z) n)) (f n)
+register-constant : {f : ℕ → Said} (z : Size) (o : Operand) (b n : ℕ) → Holds (registerRange z o) → n < 256 ^ bytesOf z → Lists (registerRows z o) b (number (bytesOf z) f) → Says (byRows firstRows) (placeCode (sizeStep z) o ++ (b ∷ bytesFrom (bytesOf z) n)) (f n)
 register-constant z o b n h l e = after-register z o h (next (byte (registerRows z o) b e) (value (bytesOf z) n l))
 
 -- ---- a copy or a compare
@@ -204,9 +211,11 @@ of-side a (With n) z o h = register-constant z o (0xC8 + arithNumber a) n (h .1)
 of-use : (how : Use) (z : Size) (o : Operand) → Holds (useRange how z o) → Is (useCode how z o) (Puts how) z o
 of-use (Number n) z o h = register-constant z o 0x03 n (h .1) (h .0) (load-constant z o)
 of-use (From r) z (Register n) h = register-byte z (Register n) (0x98 + r) (h .1) (into z (Register n) r (h .0))
+of-use (From r) z (Named c) h = register-byte z (Named c) (0x98 + r) (h .1) (into z (Named c) r (h .0))
 of-use (From r) z (Constant v) h = absurd (h .1)
 of-use (From r) z (Memory m) h = after-store (Memory m) (h .1) (byte (storeRows (Memory m)) (0x40 + sizeStep z + r) (store (Memory m) z r (h .0)))
 of-use (Load r) z (Register n) h = register-byte z (Register n) (0x88 + r) (h .1) (load z (Register n) r (h .0))
+of-use (Load r) z (Named c) h = register-byte z (Named c) (0x88 + r) (h .1) (load z (Named c) r (h .0))
 of-use (Load r) z (Constant v) h = absurd (h .1)
 of-use (Load r) z (Memory m) h = memory-byte z (Memory m) (0x20 + r) (h .1) (λ more. load-memory z (Memory m) more r (h .0))
 of-use (Compute a other) z o h = of-side a other z o h
@@ -219,6 +228,7 @@ reads (Stacks what) z o h = of-stack what z o h
 reads (Puts how) z o h = of-use how z o h
 reads (Sets r) z o h = is-set r (h .0) z o (h .1)
 reads (Blocks f) z (Register r) h = absurd (h .1 .1 .1)
+reads (Blocks f) z (Named c) h = absurd (h .1 .1 .1)
 reads (Blocks f) z (Constant v) h = absurd (h .1 .1 .1)
 reads (Blocks f) z (Memory m) h = is-block f z (m .base) (m .number) h
 reads (Interrupts what) z o h = of-interrupt what z o h

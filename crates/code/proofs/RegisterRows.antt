@@ -1,14 +1,15 @@
 -- All that is proved of the byte after a register form's register: what the source's groups of bytes say, the walk over its rows,
 -- and that a change is what its bytes say.
 use Prim.Native.Nat.{ℕ, _+_, _/_, _%_, _≤_, _<_}
-use mathlib.Core.Path.{_≡_, refl, ap₂}
+use mathlib.Core.Path.{_≡_, refl, ap, ap₂, subst, _∙_}
 use mathlib.Core.Bool.{Bool, true, false}
-use mathlib.Core.List.{List, [], _∷_}
+use mathlib.Core.List.{List, [], _∷_, _++_, append-assoc}
 use native.Mathlib.Omega.{arith}
 use native.Mathlib.Nat.{mod-lt}
 use borrow.Author.Tests.{eqb-true}
 use types.Run.{OneOf}
 use Rattle.little.specs.Bytes.{bytesFrom}
+use Rattle.state.specs.Named.{isNamed}
 use Rattle.little.specs.Width.{bytesOf}
 use Rattle.little.specs.declared.Size.{Size}
 use Rattle.little.specs.declared.Size.the-variants.{Byte, Word, Long}
@@ -19,12 +20,13 @@ use Rattle.code.specs.declared.Op.the-variants.{Puts}
 use Rattle.code.specs.declared.Use.the-variants.{From, Load, Compute, Changed}
 use Rattle.code.specs.declared.Side.the-variants.{First, With}
 use Rattle.code.specs.declared.Operand.{Operand}
-use Rattle.code.specs.declared.Operand.the-variants.{Register}
+use Rattle.code.specs.declared.Operand.the-variants.{Register, Named}
 use Rattle.code.specs.Said.{Said, whole, unlisted, number}
 use Rattle.code.specs.Rows.{Row, lookup, byRows, only, noByte}
 use Rattle.code.specs.Registers.{registerRows, placesRows, arithOf, shiftKind}
-use Rattle.code.specs.Range.{Holds, that, changeRange}
-use Rattle.code.specs.Written.{codeOf, changeCode, sizeStep, shiftNumber}
+use Rattle.code.specs.Listed.{codeByteRows}
+use Rattle.code.specs.Range.{Holds, that, registerRange, placeRange, changeRange}
+use Rattle.code.specs.Written.{codeOf, placeCode, loadCode, fromCode, changeCode, sizeStep, shiftNumber}
 use Rattle.code.proofs.Groups.{in-group, Missed}
 use Rattle.code.proofs.Tables.{table, each-shift, in-arm, in-no-arm}
 use Rattle.code.proofs.Judge.{bytes-bounds}
@@ -91,46 +93,52 @@ can-register : (z : Size) (o : Operand) → Can (byRows (registerRows z o))
 unfolding registerRows lookup
 can-register z o = (0x88, omega arith, tt)
 
-module _ (Y : Type 0) (z : Size) (r a : ℕ) (e : a ≡ 0xC8 + sizeStep z + r) (q : r < 8) where
-  two : (x y : ℕ) → x ≡ y → a ∷ x ∷ [] ≡ (0xC8 + sizeStep z + r) ∷ y ∷ []
-  two x y f = ap₂ (λ (c d : ℕ). c ∷ d ∷ []) e f
+-- the operand o stands in the bytes p, which with the next one are i
+module _
+    (Y : Type 0) (z : Size) (o : Operand) (i : ℕ) (p : List ℕ) (l : i ≤ 3) (e : p ≡ placeCode (sizeStep z) o)
+    (q : Y → Holds (registerRange z o)) (w : Y → Holds (placeRange z o))
+    (d : loadCode o ≡ 0x88) (f : (r : ℕ) → placeCode (sizeStep z) o ++ ((0x98 + r) ∷ []) ≡ fromCode r z o)
+  where
+    two : (x y : ℕ) → x ≡ y → p ++ (x ∷ []) ≡ placeCode (sizeStep z) o ++ (y ∷ [])
+    two x y g = ap₂ (λ (c : List ℕ) (b : ℕ). c ++ (b ∷ [])) e g
 
-  more : (x y v : ℕ) → x ≡ y → a ∷ x ∷ bytesFrom (bytesOf z) v ≡ (0xC8 + sizeStep z + r) ∷ y ∷ bytesFrom (bytesOf z) v
-  more x y v f = ap₂ (λ (c d : ℕ). c ∷ d ∷ bytesFrom (bytesOf z) v) e f
+    more : (x y : ℕ) (t : List ℕ) → x ≡ y → (p ++ (x ∷ [])) ++ t ≡ placeCode (sizeStep z) o ++ (y ∷ t)
+    more x y t g = append-assoc p (x ∷ []) t ∙ ap₂ (λ (c : List ℕ) (b : ℕ). c ++ (b ∷ t)) e g
 
-  places-rows : (shift : Shift) (b : ℕ) → b ≡ 0xEC + shiftNumber shift → Rows Y (placesRows z (Register r) shift) 3 (a ∷ b ∷ [])
-  unfolding placesRows codeOf
-  places-rows shift b f = (λ n h. let x = run-in _ _ n h in (omega arith, ap₂ (λ (c d : ℕ). c ∷ d ∷ n ∷ []) e f, λ y. (omega arith, q)), tt)
+    places-rows : (shift : Shift) (b : ℕ) → b ≡ 0xEC + shiftNumber shift → Rows Y (placesRows z o shift) (i + 1) (p ++ (b ∷ []))
+    unfolding placesRows codeOf
+    places-rows shift b g = (λ n h. let x = run-in _ _ n h in (omega arith, more b _ (n ∷ []) g, λ y. (omega arith, q y)), tt)
 
-  extension : {p : List ℕ} (how : Change) (b : Bool) → p ≡ codeOf (Puts (Changed how)) z (Register r) → (Holds (that b) → Holds (changeRange how z)) → Walk Y (only b (whole (Puts (Changed how)) z (Register r))) 2 p
-  extension how true f g = (omega arith, f, λ y. (g tt, q))
-  extension how false f g = tt
+    extension : {c : List ℕ} (how : Change) (b : Bool) → c ≡ codeOf (Puts (Changed how)) z o → (Holds (that b) → Holds (changeRange how z)) → Walk Y (only b (whole (Puts (Changed how)) z o)) i c
+    extension how true g k = (omega arith, g, λ y. (k tt, q y))
+    extension how false g k = tt
 
-  register-rows : Rows Y (registerRows z (Register r)) 2 (a ∷ [])
-  unfolding registerRows codeOf
-  register-rows =
-      let n : bytesOf z ≤ 4 = bytes-bounds z (bytesOf z) refl in
-      let l : 2 ≤ 6 = omega arith in (
-        λ b h. (λ v. tt, λ v g. (omega arith, more b 0x03 v (eqb-true b _ h), λ y. (g y, q))),
-        (
-          λ b h. (l, two b _ (let x = run-in _ _ b h in omega arith), λ y. (mod-lt b (omega arith), q)),
+    register-rows : Rows Y (registerRows z o) i p
+    unfolding registerRows codeOf
+    register-rows =
+        let n : bytesOf z ≤ 4 = bytes-bounds z (bytesOf z) refl in
+        let m : i ≤ 7 = omega arith in (
+          λ b h. (λ v. tt, λ v g. (omega arith, more b 0x03 _ (eqb-true b _ h), λ y. (g y, q y))),
           (
-            λ b h. (l, two b _ (let x = run-in _ _ b h in omega arith), λ y. (mod-lt b (omega arith), q)),
+            λ b h. (m, two b _ (let x = run-in _ _ b h in rw d (omega arith)), λ y. (mod-lt b (omega arith), w y)),
             (
-              λ b h. (l, two b _ (let x = columns-in _ b h in computes b (x .0 .0) (x .0 .1) (x .1)), λ y. (mod-lt b (omega arith), q)),
+              λ b h. (m, two b _ (let x = run-in _ _ b h in omega arith) ∙ f (b % 8), λ y. (mod-lt b (omega arith), w y)),
               (
-                λ b h. (λ v. tt, λ v g. (omega arith, more b _ v (let x = run-in _ _ b h in rw (arith-back (b % 8) (mod-lt b (omega arith))) (omega arith)), λ y. (g y, q))),
+                λ b h. (m, two b _ (let x = columns-in _ b h in computes b (x .0 .0) (x .0 .1) (x .1)), λ y. (mod-lt b (omega arith), w y)),
                 (
-                  λ b h. (l, two b _ (let x = run-in _ _ b h in omega arith), λ y. (mod-lt b (omega arith), q)),
+                  λ b h. (λ v. tt, λ v g. (omega arith, more b _ _ (let x = run-in _ _ b h in rw (arith-back (b % 8) (mod-lt b (omega arith))) (omega arith)), λ y. (g y, q y))),
                   (
-                    λ b h. (l, two b _ (let x = run-in _ _ b h in omega arith), λ y. (mod-lt b (omega arith), q)),
+                    λ b h. (m, two b _ (let x = run-in _ _ b h in omega arith), λ y. (mod-lt b (omega arith), q y)),
                     (
-                      λ b h. by-rows Y (placesRows z (Register r) (shiftKind (b % 4))) 2 (a ∷ b ∷ []) (can-place z (Register r) (shiftKind (b % 4))) (places-rows (shiftKind (b % 4)) b (let x = run-in _ _ b h in rw (shift-back (b % 4) (mod-lt b (omega arith))) (omega arith))),
+                      λ b h. (m, two b _ (let x = run-in _ _ b h in omega arith), λ y. (mod-lt b (omega arith), q y)),
                       (
-                        λ b h. extension Extz (noByte z) (two b 0x12 (eqb-true b _ h)) (λ w. w),
+                        λ b h. by-rows Y (placesRows z o (shiftKind (b % 4))) i (p ++ (b ∷ [])) (can-place z o (shiftKind (b % 4))) (places-rows (shiftKind (b % 4)) b (let x = run-in _ _ b h in rw (shift-back (b % 4) (mod-lt b (omega arith))) (omega arith))),
                         (
-                          λ b h. extension Exts (noByte z) (two b 0x13 (eqb-true b _ h)) (λ w. w),
-                          tt,
+                          λ b h. extension Extz (noByte z) (two b 0x12 (eqb-true b _ h)) (λ w. w),
+                          (
+                            λ b h. extension Exts (noByte z) (two b 0x13 (eqb-true b _ h)) (λ w. w),
+                            tt,
+                          ),
                         ),
                       ),
                     ),
@@ -139,15 +147,37 @@ module _ (Y : Type 0) (z : Size) (r a : ℕ) (e : a ≡ 0xC8 + sizeStep z + r) (
               ),
             ),
           ),
-        ),
-      )
+        )
 
-  pub register-walk : Walk Y (byRows (registerRows z (Register r))) 1 (a ∷ [])
-  register-walk = by-rows Y (registerRows z (Register r)) 1 (a ∷ []) (can-register z (Register r)) register-rows
+-- after C8+r, and after C7 and a code byte
+pub register-walk : (Y : Type 0) (z : Size) (r a : ℕ) → a ≡ 0xC8 + sizeStep z + r → r < 8 → Walk Y (byRows (registerRows z (Register r))) 1 (a ∷ [])
+register-walk Y z r a e q =
+    by-rows Y (registerRows z (Register r)) 1 (a ∷ []) (can-register z (Register r))
+    (register-rows Y z (Register r) 2 (a ∷ []) (omega arith) (ap (λ (x : ℕ). x ∷ []) e) (λ y. q) (λ y. q) refl (λ n. refl))
+
+named-walk : (Y : Type 0) (z : Size) (c a : ℕ) → a ≡ 0xC7 + sizeStep z → c < 256 → (b : Bool) → b ≡ isNamed (bytesOf z) c → Walk Y (only b (byRows (registerRows z (Named c)))) 2 (a ∷ c ∷ [])
+named-walk Y z c a e l true t =
+    let q : Holds (that (isNamed (bytesOf z) c)) = subst (λ (x : Bool). Holds (that x)) t tt in
+    by-rows Y (registerRows z (Named c)) 2 (a ∷ c ∷ []) (can-register z (Named c))
+    (register-rows Y z (Named c) 3 (a ∷ c ∷ []) (omega arith) (ap (λ (x : ℕ). x ∷ c ∷ []) e) (λ y. (l, q)) (λ y. (l, q)) refl (λ n. refl))
+named-walk Y z c a e l false t = tt
+
+-- E0 names a register of every size
+can-code-byte : (z : Size) → Can (byRows (codeByteRows z))
+unfolding codeByteRows registerRows lookup
+can-code-byte Byte = (0xE0, omega arith, can-register Byte (Named 0xE0))
+can-code-byte Word = (0xE0, omega arith, can-register Word (Named 0xE0))
+can-code-byte Long = (0xE0, omega arith, can-register Long (Named 0xE0))
+
+pub code-byte-walk : (Y : Type 0) (z : Size) (a : ℕ) → a ≡ 0xC7 + sizeStep z → Walk Y (byRows (codeByteRows z)) 1 (a ∷ [])
+unfolding codeByteRows
+code-byte-walk Y z a e =
+    by-rows Y (codeByteRows z) 1 (a ∷ []) (can-code-byte z)
+    (λ c h. let x = run-in _ _ c h in named-walk Y z c a e (omega arith) (isNamed (bytesOf z) c) refl, tt)
 
 -- ---- a change within its range is what its bytes say after the register's
 -- what is listed only where a test is so is listed there
-so-listed : (rows : List Row) (c : ℕ) (b : Bool) (d : Said) → Lists rows c (only b d) → Holds (that b) → Lists rows c d
+pub so-listed : (rows : List Row) (c : ℕ) (b : Bool) (d : Said) → Lists rows c (only b d) → Holds (that b) → Lists rows c d
 so-listed rows c true d e h = e
 so-listed rows c false d e h = absurd h
 

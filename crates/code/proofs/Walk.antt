@@ -1,4 +1,4 @@
--- One walk over the codes, row by row: the bytes that an instruction is read from are those that it is written as, at most six,
+-- One walk over the codes, row by row: the bytes that an instruction is read from are those that it is written as, at most seven,
 -- each of its codes and numbers is within its range, and wherever bytes are missing, some bytes make it whole.
 use Prim.Native.Nat.{ℕ, _+_, _≤_, _<_, _^_}
 use mathlib.Core.Path.{_≡_}
@@ -24,7 +24,7 @@ Can (number n f) = (v : ℕ) → Can (f v)
 module _ (Y : Type 0) where
   -- of an instruction of i bytes, which are p
   abbrev pub Fine : ℕ → List ℕ → Op → Size → Operand → Type 0
-  Fine i p op z o = (i ≤ 6) × (p ≡ codeOf op z o) × (Y → InRange op z o)
+  Fine i p op z o = (i ≤ 7) × (p ≡ codeOf op z o) × (Y → InRange op z o)
 
   -- of every instruction that may still come after the i bytes p
   abbrev pub Walk : Said → ℕ → List ℕ → Type 0

@@ -2,16 +2,16 @@
 use Rattle.little.specs.Words.{ℕ, _≡_, refl, true, false, List, [], _∷_, map}
 use Rattle.little.specs.Bytes.{valueOf}
 use Rattle.little.specs.declared.Size.the-variants.{Byte, Word, Long}
-use Rattle.alu.specs.declared.Shift.the-variants.{Sla, Sra}
+use Rattle.alu.specs.declared.Shift.the-variants.{Sla, Sra, Srl}
 use Rattle.alu.specs.declared.Arith.the-variants.{Add, Adc, Sub, And, Xor, Or, Cp}
 use Rattle.alu.specs.declared.change.Change.the-variants.{Inc, Dec, ShiftBy, Extz, Exts}
-use Rattle.code.specs.{declared.Operand.the-variants.Register, declared.Operand.the-variants.Constant, declared.Decoded.Decoded}
+use Rattle.code.specs.{declared.Operand.the-variants.Register, declared.Operand.the-variants.Named, declared.Operand.the-variants.Constant, declared.Decoded.Decoded}
 use Rattle.code.specs.{declared.Decoded.the-variants.Short, declared.Decoded.the-variants.Unlisted, Said.judge, Said.numberAt, Said.wholeOf}
 use Rattle.code.specs.{Rows.lookup, Registers.registerRows, Registers.placesRows, Memory.form, Memory.memoryRows, Memory.storeRows}
 use Rattle.code.specs.{Memory.copies, Memory.compares, Memory.blocks, Memory.indirectRows, Listed.absoluteRows, Listed.upToSevenRows}
 use Rattle.code.specs.{Listed.bankRows, Listed.flagRows, Listed.constantRows, Listed.stackRows, Listed.jumpRows, Listed.relativeRows}
 use Rattle.code.specs.{Listed.interruptRows, Listed.registerFormRows, Listed.memoryFormRows, Listed.memoryAtRows, Listed.storeFormRows, Listed.aloneRows}
-use Rattle.code.specs.{Listed.memoryFirstRows, Listed.firstRows, Listed.decodeOf}
+use Rattle.code.specs.{Listed.memoryFirstRows, Listed.namedFormRows, Listed.codeByteRows, Listed.firstRows, Listed.decodeOf}
 use Rattle.code.specs.declared.Op.the-variants.{Controls, Stacks, Puts, Sets, Blocks, Interrupts}
 use Rattle.code.specs.declared.Control.the-variants.{Nop, Incf, Decf, Ldf, Zcf, Exf, Jp24, Jr, Jrl, Ei}
 use Rattle.code.specs.declared.Stack.the-variants.{PopF, Push, Pop, Call16, Calr, Ret}
@@ -72,6 +72,13 @@ examples =
     ((0xC9 ∷ 0xEC ∷ 0x00 ∷ []) is wholeOf (Puts (Changed (ShiftBy Sla 0))) Byte (Register 1) 3) ∷
     ((0xE9 ∷ 0x12 ∷ []) is wholeOf (Puts (Changed Extz)) Long (Register 1) 2) ∷
     ((0xD9 ∷ 0x13 ∷ []) is wholeOf (Puts (Changed Exts)) Word (Register 1) 2) ∷
+    -- register forms behind C7, D7 and E7: INC 1,RA2; ADD QWA2,3; SUB XBC of bank 3 where bank 0 is the current one; IXL, IXH
+    ((0xC7 ∷ 0x20 ∷ 0x61 ∷ []) is wholeOf (Puts (Changed (Inc 1))) Byte (Named 0x20) 3) ∷
+    ((0xD7 ∷ 0x22 ∷ 0xC8 ∷ 0x03 ∷ 0x00 ∷ []) is wholeOf (Puts (Compute Add (With 3))) Word (Named 0x22) 5) ∷
+    ((0xE7 ∷ 0xD4 ∷ 0xA1 ∷ []) is wholeOf (Puts (Compute Sub (First 1))) Long (Named 0xD4) 3) ∷
+    ((0xE7 ∷ 0x34 ∷ 0xCA ∷ 0x78 ∷ 0x56 ∷ 0x34 ∷ 0x12 ∷ []) is wholeOf (Puts (Compute Sub (With 0x12345678))) Long (Named 0x34) 7) ∷
+    ((0xC7 ∷ 0xF0 ∷ 0x99 ∷ []) is wholeOf (Puts (From 1)) Byte (Named 0xF0) 3) ∷ ((0xC7 ∷ 0xF1 ∷ 0x88 ∷ []) is wholeOf (Puts (Load 0)) Byte (Named 0xF1) 3) ∷
+    ((0xD7 ∷ 0xE0 ∷ 0xEF ∷ 0x00 ∷ []) is wholeOf (Puts (Changed (ShiftBy Srl 0))) Word (Named 0xE0) 4) ∷
     -- memory forms
     ((0x84 ∷ 0x25 ∷ []) is wholeOf (Puts (Load 5)) Byte (form (Indirect 4) 0) 2) ∷
     ((0x9D ∷ 0xFF ∷ 0x25 ∷ []) is wholeOf (Puts (Load 5)) Word (form (Displaced 5) 0xFF) 3) ∷
@@ -90,15 +97,17 @@ examples =
     -- short
     (([]) is Short) ∷ ((0x17 ∷ []) is Short) ∷ ((0x42 ∷ 0x01 ∷ 0x02 ∷ 0x03 ∷ []) is Short) ∷ ((0xDB ∷ 0xEC ∷ []) is Short) ∷
     ((0xC9 ∷ 0xC8 ∷ []) is Short) ∷ ((0xC1 ∷ 0x34 ∷ []) is Short) ∷ ((0xC1 ∷ 0x34 ∷ 0x12 ∷ []) is Short) ∷ ((0x83 ∷ []) is Short) ∷
-    ((0xF2 ∷ []) is Short) ∷ ((0x06 ∷ []) is Short) ∷
+    ((0xF2 ∷ []) is Short) ∷ ((0x06 ∷ []) is Short) ∷ ((0xC7 ∷ []) is Short) ∷ ((0xD7 ∷ 0x22 ∷ []) is Short) ∷
+    ((0xE7 ∷ 0x34 ∷ 0xCA ∷ 0x78 ∷ 0x56 ∷ 0x34 ∷ []) is Short) ∷
     -- unlisted
     ((0x2F ∷ []) is Unlisted) ∷ ((0x3F ∷ []) is Unlisted) ∷ ((0x4F ∷ []) is Unlisted) ∷ ((0x5F ∷ []) is Unlisted) ∷ ((0x01 ∷ []) is Unlisted) ∷
     ((0x17 ∷ 0x08 ∷ []) is Unlisted) ∷ ((0xDB ∷ 0xEC ∷ 0x10 ∷ []) is Unlisted) ∷ ((0xC8 ∷ 0x12 ∷ []) is Unlisted) ∷ ((0x84 ∷ 0x10 ∷ []) is Unlisted) ∷
     ((0x80 ∷ 0x14 ∷ []) is Unlisted) ∷ ((0x93 ∷ 0x18 ∷ []) is Unlisted) ∷ ((0xA3 ∷ 0x11 ∷ []) is Unlisted) ∷ ((0xFF ∷ []) is Unlisted) ∷
     ((0xB3 ∷ 0x20 ∷ []) is Unlisted) ∷ ((0xC3 ∷ []) is Unlisted) ∷ ((0x06 ∷ 0x08 ∷ []) is Unlisted) ∷ ((0x04 ∷ []) is Unlisted) ∷
-    ((0x05 ∷ []) is Unlisted) ∷ ((0x08 ∷ []) is Unlisted) ∷ []
+    ((0x05 ∷ []) is Unlisted) ∷ ((0x08 ∷ []) is Unlisted) ∷ ((0xC7 ∷ 0x40 ∷ []) is Unlisted) ∷ ((0xC7 ∷ 0xCF ∷ []) is Unlisted) ∷
+    ((0xD7 ∷ 0x21 ∷ []) is Unlisted) ∷ ((0xE7 ∷ 0x22 ∷ []) is Unlisted) ∷ ((0xC7 ∷ 0x20 ∷ 0x12 ∷ []) is Unlisted) ∷ ((0xF7 ∷ []) is Unlisted) ∷ []
 
 -- all of them are so, by computation
 pub decoded : map (λ e. decodeOf (e .code)) examples ≡ map (λ e. e .means) examples
-unfolding decodeOf firstRows aloneRows memoryFirstRows bankRows upToSevenRows flagRows constantRows stackRows jumpRows relativeRows interruptRows registerFormRows memoryFormRows memoryAtRows storeFormRows absoluteRows registerRows placesRows memoryRows storeRows copies compares blocks indirectRows judge numberAt lookup valueOf
+unfolding decodeOf firstRows aloneRows memoryFirstRows namedFormRows codeByteRows bankRows upToSevenRows flagRows constantRows stackRows jumpRows relativeRows interruptRows registerFormRows memoryFormRows memoryAtRows storeFormRows absoluteRows registerRows placesRows memoryRows storeRows copies compares blocks indirectRows judge numberAt lookup valueOf
 decoded = refl

@@ -5,11 +5,11 @@ use Rattle.code.specs.{declared.Form.Form, declared.Op.Op, declared.Op.t
 use Rattle.code.specs.{declared.Instruction.Instruction, Listed.decodeOf, Said.wholeOf, Range.inRange, Range.InRange, Written.codeOf}
 use Rattle.code.specs.declared.Decoded.the-variants.{Whole, Short, Unlisted}
 
--- an instruction has 1 to 6 bytes, and they are all there
+-- an instruction has 1 to 7 bytes, and they are all there
 abbrev pub LengthFits : Type 0
 LengthFits =
     (s : List ℕ) (i : Instruction) → decodeOf s ≡ Whole i →
-    (1 ≤ i .length) × ((i .length ≤ 6) × (i .length ≤ length s))
+    (1 ≤ i .length) × ((i .length ≤ 7) × (i .length ≤ length s))
 
 -- what comes after it does not matter
 abbrev pub WholeStays : Type 0

@@ -1,10 +1,11 @@
 -- The listed codes, bullet by bullet, and the decoder.
 use Rattle.little.specs.Words.{ℕ, _+_, _%_, List, [], _∷_, _++_}
-use Rattle.little.specs.declared.Size.{Size}
+use Rattle.little.specs.{declared.Size.Size, Width.bytesOf}
+use Rattle.state.specs.Named.{isNamed}
 use Rattle.little.specs.declared.Size.the-variants.{Byte, Word, Long}
-use Rattle.code.specs.{declared.Op.Op, declared.Base.Base, declared.Operand.Operand, declared.Operand.the-variants.Register}
+use Rattle.code.specs.{declared.Op.Op, declared.Base.Base, declared.Operand.Operand, declared.Operand.the-variants.Register, declared.Operand.the-variants.Named}
 use Rattle.code.specs.{declared.Operand.the-variants.Constant, declared.Decoded.Decoded, Said.Said, Said.whole, Said.number, Said.judge}
-use Rattle.code.specs.{Rows.one, Rows.run, Rows.Row, Rows._⇒_, Rows.byRows, Registers.registerRows, Memory.form, Memory.memoryRows}
+use Rattle.code.specs.{Rows.one, Rows.run, Rows.Row, Rows._⇒_, Rows.only, Rows.byRows, Registers.registerRows, Memory.form, Memory.memoryRows}
 use Rattle.code.specs.{Memory.storeRows, Memory.indirectRows}
 use Rattle.code.specs.declared.Op.the-variants.{Controls, Stacks, Sets, Interrupts}
 use Rattle.code.specs.declared.Control.the-variants.{Nop, Incf, Decf, Ldf, Rcf, Scf, Ccf, Zcf, Exf, Jp16, Jp24, Jr, Jrl, Ei}
@@ -97,6 +98,18 @@ registerFormRows =
     ∷ (run 0xE8 0xEF ⇒ λ b. byRows (registerRows Long (Register (b % 8))))
     ∷ []
 
+-- a code byte that names a register of a size, then the byte of a register form
+unfoldable pub codeByteRows : Size → List Row
+codeByteRows z = (run 0x00 0xFF ⇒ λ c. only (isNamed (bytesOf z) c) (byRows (registerRows z (Named c)))) ∷ []
+
+-- C7 byte, D7 word, E7 long, in place of C8+r, D8+r, E8+r (request K1)
+unfoldable pub namedFormRows : List Row
+namedFormRows =
+    (one 0xC7 ⇒ λ b. byRows (codeByteRows Byte))
+    ∷ (one 0xD7 ⇒ λ b. byRows (codeByteRows Word))
+    ∷ (one 0xE7 ⇒ λ b. byRows (codeByteRows Long))
+    ∷ []
+
 -- a memory form with a number of n bytes; what the byte after it says hangs on it
 abbrev pub formWith : Base → ℕ → (Operand → List Row) → Said
 formWith base n rows = number n (λ v. byRows (rows (form base v)))
@@ -141,7 +154,7 @@ memoryFirstRows = memoryFormRows ++ (memoryAtRows ++ storeFormRows)
 
 -- all bullets
 unfoldable pub firstRows : List Row
-firstRows = aloneRows ++ (registerFormRows ++ memoryFirstRows)
+firstRows = aloneRows ++ (registerFormRows ++ (memoryFirstRows ++ namedFormRows))
 
 -- the instruction that the code begins with
 unfoldable pub decodeOf : List ℕ → Decoded

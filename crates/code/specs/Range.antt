@@ -3,6 +3,7 @@ use Rattle.little.specs.Words.{ℕ, _<_, _^_, _≡_, Bool, true, false, _&&_, _
 use Rattle.little.specs.{declared.Size.Size, Width.bytesOf}
 use Rattle.alu.specs.declared.change.Change.{Change}
 use Rattle.alu.specs.declared.change.Change.the-variants.{Inc, Dec, ShiftBy, Extz, Exts}
+use Rattle.state.specs.Named.{isNamed}
 use Rattle.code.specs.Rows.{onlyByte, noByte, noLong}
 use Rattle.code.specs.declared.{Form.Form, Op.Op, Control.Control, Stack.Stack, Interrupt.Interrupt, Use.Use, Side.Side, Base.Base, Operand.Operand}
 use Rattle.code.specs.declared.Op.the-variants.{Controls, Stacks, Puts, Sets, Blocks, Interrupts}
@@ -12,7 +13,7 @@ use Rattle.code.specs.declared.Interrupt.the-variants.{PushSr, PopSr, Re
 use Rattle.code.specs.declared.Use.the-variants.{Number, From, Load, Compute, Changed}
 use Rattle.code.specs.declared.Side.the-variants.{First, Second, With}
 use Rattle.code.specs.declared.Base.the-variants.{Indirect, Displaced, Absolute8, Absolute16, Absolute24}
-use Rattle.code.specs.declared.Operand.the-variants.{Register, Constant, Memory}
+use Rattle.code.specs.declared.Operand.the-variants.{Register, Named, Constant, Memory}
 
 infix 50 _below_ _equals_
 infixr 40 _and_
@@ -47,12 +48,14 @@ holds (p or q) = holds p || holds q
 -- a register below n
 abbrev pub registerBelow : ℕ → Operand → Range
 registerBelow n (Register r) = r below n
+registerBelow n (Named c) = never
 registerBelow n (Constant v) = never
 registerBelow n (Memory m) = never
 
 -- a constant below n
 abbrev pub constantBelow : ℕ → Operand → Range
 constantBelow n (Register r) = never
+constantBelow n (Named c) = never
 constantBelow n (Constant v) = v below n
 constantBelow n (Memory m) = never
 
@@ -67,19 +70,28 @@ baseRange Absolute24 v = v below 256 ^ 3
 -- a memory form
 abbrev pub memoryRange : Operand → Range
 memoryRange (Register r) = never
+memoryRange (Named c) = never
 memoryRange (Constant v) = never
 memoryRange (Memory m) = baseRange (m .base) (m .number)
-
--- a register or a memory form
-abbrev pub placeRange : Operand → Range
-placeRange (Register r) = r below 8
-placeRange (Constant v) = never
-placeRange (Memory m) = baseRange (m .base) (m .number)
 
 -- a test, as a range
 abbrev pub that : Bool → Range
 that true = always
 that false = never
+
+-- a register of a size: one of the eight, or what a code byte names
+abbrev pub registerRange : Size → Operand → Range
+registerRange z (Register r) = r below 8
+registerRange z (Named c) = c below 256 and that (isNamed (bytesOf z) c)
+registerRange z (Constant v) = never
+registerRange z (Memory m) = never
+
+-- a register of a size, or a memory form
+abbrev pub placeRange : Size → Operand → Range
+placeRange z (Register r) = registerRange z (Register r)
+placeRange z (Named c) = registerRange z (Named c)
+placeRange z (Constant v) = never
+placeRange z (Memory m) = baseRange (m .base) (m .number)
 
 -- a copy goes to XDE from XHL or to XIX from XIY; a compare reads at XDE to XSP
 abbrev pub pointerRange : Bool → ℕ → ℕ → Range
@@ -97,6 +109,7 @@ pointsAt r Absolute24 = never
 -- the operand of a copy or a compare is the form (R) of the pointer that is read
 abbrev pub blockOperand : ℕ → Operand → Range
 blockOperand r (Register n) = never
+blockOperand r (Named c) = never
 blockOperand r (Constant v) = never
 blockOperand r (Memory m) = pointsAt r (m .base) and m .number equals 0
 
@@ -149,9 +162,9 @@ interruptRange PopSr z o = aloneRange z o
 interruptRange Reti z o = aloneRange z o
 
 abbrev pub sideRange : Side → Size → Operand → Range
-sideRange (First r) z o = r below 8 and placeRange o
+sideRange (First r) z o = r below 8 and placeRange z o
 sideRange (Second r) z o = r below 8 and memoryRange o
-sideRange (With n) z o = n below 256 ^ bytesOf z and registerBelow 8 o
+sideRange (With n) z o = n below 256 ^ bytesOf z and registerRange z o
 
 abbrev pub changeRange : Change → Size → Range
 changeRange (Inc n) z = n below 8
@@ -161,11 +174,11 @@ changeRange Extz z = that (noByte z)
 changeRange Exts z = that (noByte z)
 
 abbrev pub useRange : Use → Size → Operand → Range
-useRange (Number n) z o = n below 256 ^ bytesOf z and registerBelow 8 o
-useRange (From r) z o = r below 8 and placeRange o
-useRange (Load r) z o = r below 8 and placeRange o
+useRange (Number n) z o = n below 256 ^ bytesOf z and registerRange z o
+useRange (From r) z o = r below 8 and placeRange z o
+useRange (Load r) z o = r below 8 and placeRange z o
 useRange (Compute a other) z o = sideRange other z o
-useRange (Changed how) z o = changeRange how z and registerBelow 8 o
+useRange (Changed how) z o = changeRange how z and registerRange z o
 
 abbrev pub rangeOf : Op → Size → Operand → Range
 rangeOf (Controls what) z o = controlRange what z o

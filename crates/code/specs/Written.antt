@@ -14,7 +14,7 @@ use Rattle.code.specs.declared.Interrupt.the-variants.{PushSr, PopSr, Re
 use Rattle.code.specs.declared.Use.the-variants.{Number, From, Load, Compute, Changed}
 use Rattle.code.specs.declared.Side.the-variants.{First, Second, With}
 use Rattle.code.specs.declared.Base.the-variants.{Indirect, Displaced, Absolute8, Absolute16, Absolute24}
-use Rattle.code.specs.declared.Operand.the-variants.{Register, Constant, Memory}
+use Rattle.code.specs.declared.Operand.the-variants.{Register, Named, Constant, Memory}
 
 -- 10H in a code's first byte for each step of the size
 abbrev pub sizeStep : Size → ℕ
@@ -40,15 +40,17 @@ shiftNumber Sra = 1
 shiftNumber Sll = 2
 shiftNumber Srl = 3
 
--- the code of the register that an operand is; 0 where it is none
+-- the code, 0 to 7, of the register that an operand is; 0 where it is none
 abbrev pub registerIn : Operand → ℕ
 registerIn (Register r) = r
+registerIn (Named c) = 0
 registerIn (Constant v) = 0
 registerIn (Memory m) = 0
 
 -- the number that an operand is; 0 where it is none
 abbrev pub constantIn : Operand → ℕ
 constantIn (Register r) = 0
+constantIn (Named c) = 0
 constantIn (Constant v) = v
 constantIn (Memory m) = 0
 
@@ -60,15 +62,17 @@ baseCode g Absolute8 v = (0xC0 + g) ∷ bytesFrom 1 v
 baseCode g Absolute16 v = (0xC1 + g) ∷ bytesFrom 2 v
 baseCode g Absolute24 v = (0xC2 + g) ∷ bytesFrom 3 v
 
--- the first byte of an operand's form, and the bytes of its number; g says the group of the size
+-- the first byte of an operand's form, and its code byte or the bytes of its number; g says the group of the size
 abbrev pub placeCode : ℕ → Operand → List ℕ
 placeCode g (Register r) = (0xC8 + g + r) ∷ []
+placeCode g (Named c) = (0xC7 + g) ∷ c ∷ []
 placeCode g (Constant v) = []
 placeCode g (Memory m) = baseCode g (m .base) (m .number)
 
 -- 88+R after a register, 20+R after a memory form
 abbrev pub loadCode : Operand → ℕ
 loadCode (Register r) = 0x88
+loadCode (Named c) = 0x88
 loadCode (Constant v) = 0
 loadCode (Memory m) = 0x20
 
@@ -93,6 +97,7 @@ changeCode Exts = 0x13 ∷ []
 -- a register into the operand: 98+R after a register; 40+R, 50+R, 60+R after a memory form in the row of the stores
 abbrev pub fromCode : ℕ → Size → Operand → List ℕ
 fromCode r z (Register n) = placeCode (sizeStep z) (Register n) ++ ((0x98 + r) ∷ [])
+fromCode r z (Named c) = placeCode (sizeStep z) (Named c) ++ ((0x98 + r) ∷ [])
 fromCode r z (Constant v) = []
 fromCode r z (Memory m) = placeCode 48 (Memory m) ++ ((0x40 + sizeStep z + r) ∷ [])
 

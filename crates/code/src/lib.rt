@@ -19,7 +19,8 @@ pub struct MemoryForm {
 }
 
 pub enum Operand {
-    Register(u8),
+    Register(u8), // 0 to 7, of the instruction's size, in the current bank
+    Named(u8), // by a code byte, which can name any part of any bank
     Constant(u32),
     Memory(MemoryForm),
 }
@@ -131,6 +132,13 @@ pub enum OfRegister {
     Compute(Arith, u8, usize), // with the register of a code, which is the first and gets the result
     With(Arith, u32, usize),
     Changed(Change, usize),
+    Short,
+    Unlisted,
+}
+
+// Which register a register form is of, and how many code bytes named it, none or one.
+pub enum Chosen {
+    Register(Operand, usize),
     Short,
     Unlisted,
 }

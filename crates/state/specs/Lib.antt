@@ -1,5 +1,6 @@
 pub mod State
 pub mod Register
+pub mod Named
 pub mod Names
 pub mod Sound
 pub mod Sr

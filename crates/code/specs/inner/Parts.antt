@@ -1,16 +1,18 @@
 -- What each of the readers gives, as a decoded instruction, and what they read it by.
-use Rattle.little.specs.Words.{ℕ, _+_, _/_, _%_, cond, _||_, List, [], _++_, eqb, ltb}
+use Rattle.little.specs.Words.{ℕ, _+_, _/_, _%_, Bool, cond, _&&_, _||_, List, [], _++_, eqb, ltb, leb}
 use Rattle.little.specs.declared.Size.{Size}
 use Rattle.little.specs.declared.Size.the-variants.{Byte, Word, Long}
 use Rattle.code.specs.{declared.MemoryForm.MemoryForm, declared.Base.the-variants.Indirect, declared.Operand.Operand}
-use Rattle.code.specs.{declared.Operand.the-variants.Constant, declared.Operand.the-variants.Memory, declared.Decoded.Decoded}
-use Rattle.code.specs.{declared.Decoded.the-variants.Short, declared.Decoded.the-variants.Unlisted, Said.wholeOf, Said.judge, Rows.Row}
-use Rattle.code.specs.{Rows.byRows, Memory.form, Memory.memoryRows, Memory.storeRows, Memory.blockRows}
+use Rattle.code.specs.{declared.Operand.the-variants.Register, declared.Operand.the-variants.Constant, declared.Operand.the-variants.Memory, declared.Decoded.Decoded}
+use Rattle.code.specs.{declared.Decoded.the-variants.Whole, declared.Decoded.the-variants.Short, declared.Decoded.the-variants.Unlisted, Said.Said, Said.wholeOf, Said.judge, Rows.Row}
+use Rattle.code.specs.{Rows.byRows, Registers.registerRows, Listed.codeByteRows, Memory.form, Memory.memoryRows, Memory.storeRows, Memory.blockRows}
 use Rattle.code.specs.declared.Op.the-variants.{Controls, Stacks, Puts, Sets, Blocks, Interrupts}
 use Rattle.code.specs.declared.Use.the-variants.{Number, From, Load, Compute, Changed}
 use Rattle.code.specs.declared.Side.the-variants.{First, Second, With}
 use Rattle.code.specs.declared.Alone.{Alone}
 use Rattle.code.specs.declared.Alone.the-variants as alone
+use Rattle.code.specs.declared.Chosen.{Chosen}
+use Rattle.code.specs.declared.Chosen.the-variants as chosen
 use Rattle.code.specs.declared.OfRegister.{OfRegister}
 use Rattle.code.specs.declared.OfRegister.the-variants as register
 use Rattle.code.specs.declared.Begun.{Begun}
@@ -42,6 +44,35 @@ aloneAs (alone.Sets r z v n) = wholeOf (Sets r) z (Constant v) n
 aloneAs (alone.Interrupts what n) = wholeOf (Interrupts what) Byte (Constant 0) n
 aloneAs alone.Short = Short
 aloneAs alone.Unlisted = Unlisted
+
+-- whether a first byte begins a register form: C7 to CF, D7 to DF, E7 to EF; and of which size
+unfoldable pub beginsRegister : ℕ → Bool
+beginsRegister b = leb 0xC0 b && (ltb b 0xF0 && leb 7 (b % 16))
+
+unfoldable pub registerSize : ℕ → Size
+registerSize b = cond (ltb b 0xD0) Byte (cond (ltb b 0xE0) Word Long)
+
+-- what such a first byte says: its register, or that a code byte names it
+unfoldable pub registerBegun : Size → ℕ → Said
+registerBegun z b = cond (eqb (b / 8 % 2) 1) (byRows (registerRows z (Register (b % 8)))) (byRows (codeByteRows z))
+
+-- of a register that is known: the rest is judged by the rows after it
+abbrev pub chosenAs : Chosen → Size → List ℕ → Decoded
+chosenAs (chosen.Register o n) z s = judge (byRows (registerRows z o)) s (1 + n)
+chosenAs chosen.Short z s = Short
+chosenAs chosen.Unlisted z s = Unlisted
+
+-- how many code bytes named it
+abbrev pub behindOf : Chosen → ℕ
+behindOf (chosen.Register o n) = n
+behindOf chosen.Short = 0
+behindOf chosen.Unlisted = 0
+
+-- what was read of a code without its first n bytes, of the whole code: an instruction has n bytes more
+abbrev pub later : ℕ → Decoded → Decoded
+later n (Whole i) = wholeOf (i .op) (i .size) (i .operand) (n + i .length)
+later n Short = Short
+later n Unlisted = Unlisted
 
 -- of a register form, of a size and with its operand
 abbrev pub registerAs : OfRegister → Size → Operand → Decoded
