@@ -1,12 +1,14 @@
 // The instruction that a code begins with: what each of the readers gives, in one type.
 ghost use mathlib.Core.Path.{_≡_};
+ghost use Prim.Native.Nat.{_≤_};
 ghost use Rattle.code.specs.Said.{wholeOf, judge};
 ghost use Rattle.code.specs.Rows.{lookup};
-ghost use Rattle.code.specs.inner.Parts.{aloneAs, registerAs, memoryAs};
+ghost use Rattle.code.specs.inner.Parts.{aloneAs, registerAs, memoryAs, registerSize, registerBegun, later};
 ghost use Rattle.code.specs.Listed.{memoryFirstRows, decodeOf};
 use code::Alone;
 use code::Base;
 use code::Begun;
+use code::Chosen;
 use code::Decoded;
 use code::Instruction;
 use code::MemoryForm;
@@ -106,6 +108,33 @@ fn whole_of_memory(read: OfMemory, m: MemoryForm) -> Decoded
     }
 }
 
+// An instruction of which n bytes more stand before those that were read.
+fn behind(read: Decoded, n: usize) -> Decoded
+    requires { ⌜ n ≤ 1 ⌝ }
+    ensures { λ r. ⌜ r ≡ later n read ⌝ }
+{
+    match read {
+        Decoded::Whole(i) => whole(i.op, i.size, i.operand, n + i.length),
+        Decoded::Short => Decoded::Short,
+        Decoded::Unlisted => Decoded::Unlisted,
+    }
+}
+
+// A register form from its first byte on, as an instruction.
+fn whole_chosen(code: &[u8], b: u8) -> Decoded
+    ensures { λ r. ⌜ r ≡ judge (registerBegun (registerSize b) b) (now (code .entry)) 1 ⌝ }
+{
+    let size = registers::size_by(b);
+    match registers::begin(code, size, b) {
+        Chosen::Register(operand, n) => behind(
+            whole_of_register(registers::read(&code[n..], size), size, operand),
+            n,
+        ),
+        Chosen::Short => Decoded::Short,
+        Chosen::Unlisted => Decoded::Unlisted,
+    }
+}
+
 // A memory form from its first byte on, as an instruction.
 fn whole_begun(code: &[u8], b: u8) -> Decoded
     ensures { λ r. ⌜ r ≡ judge (lookup memoryFirstRows b) (now (code .entry)) 1 ⌝ }
@@ -134,11 +163,8 @@ pub fn decode(code: &[u8]) -> Decoded
     if b < 0x80 {
         return whole_alone(first::read(code, b));
     }
-    match b / 8 {
-        25 | 27 | 29 => {
-            let size = number::size_of(b / 16);
-            whole_of_register(registers::read(code, size), size, Operand::Register(b % 8))
-        }
-        _ => whole_begun(code, b),
+    if registers::begins(b) {
+        return whole_chosen(code, b);
     }
+    whole_begun(code, b)
 }

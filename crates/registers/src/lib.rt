@@ -1,4 +1,4 @@
-// The register forms: what the byte after the register says.
+// The register forms: which register, and what the byte after it says.
 ghost use mathlib.Core.Path.{_≡_};
 ghost use mathlib.Core.List.{List};
 ghost use Prim.Native.Nat.{ℕ, _/_, _<_, _≤_};
@@ -6,9 +6,10 @@ ghost use lib.ListN.{length};
 ghost use Rattle.code.specs.Said.{Said, judge};
 ghost use Rattle.code.specs.Rows.{lookup, byRows, only, noByte};
 ghost use Rattle.code.specs.Registers.{registerRows, placesRows, shiftKind};
-ghost use Rattle.code.specs.inner.Parts.{registerAs};
+ghost use Rattle.code.specs.inner.Parts.{registerAs, beginsRegister, registerSize, registerBegun, chosenAs, behindOf};
 use alu::Change;
 use alu::Shift;
+use code::Chosen;
 use code::Found;
 use code::OfRegister;
 use code::Op;
@@ -16,6 +17,51 @@ use code::Operand;
 use code::Use;
 use little::Size;
 use number::arith_of;
+use state::named::is_named;
+
+// Whether a first byte begins a register form: C8 to CF, D8 to DF and E8 to EF, or C7, D7 and E7 with a code byte behind them.
+pub fn begins(b: u8) -> bool
+    ensures { λ r. ⌜ r ≡ beginsRegister b ⌝ }
+{
+    if b / 8 % 2 == 1 {
+        return (0xC8 <= b) & (b < 0xF0);
+    }
+    match b {
+        0xC7 | 0xD7 | 0xE7 => true,
+        _ => false,
+    }
+}
+
+// The size of such a form.
+pub fn size_by(b: u8) -> Size
+    ensures { λ r. ⌜ r ≡ registerSize b ⌝ }
+{
+    if 0xE0 <= b {
+        return Size::Long;
+    }
+    if 0xD0 <= b {
+        return Size::Word;
+    }
+    Size::Byte
+}
+
+// Its register, by the first byte alone or by the code byte after it.
+pub fn begin(code: &[u8], size: Size, b: u8) -> Chosen
+    ensures { λ r. ⌜ chosenAs r size (now (code .entry)) ≡ judge (registerBegun size b) (now (code .entry)) 1 ⌝ }
+    ensures { λ r. ⌜ behindOf r ≤ length (now (code .entry)) ⌝ }
+{
+    if b / 8 % 2 == 1 {
+        return Chosen::Register(Operand::Register(b % 8), 0);
+    }
+    if code.len() <= 1 {
+        return Chosen::Short;
+    }
+    let c = code[1];
+    if is_named(size, c) {
+        return Chosen::Register(Operand::Named(c), 1);
+    }
+    Chosen::Unlisted
+}
 
 // The kind of shift, by the low bits of its code.
 fn shift_of(n: u8) -> Shift

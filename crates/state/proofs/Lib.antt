@@ -1,6 +1,7 @@
 pub mod Sound
 pub mod Bits
 pub mod Laws
+pub mod Fields
 pub mod Valid
 pub mod Sr
 pub mod Names

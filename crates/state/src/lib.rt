@@ -8,6 +8,7 @@ use little::ADDRESSES;
 use little::Size;
 use little::TOP_BYTE;
 
+pub mod named;
 pub mod status;
 
 // A bank number: which of the four banks the codes 0 to 3 name.
