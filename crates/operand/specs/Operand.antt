@@ -4,10 +4,10 @@ use Rattle.answer.specs.declared.{Answer.Answer, Answer.the-variants.Done, Answ
 use Rattle.little.specs.{declared.Size.Size, declared.Size.the-variants.Long, Width.bytesOf}
 use Rattle.flags.specs.Width.{negative}
 use Rattle.memory.specs.{declared.Loaded.Loaded, declared.Loaded.the-variants.Value, Access.loadOf, Access.storeBytes, Access.ramBytes}
-use Rattle.state.specs.{declared.Bank.Bank, declared.State.State, Register.registerAt, Register.setRegister}
+use Rattle.state.specs.{declared.Bank.Bank, declared.State.State, Register.registerAt, Register.setRegister, Named.Named, Named.named, Named.none, Named.codeFor, Named.heldIn, Named.withHeld}
 use Rattle.code.specs.declared.{Base.Base, MemoryForm.MemoryForm, Operand.Operand}
 use Rattle.code.specs.declared.Base.the-variants.{Indirect, Displaced, Absolute8, Absolute16, Absolute24}
-use Rattle.code.specs.declared.Operand.the-variants.{Register, Constant, Memory}
+use Rattle.code.specs.declared.Operand.the-variants.{Register, Named, Constant, Memory}
 use Rattle.operand.specs.Try.{Try, did, no}
 
 -- x plus a number d of k bits with a sign, modulo 2^24: where its top bit is one, d stands for d less 2^k
@@ -36,9 +36,18 @@ addressIn registers bank m = addressFrom registers bank (m .base) (m .number)
 abbrev pub addressOf : State → MemoryForm → ℕ
 addressOf s m = addressIn (s .registers) (s .bank) m
 
+-- the part of the registers that an operand of a size is, and none where it is not there: a register 0 to 7 by the code that it has
+-- in state/Named, another one by its own
+unfoldable pub placed : Bank → Size → Operand → Named
+placed bank z (Register r) = named (bank .0 % 4) (bytesOf z) (codeFor z (r % 8))
+placed bank z (Named c) = named (bank .0 % 4) (bytesOf z) c
+placed bank z (Constant n) = none
+placed bank z (Memory m) = none
+
 -- the operand's value
 unfoldable pub valueIn : List ℕ → Bank → List ℕ → List ℕ → Size → Operand → Loaded
 valueIn registers bank ram rom z (Register r) = Value (registerAt registers bank z r)
+valueIn registers bank ram rom z (Named c) = Value (heldIn registers (named (bank .0 % 4) (bytesOf z) c))
 valueIn registers bank ram rom z (Constant n) = Value n
 valueIn registers bank ram rom z (Memory m) = loadOf ram rom (addressIn registers bank m) z
 
@@ -60,5 +69,6 @@ storing t ram rom a z v = storingBytes t ram rom a (bytesOf z) v
 -- a value put where the operand is
 abbrev pub putAt : State → List ℕ → List ℕ → Size → Operand → ℕ → Try
 putAt s ram rom z (Register r) v = did (setRegister s z r v) ram
+putAt s ram rom z (Named c) v = did (withHeld s (named (s .bank .0 % 4) (bytesOf z) c) v) ram
 putAt s ram rom z (Constant n) v = did s ram
 putAt s ram rom z (Memory m) v = storing s ram rom (addressOf s m) z v

@@ -3,12 +3,16 @@ ghost use mathlib.Core.Path.{_≡_};
 ghost use Prim.Native.Nat.{_-_, _^_};
 ghost use Rattle.little.specs.Width.{bitsOf};
 ghost use Rattle.operand.specs.Operand.{displaced, pointerIn, addressFrom};
+ghost use Rattle.operand.specs.inner.Placed.{fieldOf};
 ghost use Rattle.code.specs.Written.{registerIn, constantIn};
 use code::Base;
 use code::Operand;
 use little::ADDRESSES;
 use little::Size;
 use state::Bank;
+use state::named::Field;
+use state::named::of_code;
+use state::named::of_register;
 
 // The weight of the sign of a number of a size.
 fn sign(size: Size) -> u32
@@ -58,17 +62,32 @@ pub fn number_in(operand: Operand) -> u32
 {
     match operand {
         Operand::Register(_) => 0,
+        Operand::Named(_) => 0,
         Operand::Constant(n) => n,
         Operand::Memory(_) => 0,
     }
 }
 
-// The code of the register that an operand is; 0 where it is none.
+// Where the register begins that an operand is; past the twenty where it is none.
+pub fn field(bank: Bank, size: Size, operand: Operand) -> Field
+    ensures { λ f. ⌜ f ≡ fieldOf bank size operand ⌝ }
+{
+    let none = Field { index: 20, start: 0 };
+    match operand {
+        Operand::Register(r) => of_register(bank, size, r),
+        Operand::Named(c) => of_code(bank, c),
+        Operand::Constant(_) => none,
+        Operand::Memory(_) => none,
+    }
+}
+
+// The code, 0 to 7, of the register that an operand is; 0 where it is none.
 pub fn register_in(operand: Operand) -> u8
     ensures { λ r. ⌜ r ≡ registerIn operand ⌝ }
 {
     match operand {
         Operand::Register(r) => r,
+        Operand::Named(_) => 0,
         Operand::Constant(_) => 0,
         Operand::Memory(_) => 0,
     }

@@ -75,7 +75,7 @@ pub data Apart (t u : Slot) : Type 0 where
   below : startOf (u .part) + widthOf (u .part) ≤ startOf (t .part) → Apart t u
   above : startOf (t .part) + widthOf (t .part) ≤ startOf (u .part) → Apart t u
 
-part-apart :
+pub part-apart :
     (o k p q x v : ℕ) → (p + q ≤ o) ⊎ (o + k ≤ p) → getBits p q (setBits o k x v) ≡ getBits p q x
 part-apart o k p q x v (inl h) = get-below (o - (p + q)) o k p q x v (omega arith)
 part-apart o k p q x v (inr h) = get-above (p - (o + k)) o k p q x v (omega arith)

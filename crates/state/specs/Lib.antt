@@ -1,6 +1,7 @@
 pub mod State
 pub mod Register
 pub mod Named
+pub mod Naming
 pub mod Names
 pub mod Sound
 pub mod Sr

@@ -1,0 +1,206 @@
+-- The parts that codes name: the registers 0 to 7 among them, what a write leaves, and which of them overlap.
+use Prim.Native.Nat.{ℕ, _+_, _-_, _*_, _/_, _%_, _^_, _<_, _≤_}
+use mathlib.Core.Path.{_≡_, refl, sym, ap, _∙_}
+use mathlib.Core.Bool.{Bool, true, false, cond, _&&_, _||_}
+use mathlib.Core.List.{List}
+use mathlib.Core.Logic.{_⊎_, inl, inr, _↔_}
+use native.Mathlib.Omega.{arith}
+use lib.Dec.{ltb, leb, eqb}
+use borrow.Author.Tests.{le-ltb, le-leb, eq-eqb, eqb-true, eqb-false, ltb-true, ltb-false, leb-true, leb-false}
+use Rattle.little.specs.declared.Size.{Size}
+use Rattle.little.specs.declared.Size.the-variants.{Byte, Word, Long}
+use Rattle.little.specs.Width.{bitsOf, bytesOf}
+use Rattle.state.specs.declared.Bank.{Bank}
+use Rattle.state.specs.declared.State.{State}
+use Rattle.state.specs.declared.Part.the-variants.{Byte0, Byte1}
+use Rattle.state.specs.declared.named.Field.{Field}
+use Rattle.state.specs.State.{banked, longOf, withLong}
+use Rattle.state.specs.Register.{getBits, setBits, startOf, widthOf, slotOf, slotIn, setSlot, registerAt, setRegister}
+use Rattle.state.specs.Named.{sixteenOf, byteOf, isNamed, Named, bits, none, named, heldIn, withHeld, codeFor}
+use Rattle.state.specs.Sound.{Sound}
+use Rattle.state.specs.Naming.{byteIn, Names, Share, PlainNames, PartWrites, PartsOverlap, PartsApart}
+use Rattle.state.proofs.Bits.{get-set}
+use Rattle.state.proofs.Laws.{long-same, long-other, part-apart}
+use Rattle.state.proofs.Fields.{byte-field, long-field}
+
+-- ---- the registers 0 to 7
+current-named : (n c : ℕ) → 0xE0 ≤ c → c % n ≡ 0 → isNamed n c ≡ true
+current-named n c h e = rw (le-ltb c 0x40 (omega arith), le-leb 0xD0 c (omega arith), eq-eqb (c % n) 0 e) refl
+
+plain : (b : ℕ) (z : Size) (r : ℕ) → r < 8 → named b (bytesOf z) (codeFor z r) ≡ bits (slotOf b z r .index) (startOf (slotOf b z r .part)) (widthOf (slotOf b z r .part))
+unfolding named slotOf
+plain b Byte r h =
+    rw (current-named 1 (codeFor Byte r) (omega arith) (omega arith))
+    (ap (λ (f : Field). bits (f .index) (f .start) 8) (sym (byte-field b r h)) ∙ go (eqb (r % 2) 0) refl)
+  where
+    go : (t : Bool) → eqb (r % 2) 0 ≡ t → bits (4 * b + r / 2) (8 - 8 * (r % 2)) 8 ≡ bits (4 * b + r / 2) (startOf (cond t Byte1 Byte0)) (widthOf (cond t Byte1 Byte0))
+    go true e = ap (λ (o : ℕ). bits (4 * b + r / 2) o 8) (omega (arith, eqb-true (r % 2) 0 e))
+    go false e = ap (λ (o : ℕ). bits (4 * b + r / 2) o 8) (omega (arith, eqb-false (r % 2) 0 e))
+plain b Word r h =
+    rw (current-named 2 (codeFor Word r) (omega arith) (omega arith))
+    (ap (λ (f : Field). bits (f .index) (f .start) 16) (sym (long-field b r h)))
+plain b Long r h =
+    rw (current-named 4 (codeFor Long r) (omega arith) (omega arith))
+    (ap (λ (f : Field). bits (f .index) (f .start) 32) (sym (long-field b r h)))
+
+plain-code : (z : Size) (r : ℕ) → r < 8 → (codeFor z r < 256) × (isNamed (bytesOf z) (codeFor z r) ≡ true)
+plain-code Byte r h = (omega arith, current-named 1 (codeFor Byte r) (omega arith) (omega arith))
+plain-code Word r h = (omega arith, current-named 2 (codeFor Word r) (omega arith) (omega arith))
+plain-code Long r h = (omega arith, current-named 4 (codeFor Long r) (omega arith) (omega arith))
+
+plain-held : (registers : List ℕ) (bank : Bank) (z : Size) (r : ℕ) → registerAt registers bank z r ≡ heldIn registers (named (bank .0 % 4) (bytesOf z) (codeFor z (r % 8)))
+unfolding registerAt slotIn heldIn
+plain-held registers bank z r = rw (plain (bank .0 % 4) z (r % 8) (omega arith)) refl
+
+plain-put : (s : State) (z : Size) (r v : ℕ) → setRegister s z r v ≡ withHeld s (named (s .bank .0 % 4) (bytesOf z) (codeFor z (r % 8))) v
+unfolding setRegister setSlot withHeld
+plain-put s z r v = rw (plain (s .bank .0 % 4) z (r % 8) (omega arith)) refl
+
+pub plain-names : PlainNames
+plain-names bank z r = (
+  λ registers. plain-held registers bank z r,
+  λ s v e. rw (← e) (plain-put s z r v),
+)
+
+-- ---- where a named part lies: in one of the twenty, and within it
+sixteen-lt : (bank d : ℕ) → bank < 4 → d < 16 → (d < 4) ⊎ (13 ≤ d) → sixteenOf bank d < 5
+sixteen-lt bank d h l there = go (eqb d 0xD) (eqb d 0xE) (eqb d 0xF) refl refl refl there
+  where
+    go : (x y w : Bool) → eqb d 0xD ≡ x → eqb d 0xE ≡ y → eqb d 0xF ≡ w → (d < 4) ⊎ (13 ≤ d) → cond x ((bank + 3) % 4) (cond y bank (cond w 4 d)) < 5
+    go true y w e f g t = omega arith
+    go false true w e f g t = omega arith
+    go false false true e f g t = omega arith
+    go false false false e f g (inl t) = omega arith
+    go false false false e f g (inr t) = omega (arith, eqb-false d 0xD e, eqb-false d 0xE f, eqb-false d 0xF g)
+
+-- what the test says
+is-there : (n code : ℕ) → isNamed n code ≡ true → ((code < 0x40) ⊎ (0xD0 ≤ code)) × (code % n ≡ 0)
+is-there n code e = go (ltb code 0x40) (leb 0xD0 code) (eqb (code % n) 0) refl refl refl e
+  where
+    no : {A : Type 0} → _≡_ {A = Bool} false true → A
+    no e = let z : _≡_ {A = ℕ} 0 1 = cc in let y : ⊥ = omega arith in absurd y
+
+    go : (x y w : Bool) → ltb code 0x40 ≡ x → leb 0xD0 code ≡ y → eqb (code % n) 0 ≡ w → (x || y) && w ≡ true → ((code < 0x40) ⊎ (0xD0 ≤ code)) × (code % n ≡ 0)
+    go true y true e f g h = (inl (ltb-true code 0x40 e), eqb-true (code % n) 0 g)
+    go false true true e f g h = (inr (leb-true 0xD0 code f), eqb-true (code % n) 0 g)
+    go true y false e f g h = no h
+    go false true false e f g h = no h
+    go false false w e f g h = no h
+
+pub byte-lt : (bank : ℕ) (z : Size) (code : ℕ) → Names bank z code → byteOf bank code / 4 < 20
+unfolding byteOf
+byte-lt bank z code h =
+    let t = is-there (bytesOf z) code (h .2) in
+    let k : sixteenOf bank (code / 16) < 5 = sixteen-lt bank (code / 16) (h .0) (omega (arith, h .1)) (where-from (t .0)) in
+    omega arith
+  where
+    where-from : (code < 0x40) ⊎ (0xD0 ≤ code) → (code / 16 < 4) ⊎ (13 ≤ code / 16)
+    where-from (inl l) = inl (omega arith)
+    where-from (inr l) = inr (omega arith)
+
+pub within : (bank : ℕ) (z : Size) (code : ℕ) → isNamed (bytesOf z) code ≡ true → byteOf bank code % 4 + bytesOf z ≤ 4
+unfolding byteOf
+within bank Byte code h = omega arith
+within bank Word code h = omega (arith, is-there 2 code h .1)
+within bank Long code h = omega (arith, is-there 4 code h .1)
+
+eight-bytes : (z : Size) → 8 * bytesOf z ≡ bitsOf z
+eight-bytes Byte = refl
+eight-bytes Word = refl
+eight-bytes Long = refl
+
+is-bits : (bank : ℕ) (z : Size) (code : ℕ) → isNamed (bytesOf z) code ≡ true → named bank (bytesOf z) code ≡ bits (byteOf bank code / 4) (8 * (byteOf bank code % 4)) (8 * bytesOf z)
+unfolding named
+is-bits bank z code h = rw h refl
+
+-- a part that is named, by where it begins
+pub named-at :
+    (bank : ℕ) (z : Size) (code : ℕ) → Names bank z code →
+    (named bank (bytesOf z) code ≡ bits (byteOf bank code / 4) (8 * (byteOf bank code % 4)) (bitsOf z))
+    × (byteOf bank code / 4 < 20) × (8 * (byteOf bank code % 4) + bitsOf z ≤ 32)
+named-at bank z code h = (
+  is-bits bank z code (h .2) ∙ ap (bits (byteOf bank code / 4) (8 * (byteOf bank code % 4))) (eight-bytes z),
+  byte-lt bank z code h,
+  rw (← eight-bytes z) (omega (arith, within bank z code (h .2))),
+)
+
+pub plain-at :
+    (bank : ℕ) (z : Size) (r : ℕ) → bank < 4 → r < 8 →
+    (named bank (bytesOf z) (codeFor z r) ≡ bits (byteOf bank (codeFor z r) / 4) (8 * (byteOf bank (codeFor z r) % 4)) (bitsOf z))
+    × (byteOf bank (codeFor z r) / 4 < 20) × (8 * (byteOf bank (codeFor z r) % 4) + bitsOf z ≤ 32)
+plain-at bank z r h k = let c = plain-code z r k in named-at bank z (codeFor z r) (h, c .0, c .1)
+
+-- ---- what a write leaves
+bits-kept :
+    (s : State) (i o k v j p q : ℕ) → Sound s → i < 20 → (j ≡ i → (p + q ≤ o) ⊎ (o + k ≤ p)) →
+    getBits p q (longOf (withLong s i (setBits o k (longOf s i) v)) j) ≡ getBits p q (longOf s j)
+bits-kept s i o k v j p q ok h far = go (eqb j i) refl
+  where
+    go : (t : Bool) → eqb j i ≡ t → getBits p q (longOf (withLong s i (setBits o k (longOf s i) v)) j) ≡ getBits p q (longOf s j)
+    go true e = let f : j ≡ i = eqb-true j i e in rw (f, long-same s i (setBits o k (longOf s i) v) ok h) (part-apart o k p q (longOf s i) v (far f))
+    go false e = ap (getBits p q) (long-other s i j (setBits o k (longOf s i) v) (eqb-false j i e))
+
+written-back : (s : State) (i o k v : ℕ) → Sound s → i < 20 → heldIn (withHeld s (bits i o k) v .registers) (bits i o k) ≡ v % 2 ^ k
+unfolding heldIn withHeld longOf
+written-back s i o k v ok h = ap (getBits o k) (long-same s i (setBits o k (longOf s i) v) ok h) ∙ get-set o k (longOf s i) v
+
+held-kept : (s : State) (i o k v j p q : ℕ) → Sound s → i < 20 → (j ≡ i → (p + q ≤ o) ⊎ (o + k ≤ p)) → heldIn (withHeld s (bits i o k) v .registers) (bits j p q) ≡ heldIn (s .registers) (bits j p q)
+unfolding heldIn withHeld longOf
+held-kept s i o k v j p q ok h far = bits-kept s i o k v j p q ok h far
+
+-- of two parts, by the bytes of the eighty where they begin and how many they have: in one long they do not overlap where these do not
+lies-apart : (a n b m : ℕ) → a % 4 + n ≤ 4 → b % 4 + m ≤ 4 → (b + m ≤ a) ⊎ (a + n ≤ b) → b / 4 ≡ a / 4 → (8 * (b % 4) + 8 * m ≤ 8 * (a % 4)) ⊎ (8 * (a % 4) + 8 * n ≤ 8 * (b % 4))
+lies-apart a n b m h k (inl l) e = inl (omega arith)
+lies-apart a n b m h k (inr l) e = inr (omega arith)
+
+only-registers : (s : State) (t : Named) (v : ℕ) → withHeld s t v ≡ banked s (withHeld s t v .registers) (s .bank)
+unfolding withHeld withLong
+only-registers s (bits i o k) v = refl
+only-registers s none v = refl
+
+other-byte :
+    (s : State) (bank : ℕ) (z : Size) (code v : ℕ) → Sound s → Names bank z code → (i : ℕ) → (i < byteOf bank code) ⊎ (byteOf bank code + bytesOf z ≤ i) →
+    byteIn (withHeld s (named bank (bytesOf z) code) v .registers) i ≡ byteIn (s .registers) i
+unfolding heldIn
+other-byte s bank z code v ok h i far =
+    let a = byteOf bank code in
+    rw (is-bits bank z code (h .2))
+    (held-kept s (a / 4) (8 * (a % 4)) (8 * bytesOf z) v (i / 4) (8 * (i % 4)) 8 ok (byte-lt bank z code h)
+    (lies-apart a (bytesOf z) i 1 (within bank z code (h .2)) (omega arith) (one-byte far)))
+  where
+    one-byte : (i < byteOf bank code) ⊎ (byteOf bank code + bytesOf z ≤ i) → (i + 1 ≤ byteOf bank code) ⊎ (byteOf bank code + bytesOf z ≤ i)
+    one-byte (inl l) = inl (omega arith)
+    one-byte (inr l) = inr l
+
+read-back : (s : State) (bank : ℕ) (z : Size) (code v : ℕ) → Sound s → Names bank z code → heldIn (withHeld s (named bank (bytesOf z) code) v .registers) (named bank (bytesOf z) code) ≡ v % 2 ^ bitsOf z
+read-back s bank z code v ok h =
+    let a = byteOf bank code in
+    rw (is-bits bank z code (h .2), ← eight-bytes z)
+    (written-back s (a / 4) (8 * (a % 4)) (8 * bytesOf z) v ok (byte-lt bank z code h))
+
+pub part-writes : PartWrites
+part-writes s bank z code v ok h = (
+  read-back s bank z code v ok h,
+  other-byte s bank z code v ok h,
+  only-registers s (named bank (bytesOf z) code) v,
+)
+
+pub parts-apart : PartsApart
+parts-apart s bank z y c d v ok h k far =
+    let a = byteOf bank c in
+    let b = byteOf bank d in
+    rw (is-bits bank z c (h .2), is-bits bank y d (k .2))
+    (held-kept s (a / 4) (8 * (a % 4)) (8 * bytesOf z) v (b / 4) (8 * (b % 4)) (8 * bytesOf y) ok (byte-lt bank z c h)
+    (lies-apart a (bytesOf z) b (bytesOf y) (within bank z c (h .2)) (within bank y d (k .2)) far))
+
+-- ---- which of them overlap
+overlaps : (a n b m : ℕ) → a % 4 + n ≤ 4 → b % 4 + m ≤ 4 → Share (bits (a / 4) (8 * (a % 4)) (8 * n)) (bits (b / 4) (8 * (b % 4)) (8 * m)) ↔ ((a < b + m) × (b < a + n))
+overlaps a n b m h k = (
+  λ w. (omega (arith, w .0, w .1 .0, w .1 .1), omega (arith, w .0, w .1 .0, w .1 .1)),
+  λ w. (omega (arith, w .0, w .1), (omega (arith, w .0, w .1), omega (arith, w .0, w .1))),
+)
+
+pub parts-overlap : PartsOverlap
+parts-overlap bank z y c d h k =
+    rw (is-bits bank z c (h .2), is-bits bank y d (k .2))
+    (overlaps (byteOf bank c) (bytesOf z) (byteOf bank d) (bytesOf y) (within bank z c (h .2)) (within bank y d (k .2)))
