@@ -150,7 +150,7 @@ static void same_number(unsigned long is, unsigned long expected) {
 
 static void constants(void) {
     same_number(TLCS900H_VERSION_MAJOR, 3);
-    same_number(TLCS900H_VERSION_MINOR, 2);
+    same_number(TLCS900H_VERSION_MINOR, 3);
     same_number(TLCS900H_RECORD, 92);
     same_number(TLCS900H_OLD_RECORD, 88);
     same_number(TLCS900H_MEMORY, 65536);

@@ -6,7 +6,7 @@
 use crate::scene::{Scene, MOST};
 use second::Width;
 
-/// The most steps of a run. ROM has more places than this for six bytes, and
+/// The most steps of a run. ROM has more places than this for seven bytes, and
 /// RAM room for as many pushes, pops, RETIs and copied words.
 pub const STEPS: u32 = 8_000;
 
