@@ -41,6 +41,15 @@
  * the firmware sees is
  *   record[TLCS900H_BANK_SIZE * (record[TLCS900H_BANK] & 3) + TLCS900H_A]
  *
+ * Registers of every bank: behind C7, D7 or E7 stands a code byte, which names a byte, a word or a long. Its lowest byte stands
+ * in the record at this offset, where `bank` is the bank in use:
+ *   00H to 3FH   code: banks 0 to 3. 20H is RA2, RWA2 or XWA2, 21H is RW2, 22H is QA2 or QWA2, 23H is QW2
+ *   D0H to DFH   TLCS900H_BANK_SIZE * ((bank + 3) % 4) + code % 16: the bank before. D0H is A', WA' or XWA'
+ *   E0H to EFH   TLCS900H_BANK_SIZE * bank + code % 16: the bank in use. E0H is A, WA or XWA
+ *   F0H to FFH   TLCS900H_XIX + code % 16: what all banks share. F0H is IXL, IX or XIX
+ * A word needs an even code, a long a multiple of 4. 40H to CFH name no register. A code byte that names none is refused
+ * with 4.
+ *
  * The caller's part
  *   Every pointer is the caller's memory, lent for the length of the call. Each must be good for the length that follows
  *   it, and for writing where it is not const. A null pointer with length 0 is an empty memory, or a record of no bytes.
@@ -88,9 +97,11 @@ extern "C" {
  *   3.1  tlcs900h_request, and its number 9. PUSH SR (02), POP SR (03), EI (06, then 00 to 07) and RETI (07) are done, where
  *        they were refused with 4. The record has the nesting count at offset 88, where two zero bytes were
  *   3.2  tlcs900h_widen makes an old record of 88 bytes a new one; tlcs900h_narrow goes back, and has the number 10
+ *   3.3  C7, D7 and E7, each with a code byte that names a register of any bank, are done in place of C8 to CF, D8 to DF and
+ *        E8 to EF, where they were refused with 4. An instruction has 1 to 7 bytes, where it had 1 to 6: see tlcs900h_show
  */
 #define TLCS900H_VERSION_MAJOR 3
-#define TLCS900H_VERSION_MINOR 2
+#define TLCS900H_VERSION_MINOR 3
 
 #define TLCS900H_RECORD 92          /* the bytes of a record */
 #define TLCS900H_OLD_RECORD 88      /* the bytes of an old record, as it was before 3.0 */
@@ -223,7 +234,7 @@ uint8_t tlcs900h_request(uint8_t *record, size_t record_len, uint8_t *ram, size_
                          uint32_t level, uint32_t vector, uint8_t *taken, uint32_t *at);
 
 /*
- * Sets *length to the number of bytes (1 to 6) of the instruction at an address; the caller finds them there.
+ * Sets *length to the number of bytes (1 to 7) of the instruction at an address; the caller finds them there.
  * Looks for 1, then 2 (an address of 2^24 or more), then 3 or 4. After a refusal *length is 0.
  */
 uint8_t tlcs900h_show(const uint8_t *ram, size_t ram_len, const uint8_t *rom, size_t rom_len, uint32_t address, uint32_t *length);

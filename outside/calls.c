@@ -150,7 +150,7 @@ static void same_number(unsigned long is, unsigned long expected) {
 
 static void constants(void) {
     same_number(TLCS900H_VERSION_MAJOR, 3);
-    same_number(TLCS900H_VERSION_MINOR, 2);
+    same_number(TLCS900H_VERSION_MINOR, 3);
     same_number(TLCS900H_RECORD, 92);
     same_number(TLCS900H_OLD_RECORD, 88);
     same_number(TLCS900H_MEMORY, 65536);
@@ -348,9 +348,9 @@ static void request_once(struct size size) {
 
 static void requests(void) { every_length(request_once); }
 
-/* ---- instructions of 1 to 6 bytes, whole or cut off by the end of their memory; and codes that are not listed */
+/* ---- instructions of 1 to 7 bytes, whole or cut off by the end of their memory; and codes that are not listed */
 struct code {
-    uint8_t length, bytes[6];
+    uint8_t length, bytes[7];
 };
 
 static void show_end(struct lent *memory, uint32_t end, const uint8_t *bytes, uint8_t there, uint8_t number, uint8_t length) {
@@ -376,10 +376,27 @@ static void lengths(void) {
                                          {3, {0x31, 0x34, 0x12}},
                                          {4, {0x1D, 0x10, 0x20, 0x30}},
                                          {5, {0x43, 0x78, 0x56, 0x34, 0x12}},
-                                         {6, {0xE8, 0xC8, 0x78, 0x56, 0x34, 0x12}}};
-    static const struct code unlisted[] = {{1, {0x01}},       {1, {0x04}},       {1, {0x05}},
-                                           {1, {0x2F}},       {2, {0x17, 0x08}}, {2, {0x06, 0x08}},
-                                           {2, {0x06, 0xFF}}, {3, {0xC9, 0xEC, 0x10}}};
+                                         {6, {0xE8, 0xC8, 0x78, 0x56, 0x34, 0x12}},
+                                         {3, {0xC7, 0x20, 0x61}},
+                                         {3, {0xD7, 0xD2, 0x12}},
+                                         {4, {0xC7, 0x3F, 0xC8, 0x5A}},
+                                         {4, {0xE7, 0xFC, 0xEC, 0x0F}},
+                                         {5, {0xD7, 0xEE, 0xCF, 0x34, 0x12}},
+                                         {7, {0xE7, 0x20, 0xC8, 0x78, 0x56, 0x34, 0x12}}};
+    static const struct code unlisted[] = {{1, {0x01}},
+                                           {1, {0x04}},
+                                           {1, {0x05}},
+                                           {1, {0x2F}},
+                                           {2, {0x17, 0x08}},
+                                           {2, {0x06, 0x08}},
+                                           {2, {0x06, 0xFF}},
+                                           {3, {0xC9, 0xEC, 0x10}},
+                                           {2, {0xC7, 0x40}},
+                                           {2, {0xD7, 0x21}},
+                                           {2, {0xE7, 0x22}},
+                                           {3, {0xC7, 0x20, 0x12}},
+                                           {3, {0xE7, 0x20, 0x20}},
+                                           {4, {0xD7, 0x20, 0xEC, 0x10}}};
     size_t i;
     uint8_t there;
     for (i = 0; i < COUNT(listed); i++)
@@ -423,8 +440,14 @@ static void refusals(void) {
     static const uint8_t load_two[6] = {0xE1, 0xFE, 0x00, 0x20};         /* LD XWA,(00FEH), half of it in RAM */
     static const uint8_t load_top[6] = {0xE2, 0xFE, 0xFF, 0xFF, 0x20};  /* LD XWA,(FFFFFEH): two bytes of ROM, then 000000H */
     static const uint8_t load_below[6] = {0xD2, 0xFF, 0xFE, 0xFF, 0x20}; /* LD WA,(FFFEFFH), half of it in ROM */
+    static const uint8_t no_byte[6] = {0xC7, 0x40, 0x61};                /* INC 1, of no register */
+    static const uint8_t no_word[6] = {0xD7, 0x21, 0x61};
+    static const uint8_t no_long[6] = {0xE7, 0x22, 0x61};
     refused(0x8000, unlisted, 3, 0);
     refused(0, unlisted, 4, 0);
+    refused(0, no_byte, 4, 0);
+    refused(0, no_word, 4, 0);
+    refused(0, no_long, 4, 0);
     refused(0, load, 5, 0x8000);
     refused(0, load_half, 5, 0x100);
     refused(0, load_two, 5, 0x100);
@@ -507,6 +530,120 @@ static void changes(void) {
         put(kept(&record) + 80, 4, 2);
         kept(&record)[85] = (uint8_t)(0xD8 | ldf[1] % 4);
         held("step", step(), 0);
+    }
+}
+
+/* ---- C7, D7 and E7, and behind them a code byte that names a register of any bank, or none */
+static void name(uint8_t *instruction, int bytes, int code) {
+    instruction[0] = bytes == 1 ? 0xC7 : bytes == 2 ? 0xD7 : 0xE7;
+    instruction[1] = (uint8_t)code;
+}
+
+/* Where it stands in the record, as the header says; -1 for none of so many bytes. */
+static int named_at(int code, int bytes, int bank) {
+    int low = code % 16;
+    if (code % bytes != 0) return -1;
+    if (code < 0x40) return code;
+    if (code < 0xD0) return -1;
+    if (code < 0xE0) return TLCS900H_BANK_SIZE * ((bank + 3) % 4) + low;
+    if (code < 0xF0) return TLCS900H_BANK_SIZE * bank + low;
+    return TLCS900H_XIX + low;
+}
+
+/* So many bytes of an instruction, the last that RAM has. */
+static void lend_end(const uint8_t *bytes, int there, int bank) {
+    lend(&ram, small);
+    lend(&rom, small);
+    lend_record(whole, (uint32_t)(256 - there));
+    record.bytes[GUARD + 85] = (uint8_t)(0xD8 | bank);
+    memcpy(ram.bytes + GUARD + 256 - there, bytes, (size_t)there);
+}
+
+/* LD r,n: the whole of it, and in bank 0 what is left where RAM ends sooner. */
+static void load_named(int code, int bytes, int bank) {
+    uint8_t load[7] = {0, 0, 0x03, 0x9A, 0xBC, 0xDE, 0xF1};
+    int to = named_at(code, bytes, bank), length = 3 + bytes, there;
+    name(load, bytes, code);
+    for (there = bank == 0 ? 1 : length; there <= length; there++) {
+        uint8_t number = there > 1 && to < 0 ? 4 : there < length ? 3 : 0;
+        lend_end(load, there, bank);
+        keep();
+        kept_word = number == 0 ? (uint32_t)length : 0;
+        held("show", show((uint32_t)(256 - there)), number);
+        if (number == 0) {
+            memcpy(kept(&record) + to, load + 3, (size_t)bytes);
+            put(kept(&record) + 80, 4, 256);
+        }
+        held("step", step(), number);
+    }
+}
+
+/* LD R,r by 89H and LD r,R by 99H, where R is A, BC or XBC of the bank in use. */
+static void move_named(int code, int bytes, int bank, uint8_t last) {
+    uint8_t move[3];
+    int named = named_at(code, bytes, bank), other = TLCS900H_BANK_SIZE * bank + (bytes == 1 ? TLCS900H_A : TLCS900H_XBC);
+    int from = last == 0x89 ? named : other, to = last == 0x89 ? other : named;
+    name(move, bytes, code);
+    move[2] = last;
+    lend_end(move, 3, bank);
+    keep();
+    memcpy(kept(&record) + to, record.bytes + GUARD + from, (size_t)bytes);
+    put(kept(&record) + 80, 4, 256);
+    held("step", step(), 0);
+}
+
+static void named_registers(void) {
+    int code, bytes, bank;
+    for (code = 0; code < 256; code++)
+        for (bytes = 1; bytes <= 4; bytes *= 2)
+            for (bank = 0; bank < 4; bank++) {
+                load_named(code, bytes, bank);
+                if (named_at(code, bytes, bank) < 0) continue;
+                move_named(code, bytes, bank, 0x89);
+                move_named(code, bytes, bank, 0x99);
+            }
+}
+
+/* What an instruction makes of some bytes of the record, and the flags and marks that it leaves. */
+struct work {
+    struct code code;
+    uint8_t to, bytes;
+    uint32_t before, after;
+    uint8_t f, marks;
+};
+
+/* In bank 2, with all flags 1 before. XWA of bank 0 is 1. */
+static void work_held(const struct work *w, int by_run) {
+    lend_end(w->code.bytes, w->code.length, 2);
+    put(record.bytes + GUARD, 4, 1);
+    put(record.bytes + GUARD + w->to, w->bytes, w->before);
+    keep();
+    put(kept(&record) + w->to, w->bytes, w->after);
+    put(kept(&record) + 80, 4, 256);
+    kept(&record)[84] = w->f;
+    kept(&record)[TLCS900H_MARKS] = w->marks;
+    if (by_run) kept_word = 1;
+    held(by_run ? "run" : "step", by_run ? run(1) : step(), 0);
+}
+
+static void named_work(void) {
+    static const struct work list[] = {
+        {{3, {0xC7, 0x20, 0x61}}, 32, 1, 0x7F, 0x80, 0x95, 0},                                      /* INC 1,RA2 */
+        {{3, {0xC7, 0x20, 0x81}}, 32, 1, 0x40, 0x80, 0x84, 0},                                      /* ADD A,RA2: both are A */
+        {{4, {0xC7, 0x33, 0xC8, 0x01}}, 51, 1, 0xFF, 0x00, 0x51, 0},                                /* ADD QW3,1 */
+        {{4, {0xC7, 0xF1, 0xCC, 0x0F}}, 65, 1, 0x5A, 0x0A, 0x14, 0},                                /* AND IXH,0FH */
+        {{3, {0xD7, 0x00, 0x80}}, 32, 2, 0x7FFF, 0x8000, 0x94, 0},                                  /* ADD WA,RWA0 */
+        {{3, {0xD7, 0xD2, 0x69}}, 18, 2, 0x0000, 0xFFFF, 0xD7, 0},                                  /* DEC 1,QWA': bank 1 */
+        {{3, {0xD7, 0xE2, 0x13}}, 34, 2, 0x1280, 0xFF80, 0xD7, 0},                                  /* EXTS QWA */
+        {{4, {0xD7, 0x3E, 0xEC, 0x04}}, 62, 2, 0x1234, 0x2340, 0x05, 0},                            /* SLA 4,QHL3 */
+        {{4, {0xE7, 0x0C, 0xEF, 0x04}}, 12, 4, 0x80000018, 0x08000001, 0x01, 2},                    /* SRL 4,XHL0 */
+        {{7, {0xE7, 0x20, 0xC8, 0x78, 0x56, 0x34, 0x12}}, 32, 4, 0xF0000000, 0x02345678, 0x01, 1},  /* ADD XWA2,n */
+        {{7, {0xE7, 0x38, 0xCF, 0x78, 0x56, 0x34, 0x12}}, 56, 4, 0x12345678, 0x12345678, 0x42, 1},  /* CP XDE3,n */
+        {{7, {0xE7, 0xFC, 0x03, 0x98, 0xBA, 0xDC, 0xFE}}, 76, 4, 0x00000100, 0xFEDCBA98, 0xD7, 0}}; /* LD XSP,n */
+    size_t i;
+    for (i = 0; i < COUNT(list); i++) {
+        work_held(&list[i], 0);
+        work_held(&list[i], 1);
     }
 }
 
@@ -1122,6 +1259,8 @@ int main(void) {
     group("a copy without its source or its target", copies);
     group("constants loaded into every register of every bank", registers);
     group("a store, F and F' exchanged, LDF 0 to 7", changes);
+    group("every code byte behind C7, D7 and E7, in every bank", named_registers);
+    group("work on registers of every bank", named_work);
     group("a run that stops, and the longest", stops);
     group("what sets, clears, keeps and exchanges the marks", mark_changes);
     group("jumps, PUSH F and PUSH SR that read a marked flag", mark_refusals);

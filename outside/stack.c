@@ -1,9 +1,11 @@
 /*
- * How much stack each call takes: it is called on a painted stack, and what is no longer paint was used. Every first byte of
- * an instruction is tried with every byte behind it, and with every byte behind one, two and three others, which are 0; from RAM and from
- * ROM; with registers that point to RAM, to ROM and to neither; with H and V of F and F' marked, and with no mark. Requests of every
- * level have their vector in RAM, in ROM and in neither. Records that are moved are good ones, of which the old form holds some, and such as
- * are cut short. The header names a bound; the last line counts the calls that keep below it.
+ * How much stack each call takes: it is called on a painted stack, and what is no longer paint was used. Every first byte of an
+ * instruction is tried with every byte behind it, and with every byte behind one, two and three others, which are 0; behind C7,
+ * D7 and E7 the first of these is also the code of a register of bank 2, of the bank before, of the bank in use and of all
+ * banks; from RAM and from ROM; with registers that point to RAM, to ROM and to neither; with H and V of F and F' marked, and
+ * with no mark. Requests of every level have their vector in RAM, in ROM and in neither. Records that are moved are good ones,
+ * of which the old form holds some, and such as are cut short. The header names a bound; the last line counts the calls that
+ * keep below it.
  * Stack that is set aside and never written is not seen. For x86-64.
  */
 #define _XOPEN_SOURCE 700
@@ -76,13 +78,14 @@ static void put(uint8_t *to, uint32_t value) {
 }
 
 /* A case for every byte `behind` bytes behind the first one. */
-static void prepare(int first, int behind, int in_rom, uint32_t pointer) {
+static void prepare(int first, int second, int behind, int in_rom, uint32_t pointer) {
     counter = in_rom ? 0xFFFF10 : 0x10;
     memset(rams, 0, sizeof rams);
     memset(roms, 0, sizeof roms);
     for (int i = 0; i < CASES; i++) {
         uint8_t *code = (in_rom ? roms : rams)[i] + 0x10;
         code[0] = (uint8_t)first;
+        code[1] = (uint8_t)second;
         code[1 + behind] = (uint8_t)i;
         put(roms[i], counter);
         for (int r = TLCS900H_XWA; r <= TLCS900H_XSP; r += 4) put(records[i] + r, pointer);
@@ -107,17 +110,30 @@ static size_t taken(void (*call)(void), int paint) {
     return (size_t)(top - space) - clean;
 }
 
-/* The most that it takes for every kind of instruction. */
-static size_t most(void (*call)(void)) {
+/* The most that it takes for a first and a second byte, with every byte in place of the second and behind it. */
+static size_t most_of(void (*call)(void), int first, int second) {
     static const uint32_t pointers[] = {0x00000080, 0x00FFFF80, 0x00800000};
     size_t deepest = 0;
-    for (int first = 0; first < 256; first++)
-        for (int round = 0; round < 24; round++) {
-            size_t bytes;
-            prepare(first, round % 4, round / 4 % 2, pointers[round / 8]);
-            bytes = taken(call, first % 2 ? 0xA5 : 0x5A);
+    for (int round = 0; round < 24; round++) {
+        size_t bytes;
+        prepare(first, second, round % 4, round / 4 % 2, pointers[round / 8]);
+        bytes = taken(call, first % 2 ? 0xA5 : 0x5A);
+        if (bytes > deepest) deepest = bytes;
+    }
+    return deepest;
+}
+
+/* The most that it takes for every kind of instruction. */
+static size_t most(void (*call)(void)) {
+    static const uint8_t codes[] = {0x00, 0x2C, 0xD8, 0xE4, 0xF0}; /* of longs, so that they name a word and a byte too */
+    size_t deepest = 0;
+    for (int first = 0; first < 256; first++) {
+        int named = first == 0xC7 || first == 0xD7 || first == 0xE7;
+        for (size_t i = 0; i < (named ? sizeof codes : 1); i++) {
+            size_t bytes = most_of(call, first, codes[i]);
             if (bytes > deepest) deepest = bytes;
         }
+    }
     return deepest;
 }
 

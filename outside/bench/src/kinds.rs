@@ -4,14 +4,15 @@
 //! before ROM does: there is no jump back, and nothing else is counted.
 
 use crate::scene::{Scene, MOST};
-use second::Width;
+use second::{Machine, Width};
 
-/// The most steps of a run. ROM has more places than this for six bytes, and
+/// The most steps of a run. ROM has more places than this for seven bytes, and
 /// RAM room for as many pushes, pops, RETIs and copied words.
 pub const STEPS: u32 = 8_000;
 
 /// One line a kind: its code, where it has no size; else that for bytes, that
-/// for words and that for longs, where there is one.
+/// for words and that for longs, where there is one. With (C7) the register r is
+/// named by a byte behind C7, D7 or E7: of bank 2, or of the bank before for r'.
 const KINDS: &str = "
     NOP           | 00
     RCF           | 10
@@ -50,6 +51,13 @@ const KINDS: &str = "
     SLA 1,r       | CA EC 01       | DA EC 01       | EA EC 01
     SLA 4,r       | CA EC 04       | DA EC 04       | EA EC 04
     SLA 16,r      | CA EC 00       | DA EC 00       | EA EC 00
+    LD R,r (C7)   | C7 25 8B       | D7 28 8B       | E7 28 8B
+    LD R,r' (C7)  | C7 D5 8B       | D7 D8 8B       | E7 D8 8B
+    LD r,R (C7)   | C7 25 9B       | D7 28 9B       | E7 28 9B
+    INC 1,r (C7)  | C7 25 61       | D7 28 61       | E7 28 61
+    ADD R,r (C7)  | C7 25 83       | D7 28 83       | E7 28 83
+    ADD r,n (C7)  | C7 25 C8 5A    | D7 28 C8 5A A5 | E7 28 C8 5A A5 3C C3
+    SLA 4,r (C7)  | C7 25 EC 04    | D7 28 EC 04    | E7 28 EC 04
     LD R,(R)      | 84 23          | 94 23          | A4 23
     LD R,(R+d8)   | 8C 04 23       | 9C 04 23       | AC 04 23
     LD R,(n8)     | C0 40 23       | D0 40 23       | E0 40 23
@@ -79,6 +87,10 @@ const LONGS: [(u8, u32); 6] = [
     (4, 0x0000_4000),
     (7, 0x0000_8000),
 ];
+
+/// Banks 2 and 3 hold the same as bank 0, the current one, so that a kind with
+/// (C7) differs from the one without in the name of r alone.
+const OTHER_BANKS: [u8; 2] = [2, 3];
 
 /// RETI pops six bytes a step: more than RAM has above where the stack stands
 /// for the others. Among them is the byte that says which 64 KiB it goes to.
@@ -130,6 +142,9 @@ impl Code {
     pub fn scene(&self) -> Scene {
         let rom = self.bytes.iter().copied().cycle().take(MOST).collect();
         let mut scene = Scene::new(rom, &LONGS);
+        for bank in OTHER_BANKS {
+            fill(&mut scene.machine, bank);
+        }
         if self.bytes == RETI {
             lay_returns(&mut scene);
         }
@@ -145,6 +160,15 @@ impl Code {
                 && second::step(&mut scene.machine, &mut scene.ram, &scene.rom) == (0, 0)
         })
     }
+}
+
+/// Sets the registers in another bank; the current one stays the current one.
+fn fill(machine: &mut Machine, bank: u8) {
+    let current = std::mem::replace(&mut machine.bank, bank);
+    for (code, value) in LONGS {
+        machine.set(Width::Long, code, value);
+    }
+    machine.bank = current;
 }
 
 /// A stack from which every RETI goes on in ROM.
