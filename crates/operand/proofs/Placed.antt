@@ -12,7 +12,8 @@ use Rattle.state.specs.declared.Bank.{Bank}
 use Rattle.state.specs.declared.State.{State}
 use Rattle.state.specs.declared.named.Field.{Field}
 use Rattle.state.specs.State.{banked, withLong, longOf}
-use Rattle.state.specs.Named.{byteOf, isNamed, Named, bits, none, named, heldIn, withHeld, codeFor}
+use Rattle.state.specs.Register.{registerAt, setRegister}
+use Rattle.state.specs.Named.{byteOf, isNamed, Bits, bits, none, named, heldIn, withHeld, codeFor}
 use Rattle.state.specs.inner.Field.{fieldIn, PutWithin}
 use Rattle.state.proofs.Fields.{start-stays}
 use Rattle.state.proofs.Naming.{plain-names, named-at, plain-at}
@@ -40,13 +41,26 @@ chosen-at bank z (Constant n) h = absurd h
 chosen-at bank z (Memory m) h = absurd h
 
 -- what a part that is there holds, and what it leaves
-held-at : (registers : List ℕ) (z : Size) (f : Field) (t : Named) → t ≡ bits (f .index) (f .start) (bitsOf z) → f .index < 20 → f .start + bitsOf z ≤ 32 → heldIn registers t ≡ fieldIn registers z f
+held-at : (registers : List ℕ) (z : Size) (f : Field) (t : Bits) → t ≡ bits (f .index) (f .start) (bitsOf z) → f .index < 20 → f .start + bitsOf z ≤ 32 → heldIn registers t ≡ fieldIn registers z f
 unfolding heldIn fieldIn
 held-at registers z f t e k w = rw (e, lt-ltb (f .index) 20 k, start-stays z (f .start) w) refl
 
-put-there : (s : State) (z : Size) (f : Field) (t : Named) (v : ℕ) (after : List ℕ) → t ≡ bits (f .index) (f .start) (bitsOf z) → f .index < 20 → f .start + bitsOf z ≤ 32 → PutWithin (s .registers) after z f v → withHeld s t v ≡ banked s after (s .bank)
+put-there : (s : State) (z : Size) (f : Field) (t : Bits) (v : ℕ) (after : List ℕ) → t ≡ bits (f .index) (f .start) (bitsOf z) → f .index < 20 → f .start + bitsOf z ≤ 32 → PutWithin (s .registers) after z f v → withHeld s t v ≡ banked s after (s .bank)
 unfolding withHeld withLong longOf
 put-there s z f t v after e k w p = rw (e, p k w) refl
+
+-- a register 0 to 7, read and written
+pub register-held : (registers : List ℕ) (bank : Bank) (z : Size) (r : ℕ) → registerAt registers bank z r ≡ fieldIn registers z (fieldOf bank z (Register r))
+unfolding placed
+register-held registers bank z r =
+    let a = register-at bank z r in
+    plain-names bank z r .0 registers ∙ held-at registers z (fieldOf bank z (Register r)) _ (a .there) (a .known) (a .within)
+
+pub register-put : (s : State) (z : Size) (r v : ℕ) (after : List ℕ) → PutWithin (s .registers) after z (fieldOf (s .bank) z (Register r)) v → setRegister s z r v ≡ banked s after (s .bank)
+unfolding placed
+register-put s z r v after p =
+    let a = register-at (s .bank) z r in
+    plain-names (s .bank) z r .1 s v refl ∙ put-there s z (fieldOf (s .bank) z (Register r)) _ v after (a .there) (a .known) (a .within) p
 
 nothing : {A : Type 0} (i o k : ℕ) → none ≡ bits i o k → A
 nothing i o k e = let z : _≡_ {A = ℕ} 0 1 = cc in let y : ⊥ = omega arith in absurd y

@@ -16,7 +16,7 @@ use Rattle.state.specs.declared.Part.the-variants.{Byte0, Byte1}
 use Rattle.state.specs.declared.named.Field.{Field}
 use Rattle.state.specs.State.{banked, longOf, withLong}
 use Rattle.state.specs.Register.{getBits, setBits, startOf, widthOf, slotOf, slotIn, setSlot, registerAt, setRegister}
-use Rattle.state.specs.Named.{sixteenOf, byteOf, isNamed, Named, bits, none, named, heldIn, withHeld, codeFor}
+use Rattle.state.specs.Named.{sixteenOf, byteOf, isNamed, Bits, bits, none, named, heldIn, withHeld, codeFor}
 use Rattle.state.specs.Sound.{Sound}
 use Rattle.state.specs.Naming.{byteIn, Names, Share, PlainNames, PartWrites, PartsOverlap, PartsApart}
 use Rattle.state.proofs.Bits.{get-set}
@@ -153,7 +153,7 @@ lies-apart : (a n b m : ℕ) → a % 4 + n ≤ 4 → b % 4 + m ≤ 4 → (b + m 
 lies-apart a n b m h k (inl l) e = inl (omega arith)
 lies-apart a n b m h k (inr l) e = inr (omega arith)
 
-only-registers : (s : State) (t : Named) (v : ℕ) → withHeld s t v ≡ banked s (withHeld s t v .registers) (s .bank)
+only-registers : (s : State) (t : Bits) (v : ℕ) → withHeld s t v ≡ banked s (withHeld s t v .registers) (s .bank)
 unfolding withHeld withLong
 only-registers s (bits i o k) v = refl
 only-registers s none v = refl

@@ -19,20 +19,20 @@ abbrev pub isNamed : ℕ → ℕ → Bool
 isNamed n code = (ltb code 0x40 || leb 0xD0 code) && eqb (code % n) 0
 
 -- a part of the registers: which of the twenty longs, its first bit there, and how many bits; or none
-pub data Named : Type 0 where
-  bits : ℕ → ℕ → ℕ → Named
-  none : Named
+pub data Bits : Type 0 where
+  bits : ℕ → ℕ → ℕ → Bits
+  none : Bits
 
 -- what a code names that has n bytes, where a bank is the current one: those bytes of the eighty
-unfoldable pub named : ℕ → ℕ → ℕ → Named
+unfoldable pub named : ℕ → ℕ → ℕ → Bits
 named bank n code = cond (isNamed n code) (bits (byteOf bank code / 4) (8 * (byteOf bank code % 4)) (8 * n)) none
 
 -- what it holds, among twenty longs, and the state with v written to it; none holds 0 and is not written
-unfoldable pub heldIn : List ℕ → Named → ℕ
+unfoldable pub heldIn : List ℕ → Bits → ℕ
 heldIn registers (bits i o k) = getBits o k (getD registers i 0)
 heldIn registers none = 0
 
-unfoldable pub withHeld : State → Named → ℕ → State
+unfoldable pub withHeld : State → Bits → ℕ → State
 withHeld s (bits i o k) v = withLong s i (setBits o k (longOf s i) v)
 withHeld s none v = s
 

@@ -3,7 +3,7 @@ use Rattle.little.specs.Words.{ℕ, _+_, _*_, _/_, _%_, _^_, _<_, _≤_, _≡_,
 use Rattle.little.specs.{declared.Size.Size, Width.bytesOf, Width.bitsOf}
 use Rattle.state.specs.declared.{Bank.Bank, State.State}
 use Rattle.state.specs.{State.banked, Register.getBits, Register.registerAt, Register.setRegister, Sound.Sound}
-use Rattle.state.specs.Named.{byteOf, isNamed, Named, bits, none, named, heldIn, withHeld, codeFor}
+use Rattle.state.specs.Named.{byteOf, isNamed, Bits, bits, none, named, heldIn, withHeld, codeFor}
 
 -- byte i of the eighty
 abbrev pub byteIn : List ℕ → ℕ → ℕ
@@ -24,7 +24,7 @@ PartWrites =
     × (after ≡ banked s (after .registers) (s .bank))
 
 -- two parts share a bit
-abbrev pub Share : Named → Named → Type 0
+abbrev pub Share : Bits → Bits → Type 0
 Share (bits i o k) (bits j p l) = (i ≡ j) × ((o < p + l) × (p < o + k))
 Share (bits i o k) none = ⊥
 Share none t = ⊥

@@ -10,7 +10,7 @@ write-requires : tie.Need-write-requires
 write-requires c κs = search needs
 
 returns : tie.Need-returns
-returns c rest = rw (c .write .ensures rest, c .before .before .read .ensures) refl
+returns c = rw (← c .before .before .read .ensures) (c .write .ensures .1)
 
 pub load-spec : {M : Type 1} → statement M
 load-spec = tie.close (tie.spec read-requires write-requires returns)

@@ -1,12 +1,11 @@
-use mathlib.Core.Path.{refl, sym, _∙_}
-use Rattle.state.specs.State.{withFlags, withBothFlags}
-use Rattle.state.specs.inner.Lent.{flaggedAt}
-use Rattle.operand.specs.Operand.{valueIn}
-use Rattle.operand.specs.Flag.{flagged}
-use Rattle.compute.specs.Compute.{putsOf}
+use mathlib.Core.Path.{sym, _∙_}
+use Rattle.compute.proofs.Registers.{operated-there, operated-kept}
 use borrow.Author.Needs.{needs}
 use Rattle.compute.proofs.register.operate.Statement.{statement}
 use Rattle.compute.proofs.register.operate.Tie as tie
+
+of-register-requires : tie.Need-of-register-requires
+of-register-requires c κs = search needs
 
 read-requires : tie.Need-read-requires
 read-requires c κs = search needs
@@ -24,12 +23,35 @@ write-requires : tie.Need-write-requires
 write-requires c κs = search needs
 
 returns : tie.Need-returns
-unfolding putsOf valueIn flagged withFlags withBothFlags
-returns c rest ram rom = rw (c .write .ensures (flaggedAt rest (rest .counter) (c .before .before .before .before .operate .last .1 .1 .1 .1 .0)), sym (c .before .before .before .stores .ensures) ∙ c .before .before .if1 .taken, c .before .before .before .before .operate .ensures .0, c .before .before .before .before .operate .ensures .1, c .before .before .before .before .before .before .before .before .read .ensures, c .before .before .before .before .before .before .read2 .ensures) refl
+returns c o there rest ram rom =
+    let a = c .before .before .before .before .before .before .before .before .before .before .before .args in
+    let done = c .before .before .before .before .operate in
+    let read = c .before .before .before .before .before .before .before .before .read in
+    let other = c .before .before .before .before .before .before .read2 in
+    let to = c .before .before .before .before .before .before .before .before .before .before .of-register in
+    operated-there (a .size) o (a .r) (to .result) (a .bank) there (a .n) (to .ensures) rest (a .regs .now) (a .flags .now) ram rom
+    (a .op) (read .result) (other .result) (done .result) _ (c .write .last .0) (read .ensures) (other .ensures)
+    (sym (c .before .before .before .stores .ensures) ∙ c .before .before .if1 .taken) (done .ensures .0) (done .ensures .1) (c .write .ensures .1)
 
 returns-2 : tie.Need-returns-2
-unfolding putsOf valueIn flagged withFlags withBothFlags
-returns-2 c rest ram rom = rw (sym (c .before .stores .ensures) ∙ c .if1 .left, c .before .before .operate .ensures .1, c .before .before .before .before .before .before .read .ensures, c .before .before .before .before .read2 .ensures) refl
+returns-2 c o there rest ram rom =
+    let a = c .before .before .before .before .before .before .before .before .before .args in
+    let done = c .before .before .operate in
+    let read = c .before .before .before .before .before .before .read in
+    let other = c .before .before .before .before .read2 in
+    let to = c .before .before .before .before .before .before .before .before .of-register in
+    operated-kept (a .size) o (a .r) (to .result) (a .bank) there (a .n) (to .ensures) rest (a .regs .now) (a .flags .now) ram rom
+    (a .op) (read .result) (other .result) _ (read .ensures) (other .ensures) (sym (c .before .stores .ensures) ∙ c .if1 .left) (done .ensures .1)
 
 pub operate-spec : {M : Type 1} → statement M
-operate-spec = tie.close (tie.spec read-requires read-requires-2 operate-requires stores-requires write-requires returns returns-2)
+operate-spec =
+    tie.close
+    (tie.spec
+    of-register-requires
+    read-requires
+    read-requires-2
+    operate-requires
+    stores-requires
+    write-requires
+    returns
+    returns-2)

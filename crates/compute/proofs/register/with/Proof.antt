@@ -1,9 +1,5 @@
-use mathlib.Core.Path.{refl, sym, _∙_}
-use Rattle.state.specs.State.{withFlags, withBothFlags}
-use Rattle.state.specs.inner.Lent.{flaggedAt}
-use Rattle.operand.specs.Operand.{valueIn}
-use Rattle.operand.specs.Flag.{flagged}
-use Rattle.compute.specs.Compute.{putsOf}
+use mathlib.Core.Path.{sym, _∙_}
+use Rattle.compute.proofs.Registers.{with-there, with-kept}
 use borrow.Author.Needs.{needs}
 use Rattle.compute.proofs.register.with.Statement.{statement}
 use Rattle.compute.proofs.register.with.Tie as tie
@@ -21,12 +17,23 @@ write-requires : tie.Need-write-requires
 write-requires c κs = search needs
 
 returns : tie.Need-returns
-unfolding putsOf valueIn flagged withFlags withBothFlags
-returns c rest ram rom = rw (c .write .ensures (flaggedAt rest (rest .counter) (c .before .before .before .before .operate .last .1 .1 .1 .1 .0)), sym (c .before .before .before .stores .ensures) ∙ c .before .before .if1 .taken, c .before .before .before .before .operate .ensures .0, c .before .before .before .before .operate .ensures .1, c .before .before .before .before .before .before .read .ensures) refl
+returns c o bank there rest ram rom =
+    let a = c .before .before .before .before .before .before .before .before .args in
+    let done = c .before .before .before .before .operate in
+    let read = c .before .before .before .before .before .before .read in
+    with-there (a .size) o (a .r) bank there rest (a .regs .now) (a .flags .now) ram rom
+    (read .result) (done .result) _ (c .write .last .0) (read .ensures) (c .write .ensures .1)
+    (a .op) (a .n) (sym (c .before .before .before .stores .ensures) ∙ c .before .before .if1 .taken) (done .ensures .0) (done .ensures .1)
 
 returns-2 : tie.Need-returns-2
-unfolding putsOf valueIn flagged withFlags withBothFlags
-returns-2 c rest ram rom = rw (sym (c .before .stores .ensures) ∙ c .if1 .left, c .before .before .operate .ensures .1, c .before .before .before .before .read .ensures) refl
+returns-2 c o bank there rest ram rom =
+    let a = c .before .before .before .before .before .before .args in
+    let done = c .before .before .operate in
+    let read = c .before .before .before .before .read in
+    with-kept (a .size) o (a .r) bank there rest (a .regs .now) (a .flags .now) ram rom
+    (read .result) _ (read .ensures) (a .op) (a .n) (sym (c .before .stores .ensures) ∙ c .if1 .left) (done .ensures .1)
 
 pub with-spec : {M : Type 1} → statement M
-with-spec = tie.close (tie.spec read-requires operate-requires stores-requires write-requires returns returns-2)
+with-spec =
+    tie.close
+    (tie.spec read-requires operate-requires stores-requires write-requires returns returns-2)

@@ -1,0 +1,98 @@
+-- What is put where the operand is in the registers, from what its function is told by those that it calls.
+use Prim.Native.Nat.{ℕ}
+use mathlib.Core.Path.{_≡_, refl, ap, sym, subst, _∙_}
+use mathlib.Core.List.{List}
+use mathlib.Core.Bool.{true, false}
+use Rattle.answer.specs.declared.Answer.the-variants.{Done}
+use Rattle.little.specs.declared.Size.{Size}
+use Rattle.little.specs.Width.{bitsOf}
+use Rattle.flags.specs.declared.Computed.{Computed}
+use Rattle.flags.specs.Flag.{packedOf, flagsOf}
+use Rattle.alu.specs.declared.Arith.{Arith}
+use Rattle.alu.specs.declared.change.Change.{Change}
+use Rattle.alu.specs.Operation.{operated}
+use Rattle.alu.specs.Change.{changed}
+use Rattle.state.specs.declared.Bank.{Bank}
+use Rattle.state.specs.declared.State.{State}
+use Rattle.state.specs.declared.named.Field.{Field}
+use Rattle.state.specs.State.{withFlags, withBothFlags}
+use Rattle.state.specs.Register.{registerAt}
+use Rattle.state.specs.inner.Lent.{bankedWith}
+use Rattle.state.specs.inner.Field.{fieldIn, PutWithin}
+use Rattle.code.specs.declared.Operand.{Operand}
+use Rattle.code.specs.declared.Operand.the-variants.{Register}
+use Rattle.code.specs.declared.Side.the-variants.{First, With}
+use Rattle.code.specs.declared.Use.the-variants.{Compute, Changed}
+use Rattle.operand.specs.Flag.{flagged}
+use Rattle.operand.specs.Try.{did, leaves, after, withLoaded}
+use Rattle.operand.specs.Operand.{valueIn}
+use Rattle.operand.specs.inner.Placed.{fieldOf, At}
+use Rattle.operand.specs.inner.Does.{Does}
+use Rattle.operand.proofs.Placed.{value-at, put-at, register-at, register-held}
+use Rattle.compute.specs.Compute.{resultIn, answerIn, storesOf, putsOf}
+
+module _ (z : Size) (o : Operand) (f : Field) (bank : Bank) (there : At bank z o f) (rest : State) (regs : List ℕ) (flags : ℕ) (ram rom : List ℕ) where
+  -- a result is put there
+  result-put : (r : Computed) (w g : ℕ) (next : List ℕ) → w ≡ r .value → g ≡ packedOf (r .flags) → PutWithin regs next z f w → did (bankedWith rest next bank g) ram ≡ resultIn (bankedWith rest regs bank flags) ram rom z o r
+  unfolding flagged withFlags withBothFlags
+  result-put r w g next e h p = rw h (sym (put-at (flagged (bankedWith rest regs bank flags) (r .flags)) ram rom z o f (r .value) next there (rw (← e) p)))
+
+  -- and that of an operation, but for CP
+  answer-put : (op : Arith) (r : Computed) (w g : ℕ) (next : List ℕ) → storesOf op ≡ true → w ≡ r .value → g ≡ packedOf (r .flags) → PutWithin regs next z f w → did (bankedWith rest next bank g) ram ≡ answerIn op (bankedWith rest regs bank flags) ram rom z o r
+  answer-put op r w g next b e h p = rw b (result-put r w g next e h p)
+
+  answer-kept : (op : Arith) (r : Computed) (g : ℕ) → storesOf op ≡ false → g ≡ packedOf (r .flags) → did (bankedWith rest regs bank g) ram ≡ answerIn op (bankedWith rest regs bank flags) ram rom z o r
+  unfolding flagged withFlags withBothFlags
+  answer-kept op r g b h = rw (b, h) refl
+
+  -- ---- a change, and an operation with a number
+  module _ (v w g : ℕ) (next : List ℕ) (held : v ≡ fieldIn regs z f) (put : PutWithin regs next z f w) where
+    pub changed-there :
+        (how : Change) → w ≡ changed how (bitsOf z) v (flagsOf flags) .value → g ≡ packedOf (changed how (bitsOf z) v (flagsOf flags) .flags) →
+        Does (λ t m. putsOf (Changed how) z o t m rom) (bankedWith rest regs bank flags) ram Done (bankedWith rest next bank g) ram
+    unfolding putsOf
+    changed-there how e h =
+        rw (value-at regs bank ram rom z o f there, ← held)
+        (ap (leaves (bankedWith rest regs bank flags) ram) (result-put (changed how (bitsOf z) v (flagsOf flags)) w g next e h put))
+
+    pub with-there :
+        (op : Arith) (n : ℕ) → storesOf op ≡ true → w ≡ operated op (bitsOf z) v n (flagsOf flags .c) .value → g ≡ packedOf (operated op (bitsOf z) v n (flagsOf flags .c) .flags) →
+        Does (λ t m. putsOf (Compute op (With n)) z o t m rom) (bankedWith rest regs bank flags) ram Done (bankedWith rest next bank g) ram
+    unfolding putsOf
+    with-there op n b e h =
+        rw (value-at regs bank ram rom z o f there, ← held)
+        (ap (leaves (bankedWith rest regs bank flags) ram) (answer-put op (operated op (bitsOf z) v n (flagsOf flags .c)) w g next b e h put))
+
+  pub with-kept :
+      (v g : ℕ) → v ≡ fieldIn regs z f → (op : Arith) (n : ℕ) → storesOf op ≡ false → g ≡ packedOf (operated op (bitsOf z) v n (flagsOf flags .c) .flags) →
+      Does (λ t m. putsOf (Compute op (With n)) z o t m rom) (bankedWith rest regs bank flags) ram Done (bankedWith rest regs bank g) ram
+  unfolding putsOf
+  with-kept v g held op n b h =
+      rw (value-at regs bank ram rom z o f there, ← held)
+      (ap (leaves (bankedWith rest regs bank flags) ram) (answer-kept op (operated op (bitsOf z) v n (flagsOf flags .c)) g b h))
+
+-- ---- an operation with a register, which gets the result
+module _ (z : Size) (o : Operand) (f to : Field) (bank : Bank) (there : At bank z o f) (n : ℕ) (first : to ≡ fieldOf bank z (Register n)) (rest : State) (regs : List ℕ) (flags : ℕ) (ram rom : List ℕ) where
+  into : At bank z (Register n) to
+  into = subst (At bank z (Register n)) (sym first) (register-at bank z n)
+
+  held-first : (x : ℕ) → x ≡ fieldIn regs z to → registerAt regs bank z n ≡ x
+  held-first x e = register-held regs bank z n ∙ ap (fieldIn regs z) (sym first) ∙ sym e
+
+  pub operated-there :
+      (op : Arith) (v x w g : ℕ) (next : List ℕ) → v ≡ fieldIn regs z f → x ≡ fieldIn regs z to → storesOf op ≡ true →
+      w ≡ operated op (bitsOf z) x v (flagsOf flags .c) .value → g ≡ packedOf (operated op (bitsOf z) x v (flagsOf flags .c) .flags) → PutWithin regs next z to w →
+      Does (λ t m. putsOf (Compute op (First n)) z o t m rom) (bankedWith rest regs bank flags) ram Done (bankedWith rest next bank g) ram
+  unfolding putsOf
+  operated-there op v x w g next held other b e h put =
+      rw (value-at regs bank ram rom z o f there, ← held, held-first x other)
+      (ap (leaves (bankedWith rest regs bank flags) ram) (answer-put z (Register n) to bank into rest regs flags ram rom op (operated op (bitsOf z) x v (flagsOf flags .c)) w g next b e h put))
+
+  pub operated-kept :
+      (op : Arith) (v x g : ℕ) → v ≡ fieldIn regs z f → x ≡ fieldIn regs z to → storesOf op ≡ false →
+      g ≡ packedOf (operated op (bitsOf z) x v (flagsOf flags .c) .flags) →
+      Does (λ t m. putsOf (Compute op (First n)) z o t m rom) (bankedWith rest regs bank flags) ram Done (bankedWith rest regs bank g) ram
+  unfolding putsOf
+  operated-kept op v x g held other b h =
+      rw (value-at regs bank ram rom z o f there, ← held, held-first x other)
+      (ap (leaves (bankedWith rest regs bank flags) ram) (answer-kept z (Register n) to bank into rest regs flags ram rom op (operated op (bitsOf z) x v (flagsOf flags .c)) g b h))
