@@ -4,15 +4,16 @@ ghost use mathlib.Core.List.{List};
 ghost use Prim.Native.Nat.{ℕ};
 ghost use Rattle.state.specs.declared.State.{State};
 ghost use Rattle.state.specs.inner.Lent.{allOf, bankedAtWith};
-ghost use Rattle.code.specs.declared.Operand.the-variants.{Register};
 ghost use Rattle.code.specs.inner.Parts.{aloneAs, registerAs};
 ghost use Rattle.operand.specs.inner.Does.{Does};
+ghost use Rattle.operand.specs.inner.Placed.{At};
 ghost use Rattle.exec.specs.Exec.{done};
 ghost use Rattle.exec.specs.inner.Counter.{backOf, onOf};
 use answer::Answer;
 use answer::Why;
 use code::Alone;
 use code::OfRegister;
+use code::Operand;
 use compute::register::change;
 use compute::register::load;
 use compute::register::operate;
@@ -24,6 +25,8 @@ use little::Size;
 use stack::stack;
 use state::Bank;
 use state::current;
+use state::named::Field;
+use state::named::of_register as register;
 
 // A refused instruction leaves the counter at it, though it was past it already.
 pub fn back(a: Answer, here: u32, counter: &mut u32) -> Answer
@@ -103,31 +106,31 @@ pub fn alone(
     }
 }
 
-// What a form of the register r says: nothing is refused but its code.
+// What a register form says of the operand that begins at a field: nothing is refused but its code.
 pub fn of_register(
     read: OfRegister,
     size: Size,
-    r: u8,
+    r: Field,
     bank: Bank,
     flags: &mut u16,
     regs: &mut [u32; 20],
     counter: &mut u32,
 ) -> Answer
-    ensures { λ a. ⌜ ((s : State) (ram rom : List ℕ) → Does (λ t m. done (registerAs read size (Register r)) t m rom)
+    ensures { λ a. ⌜ ((o : Operand) → At bank size o r → (s : State) (ram rom : List ℕ) → Does (λ t m. done (registerAs read size o) t m rom)
         (bankedAtWith s (now (regs .entry)) bank (now (counter .entry)) (now (flags .entry))) ram
         a (bankedAtWith s (now (regs .exit)) bank (now (counter .exit)) (now (flags .exit))) ram) ⌝ }
 {
     match read {
         OfRegister::Number(v, n) => {
-            state::write(regs, bank, size, r, v);
+            state::named::write(regs, size, r, v);
             on(Answer::Done, counter, n)
         }
         OfRegister::From(from, n) => {
-            load(from, r, size, bank, regs);
+            load(register(bank, size, from), r, size, regs);
             on(Answer::Done, counter, n)
         }
         OfRegister::Load(to, n) => {
-            load(r, to, size, bank, regs);
+            load(r, register(bank, size, to), size, regs);
             on(Answer::Done, counter, n)
         }
         OfRegister::Compute(op, first, n) => {
@@ -135,11 +138,11 @@ pub fn of_register(
             on(Answer::Done, counter, n)
         }
         OfRegister::With(op, v, n) => {
-            with(op, v, size, r, bank, flags, regs);
+            with(op, v, size, r, flags, regs);
             on(Answer::Done, counter, n)
         }
         OfRegister::Changed(how, n) => {
-            change(how, size, r, bank, flags, regs);
+            change(how, size, r, flags, regs);
             on(Answer::Done, counter, n)
         }
         OfRegister::Short => Answer::Refused(Why::NoCode),
