@@ -1,10 +1,11 @@
 -- Laws of the first byte's rows, group by group.
 use Prim.Native.Nat.{ℕ, _+_, _/_, _%_, _≤_, _<_}
-use mathlib.Core.Path.{_≡_, refl}
-use mathlib.Core.Bool.{true, false, cond}
+use mathlib.Core.Path.{_≡_, refl, sym}
+use mathlib.Core.Bool.{true, false, cond, _&&_}
+use mathlib.Core.Logic.{inl, inr}
 use mathlib.Core.List.{List, [], _∷_}
 use native.Mathlib.Omega.{arith}
-use lib.Dec.{ltb}
+use lib.Dec.{ltb, leb, eqb}
 use borrow.Author.Tests.{ne-eqb}
 use types.Run.{OneOf}
 use Rattle.little.specs.declared.Size.the-variants.{Byte, Word, Long}
@@ -46,6 +47,30 @@ memory-there = in-run _ _ 0x80 0x80 refl
 
 pub in-memory : (b : ℕ) → b < 256 → 0x80 ≤ b → beginsRegister b ≡ false → lookup firstRows b ≡ lookup memoryFirstRows b
 in-memory b h k e = rw e at (memory-there b k h)
+
+-- ---- which first bytes begin a register form: C8 to EF in the odd groups, and C7, D7, E7 in the even ones
+odd-there : (b : ℕ) → b < 256 → cond (eqb (b / 8 % 2) 1) (leb 0xC8 b && ltb b 0xF0) true ≡ cond (eqb (b / 8 % 2) 1) (beginsRegister b) true
+unfolding beginsRegister
+odd-there = table _ _ 256 refl
+
+pub begins-odd : (b : ℕ) → b < 256 → b / 8 % 2 ≡ 1 → leb 0xC8 b && ltb b 0xF0 ≡ beginsRegister b
+begins-odd b h e = rw e at (odd-there b h)
+
+pub begins-named : (b : ℕ) → OneOf (0xC7 ∷ 0xD7 ∷ 0xE7 ∷ []) b → true ≡ beginsRegister b
+unfolding beginsRegister
+begins-named b (inl e) = rw e refl
+begins-named b (inr (inl e)) = rw e refl
+begins-named b (inr (inr e)) = rw e refl
+
+abbrev named-arms : List (List ℕ)
+named-arms = (0xC7 ∷ 0xD7 ∷ 0xE7 ∷ []) ∷ []
+
+even-left : (b : ℕ) → b < 256 → besides named-arms b (cond (eqb (b / 8 % 2) 1) false (beginsRegister b)) false ≡ false
+unfolding beginsRegister
+even-left = table _ (λ b. false) 256 refl
+
+pub begins-none : (b : ℕ) → b < 256 → (b / 8 % 2 ≡ 1 → ⊥) → Missed named-arms b → false ≡ beginsRegister b
+begins-none b h e m = sym (rw (ne-eqb (b / 8 % 2) 1 e) at (no-arm named-arms b _ _ (even-left b h) m))
 
 -- ---- 00 to 7F
 pub set-byte : (b : ℕ) → b / 8 ≡ 4 → lookup aloneRows b ≡ withConstant (Sets (b % 8)) Byte 1

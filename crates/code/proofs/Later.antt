@@ -1,21 +1,23 @@
 -- A code without its first bytes: what is judged of the rest is judged of the whole, and its instruction has those bytes more.
-use Prim.Native.Nat.{ℕ, _+_, _≤_}
+use Prim.Native.Nat.{ℕ, _+_, _-_, _≤_, _<_}
 use mathlib.Core.Path.{_≡_, refl, sym, ap, _∙_}
 use mathlib.Core.Bool.{Bool, true, false, cond}
 use mathlib.Core.List.{List}
 use native.Mathlib.Omega.{arith}
-use native.Mathlib.Nat.{add-assoc}
+use native.Mathlib.Nat.{add-assoc, add-comm}
 use lib.Dec.{ltb, leb}
 use lib.ListN.{length, getD, take, drop, length-drop}
-use lib.Seq.{getD-drop, drop-drop}
+use lib.Seq.{getD-drop, drop-drop, take-all}
 use borrow.Author.Tests.{ltb-true, ltb-false, lt-ltb, le-ltb, leb-true, leb-false, le-leb, lt-leb}
 use Rattle.little.specs.Bytes.{valueOf}
+use Rattle.code.specs.declared.Instruction.{Instruction}
 use Rattle.code.specs.declared.Decoded.{Decoded}
-use Rattle.code.specs.declared.Decoded.the-variants.{Short}
+use Rattle.code.specs.declared.Decoded.the-variants.{Whole, Short}
 use Rattle.code.specs.declared.Found.{Found}
 use Rattle.code.specs.declared.Found.the-variants.{Value, Missing}
 use Rattle.code.specs.Said.{Said, whole, unlisted, next, number, judge, numberAt, withFound}
 use Rattle.code.specs.inner.Parts.{later}
+use Rattle.code.proofs.Prefix.{after-next, within}
 
 module _ (n : ℕ) (s : List ℕ) (k : n ≤ length s) where
   byte-there : (i : ℕ) → ltb i (length (drop n s)) ≡ ltb (n + i) (length s)
@@ -56,3 +58,18 @@ module _ (n : ℕ) (s : List ℕ) (k : n ≤ length s) where
   judged-later (number m f) i =
       rw (same-number i m)
       (number-later _ _ (λ v. rw (add-assoc n i m) (judged-later (f v) (i + m))) (numberAt s (n + i) m))
+
+-- the same of the part of a code from n on, and that an instruction in it ends within the code
+module _ (n : ℕ) (s : List ℕ) (k : n ≤ length s) (f : ℕ → Said) where
+  part-drop : take (length s - n) (drop n s) ≡ drop n s
+  part-drop = take-all (length s - n) (drop n s) (rw length-drop (omega arith))
+
+  pub part-later : later n (judge (next f) (take (length s - n) (drop n s)) 1) ≡ judge (next f) s (1 + n)
+  part-later = rw (part-drop, add-comm 1 n) (sym (judged-later n s k (next f) 1))
+
+  pub part-within : (x : Instruction) → judge (next f) (take (length s - n) (drop n s)) 1 ≡ Whole x → n + x .length ≤ length s
+  part-within x e =
+      let d : judge (next f) (drop n s) 1 ≡ Whole x = rw part-drop at e in
+      let l : 1 < length (drop n s) = after-next f (drop n s) 1 (Whole x) tt d .0 in
+      let h : x .length ≤ length (drop n s) = within (next f) (drop n s) 1 x (omega arith) d in
+      omega (arith, length-drop n s)

@@ -1,6 +1,6 @@
 // The instruction that a code begins with: what each of the readers gives, in one type.
 ghost use mathlib.Core.Path.{_≡_};
-ghost use Prim.Native.Nat.{_≤_};
+ghost use Prim.Native.Nat.{_+_, _<_, _^_};
 ghost use Rattle.code.specs.Said.{wholeOf, judge};
 ghost use Rattle.code.specs.Rows.{lookup};
 ghost use Rattle.code.specs.inner.Parts.{aloneAs, registerAs, memoryAs, registerSize, registerBegun, later};
@@ -110,11 +110,16 @@ fn whole_of_memory(read: OfMemory, m: MemoryForm) -> Decoded
 
 // An instruction of which n bytes more stand before those that were read.
 fn behind(read: Decoded, n: usize) -> Decoded
-    requires { ⌜ n ≤ 1 ⌝ }
+    requires { ⌜ ((i : Instruction) → read ≡ Decoded.Whole i → n + i .length < 2 ^ 64) ⌝ }
     ensures { λ r. ⌜ r ≡ later n read ⌝ }
 {
     match read {
-        Decoded::Whole(i) => whole(i.op, i.size, i.operand, n + i.length),
+        Decoded::Whole(i) => {
+            let op = i.op;
+            let size = i.size;
+            let operand = i.operand;
+            whole(op, size, operand, n + i.length)
+        }
         Decoded::Short => Decoded::Short,
         Decoded::Unlisted => Decoded::Unlisted,
     }

@@ -1,9 +1,6 @@
 use borrow.Author.Needs.{needs}
 use Rattle.decode.proofs.whole_of_register.Statement.{statement}
 use Rattle.decode.proofs.whole_of_register.Tie as tie
-use Rattle.decode.proofs.whole_of_register.Reads as reads
-use Rattle.decode.proofs.whole_of_register.Lts as lts
-use Rattle.decode.proofs.puts.Reads as puts-reads
 
 enum-known-read : tie.Need-enum-known-read
 enum-known-read c = search needs
