@@ -22,13 +22,13 @@ use Rattle.state.specs.inner.Field.{fieldIn, PutWithin}
 use Rattle.code.specs.declared.Operand.{Operand}
 use Rattle.code.specs.declared.Operand.the-variants.{Register}
 use Rattle.code.specs.declared.Side.the-variants.{First, With}
-use Rattle.code.specs.declared.Use.the-variants.{Compute, Changed}
+use Rattle.code.specs.declared.Use.the-variants.{Number, From, Load, Compute, Changed}
 use Rattle.operand.specs.Flag.{flagged}
 use Rattle.operand.specs.Try.{did, leaves, after, withLoaded}
 use Rattle.operand.specs.Operand.{valueIn}
 use Rattle.operand.specs.inner.Placed.{fieldOf, At}
 use Rattle.operand.specs.inner.Does.{Does}
-use Rattle.operand.proofs.Placed.{value-at, put-at, register-at, register-held}
+use Rattle.operand.proofs.Placed.{value-at, put-at, register-at, register-held, register-put}
 use Rattle.compute.specs.Compute.{resultIn, answerIn, storesOf, putsOf}
 
 module _ (z : Size) (o : Operand) (f : Field) (bank : Bank) (there : At bank z o f) (rest : State) (regs : List ℕ) (flags : ℕ) (ram rom : List ℕ) where
@@ -70,6 +70,26 @@ module _ (z : Size) (o : Operand) (f : Field) (bank : Bank) (there : At bank z o
   with-kept v g held op n b h =
       rw (value-at regs bank ram rom z o f there, ← held)
       (ap (leaves (bankedWith rest regs bank flags) ram) (answer-kept op (operated op (bitsOf z) v n (flagsOf flags .c)) g b h))
+
+  -- ---- a number, and a register, put there
+  pub number-there : (v : ℕ) (next : List ℕ) → PutWithin regs next z f v → Does (λ t m. putsOf (Number v) z o t m rom) (bankedWith rest regs bank flags) ram Done (bankedWith rest next bank flags) ram
+  unfolding putsOf
+  number-there v next put = sym (ap (leaves (bankedWith rest regs bank flags) ram) (put-at (bankedWith rest regs bank flags) ram rom z o f v next there put))
+
+  pub from-there :
+      (r : ℕ) (from : Field) (next : List ℕ) → from ≡ fieldOf bank z (Register r) → PutWithin regs next z f (fieldIn regs z from) →
+      Does (λ t m. putsOf (From r) z o t m rom) (bankedWith rest regs bank flags) ram Done (bankedWith rest next bank flags) ram
+  unfolding putsOf
+  from-there r from next e put = rw (register-held regs bank z r, ← e) (number-there (fieldIn regs z from) next put)
+
+  -- and what it holds, put into a register
+  pub load-there :
+      (r : ℕ) (to : Field) (next : List ℕ) → to ≡ fieldOf bank z (Register r) → PutWithin regs next z to (fieldIn regs z f) →
+      Does (λ t m. putsOf (Load r) z o t m rom) (bankedWith rest regs bank flags) ram Done (bankedWith rest next bank flags) ram
+  unfolding putsOf
+  load-there r to next e put =
+      rw (value-at regs bank ram rom z o f there)
+      (sym (ap (λ (t : State). after Done t ram) (register-put (bankedWith rest regs bank flags) z r (fieldIn regs z f) next (subst (λ (x : Field). PutWithin regs next z x (fieldIn regs z f)) e put))))
 
 -- ---- an operation with a register, which gets the result
 module _ (z : Size) (o : Operand) (f to : Field) (bank : Bank) (there : At bank z o f) (n : ℕ) (first : to ≡ fieldOf bank z (Register n)) (rest : State) (regs : List ℕ) (flags : ℕ) (ram rom : List ℕ) where

@@ -6,10 +6,18 @@ use Rattle.answer.specs.declared.Answer.{Answer}
 use Rattle.answer.specs.declared.Answer.the-variants.{Done, Refused}
 use Rattle.state.specs.declared.State.{State}
 use Rattle.state.specs.State.{withCounter}
-use Rattle.state.specs.inner.Lent.{standingAt}
+use Rattle.state.specs.declared.Bank.{Bank}
+use Rattle.state.specs.inner.Lent.{bankedWith, bankedAtWith, standingAt}
+use Rattle.little.specs.declared.Size.{Size}
+use Rattle.operand.specs.inner.Does.{Does}
+use Rattle.code.specs.declared.Op.the-variants.{Puts}
+use Rattle.code.specs.declared.Use.{Use}
+use Rattle.code.specs.declared.Operand.{Operand}
+use Rattle.code.specs.Said.{wholeOf}
+use Rattle.compute.specs.Compute.{putsOf}
 use Rattle.operand.specs.Try.{Try, did, no, Outcome, leaves, after}
 use Rattle.code.specs.declared.Decoded.{Decoded}
-use Rattle.exec.specs.Exec.{pastOf, done}
+use Rattle.exec.specs.Exec.{pastOf, effectOf, executedOf, done}
 use Rattle.exec.specs.inner.Counter.{backOf, onOf}
 
 -- ---- an instruction: the state past it, and back where it is refused
@@ -49,3 +57,14 @@ module _ (s : State) (n : ℕ) (ram : List ℕ) (a : Answer) (u : State) (m : Li
 -- what is judged to be the same leaves the same
 pub judged : (s : State) (ram rom : List ℕ) (o : Outcome) (d e : Decoded) → d ≡ e → o ≡ leaves s ram (done d s ram rom) → o ≡ leaves s ram (done e s ram rom)
 judged s ram rom o d e h k = rw (← h) k
+
+-- ---- a register form: what is put is put past it
+module _ (rest : State) (regs : List ℕ) (bank : Bank) (counter flags n : ℕ) (ram rom : List ℕ) where
+  pub put-on :
+      (how : Use) (z : Size) (o : Operand) (next : List ℕ) (g : ℕ) →
+      Does (λ t m. putsOf how z o t m rom) (bankedWith (standingAt rest ((counter + n) % 2 ^ 24)) regs bank flags) ram Done (bankedWith (standingAt rest ((counter + n) % 2 ^ 24)) next bank g) ram →
+      Does (λ t m. done (wholeOf (Puts how) z o n) t m rom) (bankedAtWith rest regs bank counter flags) ram Done (bankedAtWith rest next bank (onOf Done n counter) g) ram
+  unfolding executedOf effectOf pastOf withCounter
+  put-on how z o next g h =
+      moved-on (bankedAtWith rest regs bank counter flags) n ram Done (bankedAtWith rest next bank counter g) ram
+      (putsOf how z o (bankedWith (standingAt rest ((counter + n) % 2 ^ 24)) regs bank flags) ram rom) h

@@ -1,135 +1,139 @@
+use Prim.Native.Nat.{_+_, _%_, _^_}
+use mathlib.Core.Path.{refl}
+use Rattle.code.specs.declared.Use.the-variants.{Number, From, Load, Compute, Changed}
+use Rattle.code.specs.declared.Side.the-variants.{First, With}
+use Rattle.state.specs.inner.Lent.{standingAt}
+use Rattle.compute.proofs.Registers.{number-there, from-there, load-there}
+use Rattle.exec.proofs.Laws.{put-on}
 use borrow.Author.Needs.{needs}
 use Rattle.exec.proofs.of_register.Statement.{statement}
 use Rattle.exec.proofs.of_register.Tie as tie
-use Rattle.exec.proofs.of_register.Reads as reads
-use Rattle.exec.proofs.of_register.Lts as lts
-use Rattle.compute.proofs.register.change.Reads as change-reads
-use Rattle.compute.proofs.register.load.Reads as load-reads
-use Rattle.compute.proofs.register.operate.Reads as operate-reads
-use Rattle.compute.proofs.register.with.Reads as with-reads
-use Rattle.exec.proofs.on.Reads as on-reads
-use Rattle.state.proofs.named.of_register.Reads as of-register-reads
-use Rattle.state.proofs.named.write.Reads as write-reads
 
--- src/lib.rt:124:28
 enum-known-read : tie.Need-enum-known-read
 enum-known-read c = search needs
 
--- src/lib.rt:125:13
 write-requires : tie.Need-write-requires
 write-requires c κs = search needs
 
--- src/lib.rt:126:13
 on-requires : tie.Need-on-requires
 on-requires c κs = search needs
 
--- src/lib.rt:128:26
 enum-known-read-2 : tie.Need-enum-known-read-2
 enum-known-read-2 c = search needs
 
--- src/lib.rt:129:18
 of-register-requires : tie.Need-of-register-requires
 of-register-requires c κs = search needs
 
--- src/lib.rt:129:13
 load-requires : tie.Need-load-requires
 load-requires c κs = search needs
 
--- src/lib.rt:130:13
 on-requires-2 : tie.Need-on-requires-2
 on-requires-2 c κs = search needs
 
--- src/lib.rt:132:26
 enum-known-read-3 : tie.Need-enum-known-read-3
 enum-known-read-3 c = search needs
 
--- src/lib.rt:133:21
 of-register-requires-2 : tie.Need-of-register-requires-2
 of-register-requires-2 c κs = search needs
 
--- src/lib.rt:133:13
 load-requires-2 : tie.Need-load-requires-2
 load-requires-2 c κs = search needs
 
--- src/lib.rt:134:13
 on-requires-3 : tie.Need-on-requires-3
 on-requires-3 c κs = search needs
 
--- src/lib.rt:136:29
 enum-known-read-4 : tie.Need-enum-known-read-4
 enum-known-read-4 c = search needs
 
--- src/lib.rt:137:13
 operate-requires : tie.Need-operate-requires
 operate-requires c κs = search needs
 
--- src/lib.rt:138:13
 on-requires-4 : tie.Need-on-requires-4
 on-requires-4 c κs = search needs
 
--- src/lib.rt:140:26
 enum-known-read-5 : tie.Need-enum-known-read-5
 enum-known-read-5 c = search needs
 
--- src/lib.rt:141:13
 with-requires : tie.Need-with-requires
 with-requires c κs = search needs
 
--- src/lib.rt:142:13
 on-requires-5 : tie.Need-on-requires-5
 on-requires-5 c κs = search needs
 
--- src/lib.rt:144:29
 enum-known-read-6 : tie.Need-enum-known-read-6
 enum-known-read-6 c = search needs
 
--- src/lib.rt:145:13
 change-requires : tie.Need-change-requires
 change-requires c κs = search needs
 
--- src/lib.rt:146:13
 on-requires-6 : tie.Need-on-requires-6
 on-requires-6 c κs = search needs
 
--- src/lib.rt:148:46
 enum-told : tie.Need-enum-told
 enum-told c = search needs
 
--- src/lib.rt:149:49
 enum-told-2 : tie.Need-enum-told-2
 enum-told-2 c = search needs
 
--- src/lib.rt:110:1
 returns : tie.Need-returns
-returns c = ?
+returns c o there rest ram rom =
+    let a = c .before .before .before .before .before .before .before .args in
+    let read = c .before .before .before .before .before .read .given in
+    let p = standingAt rest ((a .counter .now + read .0 .1 .0) % 2 ^ 24) in
+    rw (c .on .ensures .0, c .on .ensures .1, read .1)
+    (put-on rest (a .regs .now) (a .bank) (a .counter .now) (a .flags .now) (read .0 .1 .0) ram rom (Number (read .0 .0)) (a .size) o _ _
+    (number-there (a .size) o (a .r) (a .bank) there p (a .regs .now) (a .flags .now) ram rom (read .0 .0) _ (c .before .before .write .ensures .1)))
 
--- src/lib.rt:110:1
 returns-2 : tie.Need-returns-2
-returns-2 c = ?
+returns-2 c o there rest ram rom =
+    let a = c .before .before .before .before .before .before .before .before .args in
+    let read = c .before .before .before .before .before .before .read2 .given in
+    let p = standingAt rest ((a .counter .now + read .0 .1 .0) % 2 ^ 24) in
+    rw (c .on2 .ensures .0, c .on2 .ensures .1, read .1)
+    (put-on rest (a .regs .now) (a .bank) (a .counter .now) (a .flags .now) (read .0 .1 .0) ram rom (From (read .0 .0)) (a .size) o _ _
+    (from-there (a .size) o (a .r) (a .bank) there p (a .regs .now) (a .flags .now) ram rom (read .0 .0) _ _ (c .before .before .before .before .of-register .ensures) (c .before .before .load .ensures)))
 
--- src/lib.rt:110:1
 returns-3 : tie.Need-returns-3
-returns-3 c = ?
+returns-3 c o there rest ram rom =
+    let a = c .before .before .before .before .before .before .before .before .args in
+    let read = c .before .before .before .before .before .before .read3 .given in
+    let p = standingAt rest ((a .counter .now + read .0 .1 .0) % 2 ^ 24) in
+    rw (c .on3 .ensures .0, c .on3 .ensures .1, read .1)
+    (put-on rest (a .regs .now) (a .bank) (a .counter .now) (a .flags .now) (read .0 .1 .0) ram rom (Load (read .0 .0)) (a .size) o _ _
+    (load-there (a .size) o (a .r) (a .bank) there p (a .regs .now) (a .flags .now) ram rom (read .0 .0) _ _ (c .before .before .before .before .of-register2 .ensures) (c .before .before .load2 .ensures)))
 
--- src/lib.rt:110:1
 returns-4 : tie.Need-returns-4
-returns-4 c = ?
+returns-4 c o there rest ram rom =
+    let a = c .before .before .before .before .before .before .before .before .args in
+    let read = c .before .before .before .before .before .before .read4 .given in
+    let p = standingAt rest ((a .counter .now + read .0 .1 .1 .0) % 2 ^ 24) in
+    rw (c .on4 .ensures .0, c .on4 .ensures .1, read .1)
+    (put-on rest (a .regs .now) (a .bank) (a .counter .now) (a .flags .now) (read .0 .1 .1 .0) ram rom (Compute (read .0 .0) (First (read .0 .1 .0))) (a .size) o _ _
+    (c .before .before .operate .ensures o there p ram rom))
 
--- src/lib.rt:110:1
 returns-5 : tie.Need-returns-5
-returns-5 c = ?
+returns-5 c o there rest ram rom =
+    let a = c .before .before .before .before .before .before .before .before .args in
+    let read = c .before .before .before .before .before .before .read5 .given in
+    let p = standingAt rest ((a .counter .now + read .0 .1 .1 .0) % 2 ^ 24) in
+    rw (c .on5 .ensures .0, c .on5 .ensures .1, read .1)
+    (put-on rest (a .regs .now) (a .bank) (a .counter .now) (a .flags .now) (read .0 .1 .1 .0) ram rom (Compute (read .0 .0) (With (read .0 .1 .0))) (a .size) o _ _
+    (c .before .before .with .ensures o (a .bank) there p ram rom))
 
--- src/lib.rt:110:1
 returns-6 : tie.Need-returns-6
-returns-6 c = ?
+returns-6 c o there rest ram rom =
+    let a = c .before .before .before .before .before .before .before .before .args in
+    let read = c .before .before .before .before .before .before .read6 .given in
+    let p = standingAt rest ((a .counter .now + read .0 .1 .0) % 2 ^ 24) in
+    rw (c .on6 .ensures .0, c .on6 .ensures .1, read .1)
+    (put-on rest (a .regs .now) (a .bank) (a .counter .now) (a .flags .now) (read .0 .1 .0) ram rom (Changed (read .0 .0)) (a .size) o _ _
+    (c .before .before .change .ensures o (a .bank) there p ram rom))
 
--- src/lib.rt:110:1
 returns-7 : tie.Need-returns-7
-returns-7 c = ?
+returns-7 c o there rest ram rom = rw (c .enum-told .given .1) refl
 
--- src/lib.rt:110:1
 returns-8 : tie.Need-returns-8
-returns-8 c = ?
+returns-8 c o there rest ram rom = rw (c .enum-told2 .given .1) refl
 
 pub of-register-spec : {M : Type 1} → statement M
 of-register-spec =
