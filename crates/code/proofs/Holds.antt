@@ -5,7 +5,7 @@ use mathlib.Core.Logic.{_⊎_, inl, inr}
 use native.Mathlib.Omega.{arith}
 use Prim.Native.Nat.{ℕ}
 use borrow.Author.Tests.{ltb-true, eqb-true, lt-ltb, eq-eqb}
-use Rattle.code.specs.Range.{Range, never, always, _below_, _equals_, _and_, _or_, Holds, holds}
+use Rattle.code.specs.Range.{Range, never, always, _below_, _equals_, _and_, _or_, Holds, holds, that}
 
 -- ---- a test of two parts
 pub both-true : (a b : Bool) → a && b ≡ true → (a ≡ true) × (b ≡ true)
@@ -37,3 +37,6 @@ so-holds (a equals b) h = eq-eqb a b h
 so-holds (p and q) h = rw (so-holds p (h .0)) (so-holds q (h .1))
 so-holds (p or q) (inl h) = true-either (holds p) (holds q) (inl (so-holds p h))
 so-holds (p or q) (inr h) = true-either (holds p) (holds q) (inr (so-holds q h))
+
+pub so-that : {b : Bool} → b ≡ true → Holds (that b)
+so-that e = rw e tt

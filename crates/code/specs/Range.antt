@@ -86,6 +86,10 @@ registerRange z (Named c) = c below 256 and that (isNamed (bytesOf z) c)
 registerRange z (Constant v) = never
 registerRange z (Memory m) = never
 
+-- the same as a statement
+abbrev pub InRegisters : Size → Operand → Type 0
+InRegisters z o = Holds (registerRange z o)
+
 -- a register of a size, or a memory form
 abbrev pub placeRange : Size → Operand → Range
 placeRange z (Register r) = registerRange z (Register r)

@@ -6,7 +6,7 @@ ghost use lib.ListN.{length};
 ghost use Rattle.code.specs.Said.{Said, judge};
 ghost use Rattle.code.specs.Rows.{lookup, byRows, only, noByte};
 ghost use Rattle.code.specs.Registers.{registerRows, placesRows, shiftKind};
-ghost use Rattle.code.specs.inner.Parts.{registerAs, beginsRegister, registerSize, registerBegun, chosenAs, behindOf};
+ghost use Rattle.code.specs.inner.Parts.{registerAs, beginsRegister, registerSize, registerBegun, chosenAs, Chooses, behindOf};
 use alu::Change;
 use alu::Shift;
 use code::Chosen;
@@ -48,7 +48,7 @@ pub fn size_by(b: u8) -> Size
 // Its register, by the first byte alone or by the code byte after it.
 pub fn begin(code: &[u8], size: Size, b: u8) -> Chosen
     ensures { λ r. ⌜ chosenAs r size (now (code .entry)) ≡ judge (registerBegun size b) (now (code .entry)) 1 ⌝ }
-    ensures { λ r. ⌜ behindOf r ≤ length (now (code .entry)) ⌝ }
+    ensures { λ r. ⌜ Chooses r size × (behindOf r ≤ length (now (code .entry))) ⌝ }
 {
     if b / 8 % 2 == 1 {
         return Chosen::Register(Operand::Register(b % 8), 0);

@@ -1,17 +1,20 @@
 // Many steps in one call: what stands at the counter, done or refused, again and again.
 ghost use mathlib.Core.Path.{_≡_};
-ghost use Prim.Native.Nat.{suc, _-_};
+ghost use mathlib.Core.List.{List};
+ghost use Prim.Native.Nat.{ℕ, suc, _-_};
 ghost use Rattle.memory.specs.Access.{codeAt};
 ghost use Rattle.state.specs.declared.State.{State};
 ghost use Rattle.state.specs.inner.Lent.{allOf, bankedAtWith, standingAt};
 ghost use Rattle.code.specs.declared.MemoryForm.{MemoryForm};
+ghost use Rattle.code.specs.Said.{judge};
 ghost use Rattle.code.specs.Listed.{decodeOf};
-ghost use Rattle.code.specs.inner.Parts.{memoryAs};
+ghost use Rattle.code.specs.inner.Parts.{memoryAs, registerSize, registerBegun};
+ghost use Rattle.exec.specs.Exec.{done};
 ghost use Rattle.operand.specs.Operand.{addressIn};
 ghost use Rattle.operand.specs.Try.{andThen};
 ghost use Rattle.operand.specs.inner.Does.{Does};
 ghost use Rattle.block.specs.Block.{roundOf, endsAt};
-ghost use Rattle.turn.specs.inner.Times.{timesOf, Fewer, Stands};
+ghost use Rattle.turn.specs.inner.Times.{timesOf, Fewer, Stands, pastName};
 ghost use Rattle.turn.specs.Many.{result, stopped, manyOf};
 use answer::Answer;
 use answer::Why;
@@ -20,6 +23,7 @@ use block::ended;
 use block::in_rom;
 use block::round;
 use code::Begun;
+use code::Chosen;
 use code::Form;
 use code::OfMemory;
 use compute::form;
@@ -28,8 +32,8 @@ use exec::alone;
 use exec::back;
 use exec::of_register;
 use exec::on;
-use number::size_of;
 use operand::address;
+use operand::field;
 use state::Bank;
 use state::State;
 use state::current;
@@ -123,6 +127,44 @@ fn of_memory(
     }
 }
 
+// Past the code byte that named a register, where there was one: the counter of any other form is left alone.
+fn past_name(counter: &mut u32, n: usize)
+    ensures { λ _. ⌜ now (counter .exit) ≡ pastName n (now (counter .entry)) ⌝ }
+{
+    if n == 0 {
+        return;
+    }
+    past(counter, n);
+}
+
+// What a register form says, whose first byte is b; the instruction stands at the counter.
+fn of_registers(
+    code: &[u8],
+    b: u8,
+    bank: Bank,
+    flags: &mut u16,
+    regs: &mut [u32; 20],
+    counter: &mut u32,
+) -> Answer
+    ensures { λ a. ⌜ ((s : State) (ram rom : List ℕ) → Does (λ t m. done (judge (registerBegun (registerSize b) b) (now (code .entry)) 1) t m rom)
+        (bankedAtWith s (now (regs .entry)) bank (now (counter .entry)) (now (flags .entry))) ram
+        a (bankedAtWith s (now (regs .exit)) bank (now (counter .exit)) (now (flags .exit))) ram) ⌝ }
+{
+    let size = registers::size_by(b);
+    let here = *counter;
+    match registers::begin(code, size, b) {
+        Chosen::Register(operand, n) => {
+            let r = field(bank, size, operand);
+            let read = registers::read(&code[n..], size);
+            past_name(&mut *counter, n);
+            let a = of_register(read, size, r, bank, flags, regs, &mut *counter);
+            back(a, here, counter)
+        }
+        Chosen::Short => Answer::Refused(Why::NoCode),
+        Chosen::Unlisted => Answer::Refused(Why::Unlisted),
+    }
+}
+
 // What stands at the counter, done or refused, whatever the state is: the checks before it are the caller's. A form that goes on
 // may use some of the `more` steps that the caller has left. The state's parts lie apart and are changed where they lie. Each of
 // the readers has a work of its own after it: where all meet in one instruction first, it was measured to be slower.
@@ -166,21 +208,17 @@ fn once(
         );
     }
     let bank = current(&*bank);
-    match b / 8 {
-        25 | 27 | 29 => {
-            let size = size_of(b / 16);
-            let read = registers::read(code, size);
-            of_register(read, size, b % 8, bank, flags, regs, counter)
+    if registers::begins(b) {
+        return of_registers(code, b, bank, flags, regs, counter);
+    }
+    match forms::begin(code, b) {
+        Begun::Form(base, v, n) => {
+            let at = address(bank, &*regs, base, v);
+            let read = forms::after(code, b, n);
+            of_memory(read, at, bank, flags, regs, counter, ram, rom, more)
         }
-        _ => match forms::begin(code, b) {
-            Begun::Form(base, v, n) => {
-                let at = address(bank, &*regs, base, v);
-                let read = forms::after(code, b, n);
-                of_memory(read, at, bank, flags, regs, counter, ram, rom, more)
-            }
-            Begun::Short => Answer::Refused(Why::NoCode),
-            Begun::Unlisted => Answer::Refused(Why::Unlisted),
-        },
+        Begun::Short => Answer::Refused(Why::NoCode),
+        Begun::Unlisted => Answer::Refused(Why::Unlisted),
     }
 }
 

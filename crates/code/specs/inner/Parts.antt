@@ -5,7 +5,7 @@ use Rattle.little.specs.declared.Size.the-variants.{Byte, Word, Long}
 use Rattle.code.specs.{declared.MemoryForm.MemoryForm, declared.Base.the-variants.Indirect, declared.Operand.Operand}
 use Rattle.code.specs.{declared.Operand.the-variants.Register, declared.Operand.the-variants.Constant, declared.Operand.the-variants.Memory, declared.Decoded.Decoded}
 use Rattle.code.specs.{declared.Decoded.the-variants.Whole, declared.Decoded.the-variants.Short, declared.Decoded.the-variants.Unlisted, Said.Said, Said.wholeOf, Said.judge, Rows.Row}
-use Rattle.code.specs.{Rows.byRows, Registers.registerRows, Listed.codeByteRows, Memory.form, Memory.memoryRows, Memory.storeRows, Memory.blockRows}
+use Rattle.code.specs.{Rows.byRows, Registers.registerRows, Listed.codeByteRows, Range.InRegisters, Memory.form, Memory.memoryRows, Memory.storeRows, Memory.blockRows}
 use Rattle.code.specs.declared.Op.the-variants.{Controls, Stacks, Puts, Sets, Blocks, Interrupts}
 use Rattle.code.specs.declared.Use.the-variants.{Number, From, Load, Compute, Changed}
 use Rattle.code.specs.declared.Side.the-variants.{First, Second, With}
@@ -61,6 +61,12 @@ abbrev pub chosenAs : Chosen → Size → List ℕ → Decoded
 chosenAs (chosen.Register o n) z s = judge (byRows (registerRows z o)) s (1 + n)
 chosenAs chosen.Short z s = Short
 chosenAs chosen.Unlisted z s = Unlisted
+
+-- it is a register of the size
+abbrev pub Chooses : Chosen → Size → Type 0
+Chooses (chosen.Register o n) z = InRegisters z o
+Chooses chosen.Short z = Unit {0}
+Chooses chosen.Unlisted z = Unit {0}
 
 -- how many code bytes named it
 abbrev pub behindOf : Chosen → ℕ

@@ -22,7 +22,7 @@ enum-known-operand c = search needs
 
 -- the bytes before the form are there
 in-code : (c : tie.After-known-told) → c .before .operand .given .0 .1 .0 ≤ length (c .before .before .before .before .before .before .args .code .now)
-in-code c = rw (c .before .operand .given .1) at (c .before .before .before .begin .ensures .1)
+in-code c = rw (c .before .operand .given .1) at (c .before .before .before .begin .ensures .1 .1)
 
 -- what the byte after the register says
 abbrev says : tie.After-known-told → ℕ → Said

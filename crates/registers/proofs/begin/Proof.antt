@@ -5,17 +5,18 @@ use borrow.Author.Tests.{ne-eqb}
 use Rattle.code.specs.Listed.{codeByteRows}
 use Rattle.code.specs.Said.{judge}
 use Rattle.code.specs.inner.Parts.{registerBegun}
+use Rattle.code.proofs.Holds.{so-that}
 use Rattle.code.proofs.Judge.{run-there, next-short}
 use Rattle.registers.proofs.begin.Statement.{statement}
 use Rattle.registers.proofs.begin.Tie as tie
 
 returns : tie.Need-returns
 unfolding registerBegun
-returns c = (rw (c .if1 .taken) refl, omega arith)
+returns c = (rw (c .if1 .taken) refl, (omega arith, omega arith))
 
 returns-2 : tie.Need-returns-2
 unfolding registerBegun
-returns-2 c = (rw (ne-eqb _ _ (c .before .if1 .left)) (next-short _ _ _ (omega arith)), omega arith)
+returns-2 c = (rw (ne-eqb _ _ (c .before .if1 .left)) (next-short _ _ _ (omega arith)), (tt, omega arith))
 
 shared-slice-read-c : tie.Need-shared-slice-read-c
 shared-slice-read-c c = search needs
@@ -29,7 +30,7 @@ returns-3 c =
     let named = sym (c .before .is-named .ensures) ∙ c .if3 .taken in (
       rw (ne-eqb _ _ (c .before .before .before .before .if1 .left))
           (run-there _ _ (c .before .before .before .before .before .before .args .code .now) 1 (omega arith) _ (omega (arith, c .before .before .before .before .before .shared-slice-known .given 1)) (rw named refl)),
-      omega arith,
+      ((omega (arith, c .before .before .before .before .before .shared-slice-known .given 1), so-that named), omega arith),
     )
 
 returns-4 : tie.Need-returns-4
@@ -38,7 +39,7 @@ returns-4 c =
     let unnamed = sym (c .before .is-named .ensures) ∙ c .if3 .left in (
       rw (ne-eqb _ _ (c .before .before .before .before .if1 .left))
           (run-there _ _ (c .before .before .before .before .before .before .args .code .now) 1 (omega arith) _ (omega (arith, c .before .before .before .before .before .shared-slice-known .given 1)) (rw unnamed refl)),
-      omega arith,
+      (tt, omega arith),
     )
 
 pub begin-spec : {M : Type 1} → statement M

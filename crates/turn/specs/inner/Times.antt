@@ -1,5 +1,5 @@
 -- Several steps in one call.
-use Rattle.little.specs.Words.{ℕ, zero, suc, _≤_, _≡_, List}
+use Rattle.little.specs.Words.{ℕ, zero, suc, _+_, _%_, _^_, _≤_, _≡_, List, cond, eqb}
 use Rattle.answer.specs.declared.{Answer.Answer, Answer.the-variants.Done, Answer.the-variants.Refused}
 use Rattle.memory.specs.Access.{codeAt}
 use Rattle.state.specs.{declared.State.State, inner.Lent.standingAt}
@@ -26,3 +26,7 @@ Fewer (Refused w) m n = n ≡ m
 abbrev pub Stands : ℕ → ℕ → List ℕ → List ℕ → (State → List ℕ → Try) → Type 0
 Stands at past ram rom does =
     (m : List ℕ) → codeAt m rom at ≡ codeAt ram rom at → (s : State) → onceOf (standingAt s at) m rom ≡ does (standingAt s past) m
+
+-- the counter past the code byte that named a register, where there was one
+abbrev pub pastName : ℕ → ℕ → ℕ
+pastName n counter = cond (eqb n 0) counter ((counter + n) % 2 ^ 24)
