@@ -43,8 +43,8 @@ pub fn operate(
         Answer.Done (bankedWith s (now (regs .exit)) bank (now (flags .exit))) ram) ⌝ }
 {
     let to = of_register(bank, size, n);
-    let v = state::named::read(&*regs, size, r);
     let x = state::named::read(&*regs, size, to);
+    let v = state::named::read(&*regs, size, r);
     let w = alu::operate(op, size, x, v, flags);
     if stores(op) {
         state::named::write(regs, size, to, w);

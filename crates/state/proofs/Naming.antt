@@ -63,15 +63,14 @@ plain-names bank z r = (
 )
 
 -- ---- where a named part lies: in one of the twenty, and within it
-sixteen-lt : (bank d : ℕ) → bank < 4 → d < 16 → (d < 4) ⊎ (13 ≤ d) → sixteenOf bank d < 5
-sixteen-lt bank d h l there = go (eqb d 0xD) (eqb d 0xE) (eqb d 0xF) refl refl refl there
+sixteen-lt : (bank d : ℕ) → bank < 4 → sixteenOf bank d < 5
+sixteen-lt bank d h = go (eqb d 0xD) (eqb d 0xE) (eqb d 0xF)
   where
-    go : (x y w : Bool) → eqb d 0xD ≡ x → eqb d 0xE ≡ y → eqb d 0xF ≡ w → (d < 4) ⊎ (13 ≤ d) → cond x ((bank + 3) % 4) (cond y bank (cond w 4 d)) < 5
-    go true y w e f g t = omega arith
-    go false true w e f g t = omega arith
-    go false false true e f g t = omega arith
-    go false false false e f g (inl t) = omega arith
-    go false false false e f g (inr t) = omega (arith, eqb-false d 0xD e, eqb-false d 0xE f, eqb-false d 0xF g)
+    go : (x y w : Bool) → cond x ((bank + 3) % 4) (cond y bank (cond w 4 (d % 4))) < 5
+    go true y w = omega arith
+    go false true w = omega arith
+    go false false true = omega arith
+    go false false false = omega arith
 
 -- what the test says
 is-there : (n code : ℕ) → isNamed n code ≡ true → ((code < 0x40) ⊎ (0xD0 ≤ code)) × (code % n ≡ 0)
@@ -87,16 +86,9 @@ is-there n code e = go (ltb code 0x40) (leb 0xD0 code) (eqb (code % n) 0) refl r
     go false true false e f g h = no h
     go false false w e f g h = no h
 
-pub byte-lt : (bank : ℕ) (z : Size) (code : ℕ) → Names bank z code → byteOf bank code / 4 < 20
+pub byte-lt : (bank code : ℕ) → bank < 4 → byteOf bank code / 4 < 20
 unfolding byteOf
-byte-lt bank z code h =
-    let t = is-there (bytesOf z) code (h .2) in
-    let k : sixteenOf bank (code / 16) < 5 = sixteen-lt bank (code / 16) (h .0) (omega (arith, h .1)) (where-from (t .0)) in
-    omega arith
-  where
-    where-from : (code < 0x40) ⊎ (0xD0 ≤ code) → (code / 16 < 4) ⊎ (13 ≤ code / 16)
-    where-from (inl l) = inl (omega arith)
-    where-from (inr l) = inr (omega arith)
+byte-lt bank code h = omega (arith, sixteen-lt bank (code / 16) h)
 
 pub within : (bank : ℕ) (z : Size) (code : ℕ) → isNamed (bytesOf z) code ≡ true → byteOf bank code % 4 + bytesOf z ≤ 4
 unfolding byteOf
@@ -120,7 +112,7 @@ pub named-at :
     × (byteOf bank code / 4 < 20) × (8 * (byteOf bank code % 4) + bitsOf z ≤ 32)
 named-at bank z code h = (
   is-bits bank z code (h .2) ∙ ap (bits (byteOf bank code / 4) (8 * (byteOf bank code % 4))) (eight-bytes z),
-  byte-lt bank z code h,
+  byte-lt bank code (h .0),
   rw (← eight-bytes z) (omega (arith, within bank z code (h .2))),
 )
 
@@ -165,7 +157,7 @@ unfolding heldIn
 other-byte s bank z code v ok h i far =
     let a = byteOf bank code in
     rw (is-bits bank z code (h .2))
-    (held-kept s (a / 4) (8 * (a % 4)) (8 * bytesOf z) v (i / 4) (8 * (i % 4)) 8 ok (byte-lt bank z code h)
+    (held-kept s (a / 4) (8 * (a % 4)) (8 * bytesOf z) v (i / 4) (8 * (i % 4)) 8 ok (byte-lt bank code (h .0))
     (lies-apart a (bytesOf z) i 1 (within bank z code (h .2)) (omega arith) (one-byte far)))
   where
     one-byte : (i < byteOf bank code) ⊎ (byteOf bank code + bytesOf z ≤ i) → (i + 1 ≤ byteOf bank code) ⊎ (byteOf bank code + bytesOf z ≤ i)
@@ -176,7 +168,7 @@ read-back : (s : State) (bank : ℕ) (z : Size) (code v : ℕ) → Sound s → N
 read-back s bank z code v ok h =
     let a = byteOf bank code in
     rw (is-bits bank z code (h .2), ← eight-bytes z)
-    (written-back s (a / 4) (8 * (a % 4)) (8 * bytesOf z) v ok (byte-lt bank z code h))
+    (written-back s (a / 4) (8 * (a % 4)) (8 * bytesOf z) v ok (byte-lt bank code (h .0)))
 
 pub part-writes : PartWrites
 part-writes s bank z code v ok h = (
@@ -190,7 +182,7 @@ parts-apart s bank z y c d v ok h k far =
     let a = byteOf bank c in
     let b = byteOf bank d in
     rw (is-bits bank z c (h .2), is-bits bank y d (k .2))
-    (held-kept s (a / 4) (8 * (a % 4)) (8 * bytesOf z) v (b / 4) (8 * (b % 4)) (8 * bytesOf y) ok (byte-lt bank z c h)
+    (held-kept s (a / 4) (8 * (a % 4)) (8 * bytesOf z) v (b / 4) (8 * (b % 4)) (8 * bytesOf y) ok (byte-lt bank c (h .0))
     (lies-apart a (bytesOf z) b (bytesOf y) (within bank z c (h .2)) (within bank y d (k .2)) far))
 
 -- ---- which of them overlap

@@ -5,10 +5,10 @@ use Rattle.little.specs.declared.Size.the-variants.{Byte, Word, Long}
 use Rattle.state.specs.{declared.State.State, State.longOf, State.withLong, Register.getBits, Register.setBits}
 
 -- The twenty longs are eighty bytes, the low byte of a long first: sixteen of each bank, XWA XBC XDE XHL, and sixteen of XIX XIY XIZ
--- XSP. A code's high digit says which sixteen: 0 to 3 those of a bank, D of the bank before the current one, E of the current one, F
--- the last
+-- XSP. A code's high digit says which sixteen: D those of the bank before the current one, E of the current one, F the last, and 0 to 3
+-- those of the bank with that number
 abbrev pub sixteenOf : ℕ → ℕ → ℕ
-sixteenOf bank d = cond (eqb d 0xD) ((bank + 3) % 4) (cond (eqb d 0xE) bank (cond (eqb d 0xF) 4 d))
+sixteenOf bank d = cond (eqb d 0xD) ((bank + 3) % 4) (cond (eqb d 0xE) bank (cond (eqb d 0xF) 4 (d % 4)))
 
 -- and its low digit which of them: the byte of the eighty that a code stands for
 unfoldable pub byteOf : ℕ → ℕ → ℕ

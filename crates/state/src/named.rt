@@ -29,18 +29,18 @@ fn mask(size: Size) -> u32
 
 // Which sixteen of the eighty bytes a code's high digit says.
 fn sixteen(bank: usize, digit: usize) -> usize
-    requires { ⌜ (bank < 4) × (digit < 16) ⌝ }
-    ensures { λ r. ⌜ (r ≡ sixteenOf bank digit) × (r < 16) ⌝ }
+    requires { ⌜ bank < 4 ⌝ }
+    ensures { λ r. ⌜ (r ≡ sixteenOf bank digit) × (r < 5) ⌝ }
 {
     match digit {
         13 => (bank + 3) % 4,
         14 => bank,
         15 => 4,
-        _ => digit,
+        _ => digit % 4,
     }
 }
 
-// Where the register of a code byte begins, in a bank; for a code that names none, past the twenty or at the byte that it says.
+// Where the register of a code byte begins, in a bank.
 pub fn of_code(bank: Bank, code: u8) -> Field
     ensures { λ r. ⌜ r ≡ fieldAt (byteOf (bank .0 % 4) code) ⌝ }
 {
@@ -54,16 +54,22 @@ pub fn of_code(bank: Bank, code: u8) -> Field
     }
 }
 
+// How many codes a register of a size has.
+fn codes(size: Size) -> u8
+    ensures { λ r. ⌜ (r ≡ bytesOf size) × (0 < r) ⌝ }
+{
+    match size {
+        Size::Byte => 1,
+        Size::Word => 2,
+        Size::Long => 4,
+    }
+}
+
 // Whether a code byte names a register of a size.
 pub fn is_named(size: Size, code: u8) -> bool
     ensures { λ r. ⌜ r ≡ isNamed (bytesOf size) code ⌝ }
 {
-    let there = (code < 0x40) | (0xD0 <= code);
-    match size {
-        Size::Byte => there & (code % 1 == 0),
-        Size::Word => there & (code % 2 == 0),
-        Size::Long => there & (code % 4 == 0),
-    }
+    ((code < 0x40) | (0xD0 <= code)) & (code % codes(size) == 0)
 }
 
 // Where the register r of a size begins, 0 to 7, in a bank: both numbers are taken modulo what there is.
@@ -74,19 +80,15 @@ pub fn of_register(bank: Bank, size: Size, r: u8) -> Field
     let b = n as usize;
     let m = r % 8;
     let c = m as usize;
-    match size {
-        Size::Byte => Field {
+    if let Size::Byte = size {
+        return Field {
             index: 4 * b + c / 2,
             start: 8 - 8 * ((m % 2) as u32),
-        },
-        Size::Word => Field {
-            index: index_of(b, c),
-            start: 0,
-        },
-        Size::Long => Field {
-            index: index_of(b, c),
-            start: 0,
-        },
+        };
+    }
+    Field {
+        index: index_of(b, c),
+        start: 0,
     }
 }
 

@@ -154,9 +154,9 @@ fn of_registers(
     let here = *counter;
     match registers::begin(code, size, b) {
         Chosen::Register(operand, n) => {
+            past_name(&mut *counter, n);
             let r = field(bank, size, operand);
             let read = registers::read(&code[n..], size);
-            past_name(&mut *counter, n);
             let a = of_register(read, size, r, bank, flags, regs, &mut *counter);
             back(a, here, counter)
         }

@@ -26,8 +26,8 @@ returns : tie.Need-returns
 returns c o there rest ram rom =
     let a = c .before .before .before .before .before .before .before .before .before .before .before .args in
     let done = c .before .before .before .before .operate in
-    let read = c .before .before .before .before .before .before .before .before .read in
-    let other = c .before .before .before .before .before .before .read2 in
+    let other = c .before .before .before .before .before .before .before .before .read in
+    let read = c .before .before .before .before .before .before .read2 in
     let to = c .before .before .before .before .before .before .before .before .before .before .of-register in
     operated-there (a .size) o (a .r) (to .result) (a .bank) there (a .n) (to .ensures) rest (a .regs .now) (a .flags .now) ram rom
     (a .op) (read .result) (other .result) (done .result) _ (c .write .last .0) (read .ensures) (other .ensures)
@@ -37,8 +37,8 @@ returns-2 : tie.Need-returns-2
 returns-2 c o there rest ram rom =
     let a = c .before .before .before .before .before .before .before .before .before .args in
     let done = c .before .before .operate in
-    let read = c .before .before .before .before .before .before .read in
-    let other = c .before .before .before .before .read2 in
+    let other = c .before .before .before .before .before .before .read in
+    let read = c .before .before .before .before .read2 in
     let to = c .before .before .before .before .before .before .before .before .of-register in
     operated-kept (a .size) o (a .r) (to .result) (a .bank) there (a .n) (to .ensures) rest (a .regs .now) (a .flags .now) ram rom
     (a .op) (read .result) (other .result) _ (read .ensures) (other .ensures) (sym (c .before .stores .ensures) ∙ c .if1 .left) (done .ensures .1)

@@ -3,23 +3,14 @@ use borrow.Author.Needs.{needs}
 use Rattle.state.proofs.named.is_named.Statement.{statement}
 use Rattle.state.proofs.named.is_named.Tie as tie
 
-enum-told : tie.Need-enum-told
-enum-told c = search needs
+codes-requires : tie.Need-codes-requires
+codes-requires c κs = search needs
 
-enum-told-2 : tie.Need-enum-told-2
-enum-told-2 c = search needs
-
-enum-told-3 : tie.Need-enum-told-3
-enum-told-3 c = search needs
+rem-result : tie.Need-rem-result
+rem-result c = search needs
 
 returns : tie.Need-returns
-returns c = rw (c .enum-told .given .1) refl
-
-returns-2 : tie.Need-returns-2
-returns-2 c = rw (c .enum-told2 .given .1) refl
-
-returns-3 : tie.Need-returns-3
-returns-3 c = rw (c .enum-told3 .given .1) refl
+returns c = rw (c .codes .ensures .0) refl
 
 pub is-named-spec : {M : Type 1} → statement M
-is-named-spec = tie.close (tie.spec enum-told enum-told-2 enum-told-3 returns returns-2 returns-3)
+is-named-spec = tie.close (tie.spec codes-requires rem-result returns)
