@@ -29,17 +29,24 @@ back-is : (n : ℕ) (s : State) → backAt (pastOf n s) (s .counter) ≡ s
 unfolding pastOf withCounter backAt
 back-is n s = refl
 
+-- what was refused in a state that has only another counter is refused in this one
+pub came-back :
+    (s beyond : State) → standingAt beyond (s .counter) ≡ s → (ram : List ℕ) (a : Answer) (u : State) (m : List ℕ) (t : Try) →
+    after a u m ≡ leaves beyond ram t → after a (standingAt u (backOf a (s .counter) (u .counter))) m ≡ leaves s ram t
+unfolding backAt
+came-back s beyond same ram a u m (did v l) e =
+    let b : a ≡ Done = ap (λ (o : Outcome). o .answer) e in
+    rw b (ap (λ (x : Answer). after x u m) (sym b) ∙ e)
+came-back s beyond same ram a u m (no x) e =
+    let b : a ≡ Refused x = ap (λ (o : Outcome). o .answer) e in
+    let k : backAt u (s .counter) ≡ s = ap (λ (o : Outcome). backAt (o .state) (s .counter)) e ∙ same in
+    rw (b, ap (λ (o : Outcome). o .ram) e) (ap (λ (v : State). after (Refused x) v ram) k)
+
 module _ (s : State) (n : ℕ) (ram : List ℕ) (a : Answer) (u : State) (m : List ℕ) where
   -- what was refused past the instruction is refused at it
   pub returned : (t : Try) → after a u m ≡ leaves (pastOf n s) ram t → after a (standingAt u (backOf a (s .counter) (u .counter))) m ≡ leaves s ram t
   unfolding backAt
-  returned (did v l) e =
-      let b : a ≡ Done = ap (λ (o : Outcome). o .answer) e in
-      rw b (ap (λ (x : Answer). after x u m) (sym b) ∙ e)
-  returned (no x) e =
-      let b : a ≡ Refused x = ap (λ (o : Outcome). o .answer) e in
-      let k : backAt u (s .counter) ≡ s = ap (λ (o : Outcome). backAt (o .state) (s .counter)) e ∙ back-is n s in
-      rw (b, ap (λ (o : Outcome). o .ram) e) (ap (λ (v : State). after (Refused x) v ram) k)
+  returned t e = came-back s (pastOf n s) (back-is n s) ram a u m t e
 
   -- the counter goes past the instruction where what was tried is done
   pub moved-on :

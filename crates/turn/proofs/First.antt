@@ -1,22 +1,19 @@
 -- What the first byte says of an instruction, and one step by the instruction that stands at the counter.
-use Prim.Native.Nat.{ℕ, suc, _+_, _-_, _/_, _%_, _<_, _≤_}
+use Prim.Native.Nat.{ℕ, suc, _-_, _<_, _≤_}
 use mathlib.Core.Path.{_≡_, refl, ap, sym, _∙_}
-use mathlib.Core.List.{List, [], _∷_}
+use mathlib.Core.List.{List}
+use mathlib.Core.Bool.{true, false}
 use lib.ListN.{length, getD}
-use types.Run.{OneOf}
-use Rattle.little.specs.declared.Size.{Size}
 use Rattle.memory.specs.Access.{codeAt}
 use Rattle.state.specs.declared.State.{State}
 use Rattle.code.specs.declared.Decoded.{Decoded}
 use Rattle.code.specs.declared.Decoded.the-variants.{Short}
-use Rattle.code.specs.declared.Operand.the-variants.{Register}
 use Rattle.code.specs.Said.{Said, judge}
-use Rattle.code.specs.Rows.{lookup, byRows}
-use Rattle.code.specs.Registers.{registerRows}
+use Rattle.code.specs.Rows.{lookup}
 use Rattle.code.specs.Listed.{aloneRows, memoryFirstRows, firstRows, decodeOf}
-use Rattle.code.specs.inner.Parts.{sizeOf}
+use Rattle.code.specs.inner.Parts.{beginsRegister, registerSize, registerBegun}
 use Rattle.code.proofs.Judge.{next-there, next-short}
-use Rattle.code.proofs.FirstRows.{in-alone, in-memory, register-form}
+use Rattle.code.proofs.FirstRows.{in-alone, in-registers, in-memory}
 use Rattle.exec.specs.Exec.{done}
 use Rattle.turn.specs.Once.{onceOf}
 use Rattle.turn.specs.inner.Times.{timesOf}
@@ -35,16 +32,10 @@ module _ (code : List ℕ) (h : 0 < length code) where
   pub alone-says : getD code 0 0 < 128 → decodeOf code ≡ judge (lookup aloneRows (getD code 0 0)) code 1
   alone-says l = by-first (lookup aloneRows (getD code 0 0)) (in-alone (getD code 0 0) l)
 
-  pub register-says :
-      (z : Size) → OneOf (25 ∷ 27 ∷ 29 ∷ []) (getD code 0 0 / 8) → z ≡ sizeOf (8 + getD code 0 0 / 16 % 4)
-      → decodeOf code ≡ judge (byRows (registerRows z (Register (getD code 0 0 % 8)))) code 1
-  register-says z k e =
-      let b = getD code 0 0 in
-      by-first (byRows (registerRows z (Register (b % 8)))) (register-form b k ∙ ap (λ (x : Size). byRows (registerRows x (Register (b % 8)))) (sym e))
+  pub register-says : getD code 0 0 < 256 → beginsRegister (getD code 0 0) ≡ true → decodeOf code ≡ judge (registerBegun (registerSize (getD code 0 0)) (getD code 0 0)) code 1
+  register-says u m = let b = getD code 0 0 in by-first (registerBegun (registerSize b) b) (in-registers b u m)
 
-  pub memory-says :
-      128 ≤ getD code 0 0 → getD code 0 0 < 256 → (OneOf (25 ∷ 27 ∷ 29 ∷ []) (getD code 0 0 / 8) → ⊥)
-      → decodeOf code ≡ judge (lookup memoryFirstRows (getD code 0 0)) code 1
+  pub memory-says : 128 ≤ getD code 0 0 → getD code 0 0 < 256 → beginsRegister (getD code 0 0) ≡ false → decodeOf code ≡ judge (lookup memoryFirstRows (getD code 0 0)) code 1
   memory-says l u m = by-first (lookup memoryFirstRows (getD code 0 0)) (in-memory (getD code 0 0) u l m)
 
 -- one step, by the instruction that stands at the counter

@@ -1,3 +1,4 @@
 pub mod Times
 pub mod ManySteps
 pub mod First
+pub mod Named

@@ -1,10 +1,9 @@
-use Prim.Native.Nat.{_%_, _<_}
+use Prim.Native.Nat.{_<_}
 use mathlib.Core.Path.{_≡_, refl, ap, sym, _∙_}
 use native.Mathlib.Omega.{arith}
 use lib.ListN.{length, getD}
 use Rattle.code.specs.declared.MemoryForm.{MemoryForm}
 use Rattle.code.specs.declared.Begun.{Begun}
-use Rattle.code.specs.declared.Operand.the-variants.{Register}
 use Rattle.code.specs.declared.Decoded.the-variants.{Short, Unlisted}
 use Rattle.code.specs.Listed.{decodeOf}
 use Rattle.code.specs.inner.Parts.{begunAs}
@@ -57,14 +56,26 @@ returns-2 c = (
 current-requires : tie.Need-current-requires
 current-requires c κs = search needs
 
-size-of-requires : tie.Need-size-of-requires
-size-of-requires c κs = search needs
+begins-requires : tie.Need-begins-requires
+begins-requires c κs = search needs
 
-read-requires-2 : tie.Need-read-requires-2
-read-requires-2 c κs = search needs
+of-registers-requires : tie.Need-of-registers-requires
+of-registers-requires c κs = search needs
 
-of-register-requires : tie.Need-of-register-requires
-of-register-requires c κs = search needs
+same-length-3 : tie.Need-same-length-3
+same-length-3 c = search needs
+
+returns-3 : tie.Need-returns-3
+returns-3 c = (
+  fewer-same (c .of-registers .result) (c .before .before .before .before .before .before .before .before .before .before .before .before .before .before .before .before .args .more .now),
+  let a = c .before .before .before .before .before .before .before .before .before .before .before .before .before .before .before .before .args in
+      let code = c .before .before .before .before .before .before .before .before .before .before .before .fetch .result .now in
+      let s = allOf (a .regs .now) (a .counter .now) (a .bank .now) (a .level .now) (a .flags .now) (a .spare .now) (a .nesting .now) in
+      (rw (c .before .before .before .before .before .before .current .ensures) at (c .of-registers .ensures s (a .ram .now) (a .rom .now)))
+      ∙ ap (leaves s (a .ram .now))
+      (once-by s (a .ram .now) (a .rom .now) code _ (a .more .now) (c .before .before .before .before .before .before .before .before .before .before .before .fetch .ensures .0)
+      (register-says code (omega (arith, c .before .before .before .before .before .before .before .before .before .before .if1 .left)) (omega (arith, c .before .before .before .before .before .before .before .before .before .shared-slice-known2 .given 0)) (sym (c .before .before .before .before .before .begins .ensures) ∙ c .before .before .before .before .if3 .taken))),
+)
 
 begin-requires : tie.Need-begin-requires
 begin-requires c κs = search needs
@@ -81,10 +92,10 @@ after-requires c κs = search needs
 of-memory-requires : tie.Need-of-memory-requires
 unfolding addressIn
 of-memory-requires c κs =
-    let code = c .before .before .before .before .before .before .before .before .before .before .before .before .before .before .before .before .before .before .fetch .result .now in
+    let code = c .before .before .before .before .before .before .before .before .before .before .before .before .before .before .before .before .before .before .before .fetch .result .now in
     let m : MemoryForm = record { base = c .before .before .before .before .before .before .before .before .before .base .given .0 .0; number = c .before .before .before .before .before .before .before .before .before .base .given .0 .1 .0 } in
-    let d = memory-says code (omega (arith, c .before .before .before .before .before .before .before .before .before .before .before .before .before .before .before .before .before .if1 .left)) (omega (arith, c .before .before .before .before .before .before .before .before .before .before .before .before .before .before .before .if2 .left)) (omega (arith, c .before .before .before .before .before .before .before .before .before .before .before .before .before .before .before .before .shared-slice-known2 .given 0)) (c .before .before .before .before .before .before .before .before .before .before .before .before .match .rest .1) in
-    (m, ap decodeOf (sym (c .before .before .before .before .before .before .before .before .before .before .before .before .before .before .before .before .before .before .fetch .ensures .0)) ∙ (d ∙ (sym (c .before .before .before .before .before .before .before .before .before .before .before .begin .ensures) ∙ (ap (λ (x : Begun). begunAs x (getD code 0 0) code) (c .before .before .before .before .before .before .before .before .before .base .given .1) ∙ sym (c .before .before .before .before .before .after .ensures m)))), c .before .before .before .before .before .before .address .ensures)
+    let d = memory-says code (omega (arith, c .before .before .before .before .before .before .before .before .before .before .before .before .before .before .before .before .before .before .if1 .left)) (omega (arith, c .before .before .before .before .before .before .before .before .before .before .before .before .before .before .before .before .if2 .left)) (omega (arith, c .before .before .before .before .before .before .before .before .before .before .before .before .before .before .before .before .before .shared-slice-known2 .given 0)) (sym (c .before .before .before .before .before .before .before .before .before .before .before .before .before .begins .ensures) ∙ c .before .before .before .before .before .before .before .before .before .before .before .before .if3 .left) in
+    (m, ap decodeOf (sym (c .before .before .before .before .before .before .before .before .before .before .before .before .before .before .before .before .before .before .before .fetch .ensures .0)) ∙ (d ∙ (sym (c .before .before .before .before .before .before .before .before .before .before .before .begin .ensures) ∙ (ap (λ (x : Begun). begunAs x (getD code 0 0) code) (c .before .before .before .before .before .before .before .before .before .base .given .1) ∙ sym (c .before .before .before .before .before .after .ensures m)))), c .before .before .before .before .before .before .address .ensures)
 
 enum-told : tie.Need-enum-told
 enum-told c = search needs
@@ -92,29 +103,15 @@ enum-told c = search needs
 enum-told-2 : tie.Need-enum-told-2
 enum-told-2 c = search needs
 
-same-length-3 : tie.Need-same-length-3
-same-length-3 c = search needs
-
-returns-3 : tie.Need-returns-3
-returns-3 c = (
-  fewer-same (c .of-register .result) (c .before .before .before .before .before .before .before .before .before .before .before .before .before .before .before .before .before .args .more .now),
-  let a = c .before .before .before .before .before .before .before .before .before .before .before .before .before .before .before .before .before .args in
-      let code = c .before .before .before .before .before .before .before .before .before .before .before .before .fetch .result .now in
-      let s = allOf (a .regs .now) (a .counter .now) (a .bank .now) (a .level .now) (a .flags .now) (a .spare .now) (a .nesting .now) in
-      (rw (c .before .before .before .before .before .before .before .current .ensures) at (c .of-register .ensures s (a .ram .now) (a .rom .now)))
-      ∙ ap (leaves s (a .ram .now))
-      (once-by s (a .ram .now) (a .rom .now) code _ (a .more .now) (c .before .before .before .before .before .before .before .before .before .before .before .before .fetch .ensures .0) (register-says code (omega (arith, c .before .before .before .before .before .before .before .before .before .before .before .if1 .left)) (c .before .before .before .before .before .size-of .result) (c .before .before .before .before .before .before .match .keys1) (c .before .before .before .before .before .size-of .ensures) ∙ sym (c .before .before .before .before .read2 .ensures (Register (getD code 0 0 % 8))))),
-)
-
 same-length-4 : tie.Need-same-length-4
 same-length-4 c = search needs
 
 returns-4 : tie.Need-returns-4
 returns-4 c = (
   c .before .before .of-memory .ensures .0,
-  let a = c .before .before .before .before .before .before .before .before .before .before .before .before .before .before .before .before .before .before .before .before .before .before .before .before .before .before .args in
+  let a = c .before .before .before .before .before .before .before .before .before .before .before .before .before .before .before .before .before .before .before .before .before .before .before .before .before .before .before .args in
       let s = allOf (a .regs .now) (a .counter .now) (a .bank .now) (a .level .now) (a .flags .now) (a .spare .now) (a .nesting .now) in
-      rw (c .before .before .before .before .before .before .before .before .before .before .before .before .before .before .before .before .current .ensures) at (c .before .before .of-memory .ensures .1 s),
+      rw (c .before .before .before .before .before .before .before .before .before .before .before .before .before .before .before .before .before .current .ensures) at (c .before .before .of-memory .ensures .1 s),
 )
 
 same-length-5 : tie.Need-same-length-5
@@ -123,12 +120,12 @@ same-length-5 c = search needs
 returns-5 : tie.Need-returns-5
 returns-5 c = (
   refl,
-  let a = c .before .before .before .before .before .before .before .before .before .before .before .before .before .before .args in
-      let code = c .before .before .before .before .before .before .before .before .before .fetch .result .now in
+  let a = c .before .before .before .before .before .before .before .before .before .before .before .before .before .before .before .args in
+      let code = c .before .before .before .before .before .before .before .before .before .before .fetch .result .now in
       let s = allOf (a .regs .now) (a .counter .now) (a .bank .now) (a .level .now) (a .flags .now) (a .spare .now) (a .nesting .now) in
-      let d = memory-says code (omega (arith, c .before .before .before .before .before .before .before .before .if1 .left)) (omega (arith, c .before .before .before .before .before .before .if2 .left)) (omega (arith, c .before .before .before .before .before .before .before .shared-slice-known2 .given 0)) (c .before .before .before .match .rest .1) in
+      let d = memory-says code (omega (arith, c .before .before .before .before .before .before .before .before .before .if1 .left)) (omega (arith, c .before .before .before .before .before .before .before .if2 .left)) (omega (arith, c .before .before .before .before .before .before .before .before .shared-slice-known2 .given 0)) (sym (c .before .before .before .before .begins .ensures) ∙ c .before .before .before .if3 .left) in
       ap (leaves s (a .ram .now))
-      (once-by s (a .ram .now) (a .rom .now) code Short (a .more .now) (c .before .before .before .before .before .before .before .before .before .fetch .ensures .0) (d ∙ (sym (c .before .before .begin .ensures) ∙ ap (λ (x : Begun). begunAs x (getD code 0 0) code) (c .enum-told .given .1)))),
+      (once-by s (a .ram .now) (a .rom .now) code Short (a .more .now) (c .before .before .before .before .before .before .before .before .before .before .fetch .ensures .0) (d ∙ (sym (c .before .before .begin .ensures) ∙ ap (λ (x : Begun). begunAs x (getD code 0 0) code) (c .enum-told .given .1)))),
 )
 
 same-length-6 : tie.Need-same-length-6
@@ -137,13 +134,41 @@ same-length-6 c = search needs
 returns-6 : tie.Need-returns-6
 returns-6 c = (
   refl,
-  let a = c .before .before .before .before .before .before .before .before .before .before .before .before .before .before .args in
-      let code = c .before .before .before .before .before .before .before .before .before .fetch .result .now in
+  let a = c .before .before .before .before .before .before .before .before .before .before .before .before .before .before .before .args in
+      let code = c .before .before .before .before .before .before .before .before .before .before .fetch .result .now in
       let s = allOf (a .regs .now) (a .counter .now) (a .bank .now) (a .level .now) (a .flags .now) (a .spare .now) (a .nesting .now) in
-      let d = memory-says code (omega (arith, c .before .before .before .before .before .before .before .before .if1 .left)) (omega (arith, c .before .before .before .before .before .before .if2 .left)) (omega (arith, c .before .before .before .before .before .before .before .shared-slice-known2 .given 0)) (c .before .before .before .match .rest .1) in
+      let d = memory-says code (omega (arith, c .before .before .before .before .before .before .before .before .before .if1 .left)) (omega (arith, c .before .before .before .before .before .before .before .if2 .left)) (omega (arith, c .before .before .before .before .before .before .before .before .shared-slice-known2 .given 0)) (sym (c .before .before .before .before .begins .ensures) ∙ c .before .before .before .if3 .left) in
       ap (leaves s (a .ram .now))
-      (once-by s (a .ram .now) (a .rom .now) code Unlisted (a .more .now) (c .before .before .before .before .before .before .before .before .before .fetch .ensures .0) (d ∙ (sym (c .before .before .begin .ensures) ∙ ap (λ (x : Begun). begunAs x (getD code 0 0) code) (c .enum-told2 .given .1)))),
+      (once-by s (a .ram .now) (a .rom .now) code Unlisted (a .more .now) (c .before .before .before .before .before .before .before .before .before .before .fetch .ensures .0) (d ∙ (sym (c .before .before .begin .ensures) ∙ ap (λ (x : Begun). begunAs x (getD code 0 0) code) (c .enum-told2 .given .1)))),
 )
 
 pub once-spec : {M : Type 1} → statement M
-once-spec = tie.close (tie.spec fetch-requires same-length returns shared-slice-read-b read-requires alone-requires same-length-2 returns-2 current-requires size-of-requires read-requires-2 of-register-requires begin-requires enum-known-base address-requires after-requires of-memory-requires enum-told enum-told-2 same-length-3 returns-3 same-length-4 returns-4 same-length-5 returns-5 same-length-6 returns-6)
+once-spec =
+    tie.close
+    (tie.spec
+    fetch-requires
+    same-length
+    returns
+    shared-slice-read-b
+    read-requires
+    alone-requires
+    same-length-2
+    returns-2
+    current-requires
+    begins-requires
+    of-registers-requires
+    same-length-3
+    returns-3
+    begin-requires
+    enum-known-base
+    address-requires
+    after-requires
+    of-memory-requires
+    enum-told
+    enum-told-2
+    same-length-4
+    returns-4
+    same-length-5
+    returns-5
+    same-length-6
+    returns-6)
