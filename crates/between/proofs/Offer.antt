@@ -23,7 +23,7 @@ use Rattle.stack.specs.Stack.{pushBytes}
 use Rattle.step.specs.Step.{tooLong, guarded}
 use Rattle.facts.specs.Touched.{none, bytes, belowStack, operandsAnswer, KeepsRest}
 use Rattle.facts.specs.Statements.{_⇔_, Within, Passed}
-use Rattle.facts.proofs.Touched.{Kept, Recounted, Gives, fair-storing-bytes, fair-loaded, fair-then}
+use Rattle.facts.proofs.Touched.{register-kept, Kept, Recounted, Gives, fair-storing-bytes, fair-loaded, fair-then}
 use Rattle.facts.proofs.Kept.{valid-kept, valid-recounted, Whole, whole-kept, whole-recounted}
 use Rattle.facts.proofs.Statements.{some, longer, within, not-long, fair-answer, fair-done, ByOperands, by-operands, far, both}
 use Rattle.code.specs.declared.Op.the-variants.{Interrupts}
@@ -57,7 +57,7 @@ module _ (P : State → Type 0) (k : Kept P) (c : (s : State) (n : ℕ) → P s 
   taken-fair level address s ram rom ok =
       fair-loaded P ram rom address Long (belowStack s 6) _
       (λ v. fair-then P ram rom none (belowStack s 6) (pushBytes s ram rom 6 (returnAddress s)) (entered level v)
-      (fair-storing-bytes P ram rom _ _ 6 (returnAddress s) (k .registers s Long 7 _ ok)) (entered-kept level v))
+      (fair-storing-bytes P ram rom _ _ 6 (returnAddress s) (register-kept k s Long 7 _ ok)) (entered-kept level v))
 
 module _ (level address : ℕ) (s : State) (ram rom : List ℕ) where
   abbrev answer : Answer

@@ -1,6 +1,7 @@
 pub mod Computed
 pub mod Cases
 pub mod Runs
+pub mod Banks
 pub mod Marks
 pub mod Interrupts
 pub mod Tests

@@ -1,6 +1,7 @@
 pub mod Table
 pub mod Cases
 pub mod Runs
+pub mod Banks
 pub mod Marks
 pub mod Interrupts
 pub mod Evidence

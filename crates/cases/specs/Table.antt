@@ -3,7 +3,7 @@ use Rattle.little.specs.Words.{ℕ, _≡_, List, [], _∷_, replicate}
 use Rattle.answer.specs.declared.{Answer.Answer, Answer.the-variants.Done, Why.Why}
 use Rattle.little.specs.{declared.Size.Size, Bytes.replaced}
 use Rattle.little.specs.declared.Size.the-variants.{Byte, Word, Long}
-use Rattle.state.specs.{declared.State.State, State.resetState, State.lent, State.withCounter, State.withBank, State.withLevel, State.withNesting, State.withFlags, State.withBothFlags, Register.setRegister}
+use Rattle.state.specs.{declared.State.State, State.resetState, State.lent, State.withCounter, State.withBank, State.withLevel, State.withNesting, State.withFlags, State.withBothFlags, State.withLong, Register.setRegister}
 use Rattle.operand.specs.Try.{Try, did, no}
 use Rattle.turn.specs.Many.{ends}
 use Rattle.run.specs.Run.{runOf}
@@ -23,13 +23,15 @@ unfoldable pub begin : ℕ → List ℕ → Machine
 begin f ram = machine (lent (resetState 0) (replicate 20 0x5A5A5A5A) 0 0 f 0x51) ram
 
 -- what is different in a machine: nothing; one thing and then another; a register, F or F' with its marks above it (1xx marks H, 2xx V),
--- the bank, the level, the nesting count or the counter, set to a number; the bytes of RAM from an address on
+-- the bank, the level, the nesting count or the counter, set to a number; the bytes of RAM from an address on; one of the twenty longs, by
+-- its place, set to a number
 infixl 40 _&_
 pub data Setting : Type 0 where
   nothing : Setting
   _&_ : Setting → Setting → Setting
   A WA BC DE HL IX XDE XHL XIX XIY XSP F F′ Bank Level Nesting Counter : ℕ → Setting
   Ram : ℕ → List ℕ → Setting
+  At : ℕ → ℕ → Setting
 
 -- a machine with this state in the place of its own; with a register, by its size and code, set
 abbrev pub having : State → Machine → Machine
@@ -61,6 +63,7 @@ m ▹ Level l = having (withLevel (m .state) l) m
 m ▹ Nesting n = having (withNesting (m .state) n) m
 m ▹ Counter a = having (withCounter (m .state) a) m
 m ▹ Ram o bytes = machine (m .state) (replaced o bytes (m .ram))
+m ▹ At i v = having (withLong (m .state) i v) m
 
 -- ---- a run of so many steps from a machine and a ROM, and what it must leave: the machine, the count and the answer
 pub record Case : Type 0 where

@@ -2,6 +2,7 @@ pub mod Groups
 pub mod Tables
 pub mod Judge
 pub mod Later
+pub mod Alike
 pub mod FirstRows
 pub mod RegisterRows
 pub mod Prefix

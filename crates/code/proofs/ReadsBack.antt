@@ -88,11 +88,14 @@ is-pushed : (op : Op) (z : Size) (c : ℕ) → ((r : ℕ) → r < 7 → Lists fi
 is-pushed op z c e = on-register _ 7 (λ r h. byte firstRows (c + r) (e r h))
 
 -- ---- after a register, and after a memory form in the row g
+pub register-begun : (z : Size) (o : Operand) → Holds (registerRange z o) → Says (byRows firstRows) (placeCode (sizeStep z) o) (byRows (registerRows z o))
+register-begun z (Register r) h = byte firstRows (0xC8 + sizeStep z + r) (register-form z r h)
+register-begun z (Named c) h = next (byte firstRows (0xC7 + sizeStep z) (named-form z)) (byte (codeByteRows z) c (code-byte z c (h .0) (h .1)))
+register-begun z (Constant v) h = absurd h
+register-begun z (Memory m) h = absurd h
+
 after-register : {q : List ℕ} {k : Said} (z : Size) (o : Operand) → Holds (registerRange z o) → Says (byRows (registerRows z o)) q k → Says (byRows firstRows) (placeCode (sizeStep z) o ++ q) k
-after-register z (Register r) h s = next (byte firstRows (0xC8 + sizeStep z + r) (register-form z r h)) s
-after-register z (Named c) h s = next (next (byte firstRows (0xC7 + sizeStep z) (named-form z)) (byte (codeByteRows z) c (code-byte z c (h .0) (h .1)))) s
-after-register z (Constant v) h s = absurd h
-after-register z (Memory m) h s = absurd h
+after-register z o h s = next (register-begun z o h) s
 
 module _
     (g : ℕ) (rows : Base → ℕ → List Row)

@@ -7,6 +7,7 @@ use native.Mathlib.Omega.{arith}
 use lib.ListN.{length}
 use Rattle.answer.specs.declared.Answer.{Answer}
 use Rattle.little.specs.declared.Size.{Size}
+use Rattle.little.specs.Width.{bytesOf}
 use Rattle.flags.specs.Flag.{packedOf}
 use Rattle.flags.specs.declared.Flags.{Flags}
 use Rattle.flags.proofs.Fits.{Fits}
@@ -14,12 +15,12 @@ use Rattle.flags.proofs.Packed.{packed-lt}
 use Rattle.operand.proofs.Flags.{valid-fits, fits-valid}
 use Rattle.memory.specs.Access.{codeAt}
 use Rattle.state.specs.State.{withCounter, withBank, withLevel, withNesting, withFlags, withBothFlags}
-use Rattle.state.specs.Register.{setRegister}
+use Rattle.state.specs.Named.{named, withHeld}
 use Rattle.state.specs.Sound.{Sound}
 use Rattle.state.specs.declared.State.{State}
 use Rattle.state.proofs.Sound.{sound-lent, sound-nested}
-use Rattle.state.proofs.Laws.{sound-register}
-use Rattle.state.proofs.Valid.{Valid, valid-says, valid-from, valid-register, valid-counter, valid-bank, valid-level, valid-nesting, valid-flags, valid-both}
+use Rattle.state.proofs.Naming.{sound-held}
+use Rattle.state.proofs.Valid.{Valid, valid-says, valid-from, valid-held, valid-counter, valid-bank, valid-level, valid-nesting, valid-flags, valid-both}
 use Rattle.code.specs.declared.Form.{Form}
 use Rattle.code.specs.declared.Op.{Op}
 use Rattle.code.specs.declared.Op.the-variants.{Controls, Stacks, Puts, Sets, Blocks, Interrupts}
@@ -36,8 +37,8 @@ use Rattle.facts.specs.Touched.{Span, none, bytes, usesMarked, readOf, s
 use Rattle.facts.proofs.Touched.{Kept, Recounted, past-kept, copied-kept, compared-kept, Gives, GivesBy, fair-round, fair-effect}
 
 -- ---- validity
-valid-register-kept : (s : State) (z : Size) (r v : ℕ) → Valid s → Valid (setRegister s z r v)
-valid-register-kept s z r v ok = valid-says _ (valid-register s z r v ∙ valid-from s ok)
+valid-part : (s : State) (z : Size) (c v : ℕ) → Valid s → Valid (withHeld s (named (s .bank .0 % 4) (bytesOf z) c) v)
+valid-part s z c v ok = valid-says _ (valid-held s _ v ∙ valid-from s ok)
 
 valid-flagged : (s : State) (f : Flags) → Fits f → Valid s → Valid (flagged s f)
 unfolding flagged
@@ -46,7 +47,7 @@ valid-flagged s f x ok = valid-flags s (packedOf f) (fits-valid f x) ok
 pub valid-kept : Kept Valid
 valid-kept =
     record {
-      registers = valid-register-kept;
+      parts = valid-part;
       counters = valid-counter;
       banks = valid-bank;
       levels = valid-level;
@@ -104,7 +105,7 @@ Whole s = Valid s × Sound s
 pub whole-kept : Kept Whole
 whole-kept =
     record {
-      registers = λ s z r v ok. (valid-kept .registers s z r v (ok .0), sound-register s z r v (ok .1));
+      parts = λ s z c v ok. (valid-kept .parts s z c v (ok .0), sound-held s (s .bank .0 % 4) z c v (ok .1));
       counters = λ s c ok. (valid-kept .counters s c (ok .0), sound-counter s c (ok .1));
       banks = λ s b ok. (valid-kept .banks s b (ok .0), sound-bank s b (ok .1));
       levels = λ s l ok. (valid-kept .levels s l (ok .0), sound-level s l (ok .1));

@@ -15,6 +15,7 @@ use Rattle.memory.specs.declared.Loaded.{Loaded}
 use Rattle.memory.specs.declared.Loaded.the-variants as loaded
 use Rattle.state.specs.State.{withLevel, withNesting, withBank, withFlags, withBothFlags, withCounter, withLong}
 use Rattle.state.specs.Register.{setSlot, getRegister, setRegister}
+use Rattle.state.specs.Named.{Bits, bits, none, withHeld}
 use Rattle.state.specs.declared.State.{State}
 use Rattle.state.proofs.Valid.{Valid, valid-says}
 use Rattle.code.specs.declared.Op.{Op}
@@ -67,6 +68,11 @@ ei-sets s ram rom rest n p e = (
 )
 
 -- ---- the nesting count
+part-nesting : (s : State) (t : Bits) (v : ℕ) → withHeld s t v .nesting ≡ s .nesting
+unfolding withHeld withLong
+part-nesting s (bits i o k) v = refl
+part-nesting s none v = refl
+
 module _ (c : ℕ) where
   -- a valid state with this count
   abbrev Counting : State → Type 0
@@ -77,7 +83,7 @@ module _ (c : ℕ) where
   unfolding setRegister setSlot withLong withCounter withBank withLevel withFlags withBothFlags flagged
   counting-kept =
       record {
-        registers = λ s z r v ok. (valid-kept .registers s z r v (ok .0), ok .1);
+        parts = λ s z e v ok. (valid-kept .parts s z e v (ok .0), part-nesting s _ v ∙ ok .1);
         counters = λ s n ok. (valid-kept .counters s n (ok .0), ok .1);
         banks = λ s b ok. (valid-kept .banks s b (ok .0), ok .1);
         levels = λ s l ok. (valid-kept .levels s l (ok .0), ok .1);

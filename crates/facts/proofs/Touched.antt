@@ -1,6 +1,6 @@
 -- One walk over what each instruction does: what it keeps of the state, the bytes that it spares, and its answer.
 use Prim.Native.Nat.{ℕ, _+_, _<_, _≤_}
-use mathlib.Core.Path.{_≡_, refl, ap, _∙_, subst}
+use mathlib.Core.Path.{_≡_, refl, ap, sym, _∙_, subst}
 use mathlib.Core.List.{List}
 use mathlib.Core.Bool.{Bool, true, false, cond, _&&_}
 use mathlib.Core.Logic.{_⊎_, ⊎-elim}
@@ -27,10 +27,12 @@ use Rattle.memory.proofs.Laws.{bytes-length, bytes-below, bytes-above}
 use Rattle.state.specs.State.{withCounter, withBank, withLevel, withNesting, withFlags, withBothFlags}
 use Rattle.state.specs.Sr.{fIn}
 use Rattle.state.specs.Register.{getRegister, setRegister}
+use Rattle.state.specs.Named.{named, withHeld, codeFor}
+use Rattle.state.proofs.Naming.{plain-names}
 use Rattle.state.specs.declared.State.{State}
 use Rattle.code.specs.declared.Form.{Form}
 use Rattle.code.specs.declared.Operand.{Operand}
-use Rattle.code.specs.declared.Operand.the-variants.{Register, Constant, Memory}
+use Rattle.code.specs.declared.Operand.the-variants.{Register, Named, Constant, Memory}
 use Rattle.code.specs.declared.Op.{Op}
 use Rattle.code.specs.declared.Op.the-variants.{Controls, Stacks, Puts, Sets, Blocks, Interrupts}
 use Rattle.code.specs.declared.Control.{Control}
@@ -72,13 +74,17 @@ unmarked-fits f = record { few = omega arith; h = refl; v = refl }
 
 -- what no change of the state breaks
 pub record Kept (P : State → Type 0) : Type 0 where
-  pub registers : (s : State) (z : Size) (r v : ℕ) → P s → P (setRegister s z r v)
+  pub parts : (s : State) (z : Size) (c v : ℕ) → P s → P (withHeld s (named (s .bank .0 % 4) (bytesOf z) c) v)
   pub counters : (s : State) (c : ℕ) → P s → P (withCounter s c)
   pub banks : (s : State) (b : ℕ) → P s → P (withBank s b)
   pub levels : (s : State) (l : ℕ) → P s → P (withLevel s l)
   pub fitting : (s : State) → P s → Fits (flagsIn s)
   pub flags : (s : State) (f : Flags) → Fits f → P s → P (flagged s f)
   pub exchanges : (s : State) → P s → P (exchanged s)
+
+-- a register 0 to 7 is one of the parts
+pub register-kept : {P : State → Type 0} → Kept P → (s : State) (z : Size) (r v : ℕ) → P s → P (setRegister s z r v)
+register-kept {P} k s z r v ok = subst P (sym (plain-names (s .bank) z r .1 s v refl)) (k .parts s z (codeFor z (r % 8)) v ok)
 
 -- nor, where an operation is RETI, a change of the nesting count: no other touches it
 abbrev pub Recounted : (State → Type 0) → Op → Type 0
@@ -110,11 +116,11 @@ module _ (P : State → Type 0) (k : Kept P) where
 
   moved-kept : (f : Form) (r : ℕ) (s : State) → P s → P (moved f r s)
   unfolding moved
-  moved-kept f r s ok = k .registers s Long r _ ok
+  moved-kept f r s ok = register-kept k s Long r _ ok
 
   counted-kept : (s : State) → P s → P (counted s)
   unfolding counted
-  counted-kept s ok = k .registers s Word 1 _ ok
+  counted-kept s ok = register-kept k s Word 1 _ ok
 
   pub copied-kept : (f : Form) (s : State) → P s → P (copied f s)
   unfolding copied
@@ -174,7 +180,8 @@ module _ (P : State → Type 0) (ram rom : List ℕ) where
   fair-storing t a z v ok = fair-storing-bytes t a (bytesOf z) v ok
 
   fair-put : (s : State) (z : Size) (o : Operand) (v : ℕ) → Kept P → P s → Fair none (operandSpan s z o) (putAt s ram rom z o v)
-  fair-put s z (Register r) v k ok = fair-did _ (k .registers s z r v ok)
+  fair-put s z (Register r) v k ok = fair-did _ (register-kept k s z r v ok)
+  fair-put s z (Named c) v k ok = fair-did _ (k .parts s z c v ok)
   fair-put s z (Constant n) v k ok = fair-did s ok
   fair-put s z (Memory m) v k ok = fair-storing s _ z v ok
 
@@ -197,6 +204,7 @@ module _ (P : State → Type 0) (ram rom : List ℕ) where
   fair-value : (s : State) (z : Size) (o : Operand) (g : Span) (f : ℕ → Try) → ((v : ℕ) → Fair none g (f v)) → Fair (operandSpan s z o) g (withLoaded (valueAt s ram rom z o) f)
   unfolding valueIn
   fair-value s z (Register r) g f h = h _
+  fair-value s z (Named c) g f h = h _
   fair-value s z (Constant n) g f h = h _
   fair-value s z (Memory m) g f h = fair-loaded _ z g f h
 
@@ -207,7 +215,7 @@ module _ (P : State → Type 0) (ram rom : List ℕ) where
 
   fair-push : (s : State) (z : Size) (v : ℕ) → Kept P → P s → Fair none (belowStack s (bytesOf z)) (pushOf s ram rom z v)
   unfolding pushOf
-  fair-push s z v k ok = fair-storing-bytes _ _ (bytesOf z) v (k .registers s Long 7 _ ok)
+  fair-push s z v k ok = fair-storing-bytes _ _ (bytesOf z) v (register-kept k s Long 7 _ ok)
 
   fair-call : (s : State) (to : ℕ) → Kept P → P s → Fair none (belowStack s 4) (andThen (pushOf s ram rom Long (s .counter)) (λ t. withCounter t to))
   fair-call s to k ok = fair-then none _ (pushOf s ram rom Long (s .counter)) _ (fair-push s Long _ k ok) (λ t h. k .counters t to h)
@@ -216,7 +224,7 @@ module _ (P : State → Type 0) (ram rom : List ℕ) where
       (s : State) (n : ℕ) (rest : State → ℕ → State) → ((t : State) (v : ℕ) → P t → P (rest t v)) → Kept P → P s
       → Fair (onStack s n) none (popBytes s ram rom n rest)
   fair-pop-bytes s n rest h k ok =
-      fair-loaded-bytes (pointerOf s 7) n none _ (λ v. fair-did _ (h _ v (k .registers s Long 7 (plus 32 (getRegister s Long 7) n) ok)))
+      fair-loaded-bytes (pointerOf s 7) n none _ (λ v. fair-did _ (h _ v (register-kept k s Long 7 (plus 32 (getRegister s Long 7) n) ok)))
 
   fair-pop :
       (s : State) (z : Size) (rest : State → ℕ → State) → ((t : State) (v : ℕ) → P t → P (rest t v)) → Kept P → P s
@@ -228,6 +236,7 @@ module _ (P : State → Type 0) (ram rom : List ℕ) where
   span-flags : (s : State) (f : ℕ) (z : Size) (o : Operand) → operandSpan (withFlags s f) z o ≡ operandSpan s z o
   unfolding withFlags withBothFlags
   span-flags s f z (Register r) = refl
+  span-flags s f z (Named c) = refl
   span-flags s f z (Constant n) = refl
   span-flags s f z (Memory m) = refl
 
@@ -322,7 +331,7 @@ module _ (P : State → Type 0) (ram rom : List ℕ) where
   fair-stack PushF z o s k ok = fair-push-f s k ok
   fair-stack PopF z o s k ok = fair-pop s Byte _ (λ t v h. byte-kept P k t v h) k ok
   fair-stack Push z o s k ok = fair-push s z _ k ok
-  fair-stack Pop z o s k ok = fair-pop s z _ (λ t v h. k .registers t z _ v h) k ok
+  fair-stack Pop z o s k ok = fair-pop s z _ (λ t v h. register-kept k t z _ v h) k ok
   fair-stack Call16 z o s k ok = fair-call s _ k ok
   fair-stack Call24 z o s k ok = fair-call s _ k ok
   fair-stack Calr z o s k ok = fair-call s _ k ok
@@ -340,7 +349,7 @@ module _ (P : State → Type 0) (ram rom : List ℕ) where
   unfolding putsOf
   fair-puts (Number n) z o s k ok = fair-put s z o n k ok
   fair-puts (From r) z o s k ok = fair-put s z o _ k ok
-  fair-puts (Load r) z o s k ok = fair-value s z o _ _ (λ v. fair-did _ (k .registers s z r v ok))
+  fair-puts (Load r) z o s k ok = fair-value s z o _ _ (λ v. fair-did _ (register-kept k s z r v ok))
   fair-puts (Compute op (First r)) z o s k ok = fair-value s z o _ _ (λ v. fair-register op s z r (computed s op z (getRegister s z r) v) (operated-fits op _ _ _ _) k ok)
   fair-puts (Compute op (Second r)) z o s k ok = fair-value s z o _ _ (λ v. fair-answer op s z o (computed s op z v (getRegister s z r)) (operated-fits op _ _ _ _) k ok)
   fair-puts (Compute op (With n)) z o s k ok = fair-value s z o _ _ (λ v. fair-answer op s z o (computed s op z v n) (operated-fits op _ _ _ _) k ok)
@@ -353,6 +362,6 @@ module _ (P : State → Type 0) (ram rom : List ℕ) where
   fair-effect (Controls what) z o at s k c ok = fair-control what _ s k ok
   fair-effect (Stacks what) z o at s k c ok = fair-stack what z o s k ok
   fair-effect (Puts how) z o at s k c ok = fair-puts how z o s k ok
-  fair-effect (Sets r) z o at s k c ok = fair-did _ (k .registers s z r _ ok)
+  fair-effect (Sets r) z o at s k c ok = fair-did _ (register-kept k s z r _ ok)
   fair-effect (Blocks f) z o at s k c ok = fair-then _ _ (roundOf f s ram rom) (endsAt f at) (fair-round f s k ok) (λ t h. ends-kept P k f at t h)
   fair-effect (Interrupts what) z o at s k c ok = fair-interrupt what s k c ok

@@ -28,7 +28,7 @@ use Rattle.state.specs.declared.State.{State}
 use Rattle.code.specs.declared.Base.{Base}
 use Rattle.code.specs.declared.Base.the-variants.{Indirect, Displaced, Absolute8, Absolute16, Absolute24}
 use Rattle.code.specs.declared.Operand.{Operand}
-use Rattle.code.specs.declared.Operand.the-variants.{Register, Constant, Memory}
+use Rattle.code.specs.declared.Operand.the-variants.{Register, Named, Constant, Memory}
 use Rattle.code.specs.declared.Op.{Op}
 use Rattle.code.specs.declared.Op.the-variants.{Controls, Stacks, Puts, Sets, Blocks, Interrupts}
 use Rattle.code.specs.declared.Stack.{Stack}
@@ -135,6 +135,7 @@ address-below s Absolute24 n = round _
 operand-fits : (s : State) (z : Size) (o : Operand) → Fits (operandSpan s z o)
 unfolding addressIn
 operand-fits s z (Register r) = fits-none
+operand-fits s z (Named c) = fits-none
 operand-fits s z (Constant n) = fits-none
 operand-fits s z (Memory m) = fits-bytes (address-below s (m .base) (m .number)) (size-some z)
 

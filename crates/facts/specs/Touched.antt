@@ -7,7 +7,7 @@ use Rattle.memory.specs.declared.Place.the-variants.{Ram, Rom, Missing}
 use Rattle.state.specs.{declared.State.State, Register.getRegister}
 use Rattle.flags.specs.{Condition.readsMarked, Flag.anyMarked}
 use Rattle.code.specs.declared.{Operand.Operand, Op.Op, Control.Control, Stack.Stack, Interrupt.Interrupt, Use.Use}
-use Rattle.code.specs.declared.Operand.the-variants.{Register, Constant, Memory}
+use Rattle.code.specs.declared.Operand.the-variants.{Register, Named, Constant, Memory}
 use Rattle.code.specs.declared.Op.the-variants.{Controls, Stacks, Puts, Sets, Blocks, Interrupts}
 use Rattle.code.specs.declared.Control.the-variants.{Nop, Incf, Decf, Ldf, Rcf, Scf, Ccf, Zcf, Exf, Jp16, Jp24, Jr, Jrl, Ei}
 use Rattle.code.specs.declared.Stack.the-variants.{PushF, PopF, Push, Pop, Call16, Call24, Calr, Ret}
@@ -71,6 +71,7 @@ pub data Span : Type 0 where
 -- a register and a constant have no bytes in memory
 abbrev pub operandSpan : State → Size → Operand → Span
 operandSpan s z (Register r) = none
+operandSpan s z (Named c) = none
 operandSpan s z (Constant n) = none
 operandSpan s z (Memory m) = bytes (addressOf s m) (bytesOf z)
 

@@ -1,4 +1,4 @@
--- An instruction has at most six bytes, and the promise settles the result.
+-- An instruction has at most seven bytes, and the promise settles the result.
 use Prim.Native.Nat.{ℕ, _^_, _≤_}
 use mathlib.Core.Path.{_≡_, refl, sym, _∙_}
 use mathlib.Core.List.{List, []}
@@ -17,19 +17,19 @@ use Rattle.step.specs.Step.{tooLong}
 use Rattle.step.specs.Show.{lengthIn, shownOf, showAnswerOf}
 use Rattle.look.specs.Statements.{CShowMeets, Settled}
 
-length-few : (l : List ℕ) → lengthIn (decodeOf l) ≤ 6
+length-few : (l : List ℕ) → lengthIn (decodeOf l) ≤ 7
 length-few l = go (decodeOf l) refl
   where
-    go : (d : Decoded) → decodeOf l ≡ d → lengthIn d ≤ 6
+    go : (d : Decoded) → decodeOf l ≡ d → lengthIn d ≤ 7
     go decoded.Short e = omega arith
     go decoded.Unlisted e = omega arith
     go (decoded.Whole i) e = length-fits l i e .1 .0
 
-pub shown-few : (ram rom : List ℕ) (at : ℕ) (code : List ℕ) → code ≡ shownOf ram rom at → length code ≤ 6
+pub shown-few : (ram rom : List ℕ) (at : ℕ) (code : List ℕ) → code ≡ shownOf ram rom at → length code ≤ 7
 unfolding shownOf
 shown-few ram rom at code e = rw e (go (tooLong (length ram) (length rom)) (ltb at (2 ^ 24)))
   where
-    go : (x y : Bool) → length (cond x [] (cond y (take (lengthIn (decodeOf (codeAt ram rom at))) (codeAt ram rom at)) [])) ≤ 6
+    go : (x y : Bool) → length (cond x [] (cond y (take (lengthIn (decodeOf (codeAt ram rom at))) (codeAt ram rom at)) [])) ≤ 7
     go true y = omega arith
     go false false = omega arith
     go false true = omega (arith, length-take (lengthIn (decodeOf (codeAt ram rom at))) (codeAt ram rom at), length-few (codeAt ram rom at))

@@ -1,11 +1,12 @@
 -- The parts that codes name: the registers 0 to 7 among them, what a write leaves, and which of them overlap.
 use Prim.Native.Nat.{ℕ, _+_, _-_, _*_, _/_, _%_, _^_, _<_, _≤_}
-use mathlib.Core.Path.{_≡_, refl, sym, ap, _∙_}
+use mathlib.Core.Path.{_≡_, refl, sym, ap, subst, _∙_}
 use mathlib.Core.Bool.{Bool, true, false, cond, _&&_, _||_}
 use mathlib.Core.List.{List}
 use mathlib.Core.Logic.{_⊎_, inl, inr, _↔_}
 use native.Mathlib.Omega.{arith}
 use lib.Dec.{ltb, leb, eqb}
+use lib.ListN.{getD}
 use borrow.Author.Tests.{le-ltb, le-leb, eq-eqb, eqb-true, eqb-false, ltb-true, ltb-false, leb-true, leb-false}
 use Rattle.little.specs.declared.Size.{Size}
 use Rattle.little.specs.declared.Size.the-variants.{Byte, Word, Long}
@@ -19,8 +20,8 @@ use Rattle.state.specs.Register.{getBits, setBits, startOf, widthOf, slo
 use Rattle.state.specs.Named.{sixteenOf, byteOf, isNamed, Bits, bits, none, named, heldIn, withHeld, codeFor}
 use Rattle.state.specs.Sound.{Sound}
 use Rattle.state.specs.Naming.{byteIn, Names, Share, PlainNames, PartWrites, PartsOverlap, PartsApart}
-use Rattle.state.proofs.Bits.{get-set}
-use Rattle.state.proofs.Laws.{long-same, long-other, part-apart}
+use Rattle.state.proofs.Bits.{get-set, set-lt}
+use Rattle.state.proofs.Laws.{long-same, long-other, part-apart, sound-with}
 use Rattle.state.proofs.Fields.{byte-field, long-field}
 
 -- ---- the registers 0 to 7
@@ -43,7 +44,7 @@ plain b Long r h =
     rw (current-named 4 (codeFor Long r) (omega arith) (omega arith))
     (ap (λ (f : Field). bits (f .index) (f .start) 32) (sym (long-field b r h)))
 
-plain-code : (z : Size) (r : ℕ) → r < 8 → (codeFor z r < 256) × (isNamed (bytesOf z) (codeFor z r) ≡ true)
+pub plain-code : (z : Size) (r : ℕ) → r < 8 → (codeFor z r < 256) × (isNamed (bytesOf z) (codeFor z r) ≡ true)
 plain-code Byte r h = (omega arith, current-named 1 (codeFor Byte r) (omega arith) (omega arith))
 plain-code Word r h = (omega arith, current-named 2 (codeFor Word r) (omega arith) (omega arith))
 plain-code Long r h = (omega arith, current-named 4 (codeFor Long r) (omega arith) (omega arith))
@@ -122,7 +123,21 @@ pub plain-at :
     × (byteOf bank (codeFor z r) / 4 < 20) × (8 * (byteOf bank (codeFor z r) % 4) + bitsOf z ≤ 32)
 plain-at bank z r h k = let c = plain-code z r k in named-at bank z (codeFor z r) (h, c .0, c .1)
 
+is-none : (bank n code : ℕ) → isNamed n code ≡ false → named bank n code ≡ none
+unfolding named
+is-none bank n code h = rw h refl
+
 -- ---- what a write leaves
+sound-bits : (s : State) (i k n v : ℕ) → Sound s → k + n ≤ 4 → Sound (withHeld s (bits i (8 * k) (8 * n)) v)
+unfolding withHeld longOf
+sound-bits s i k n v ok h =
+    let e : 32 - (8 * k + 8 * n) + 8 * n + 8 * k ≡ 32 = omega arith in
+    sound-with s i _ ok (rw e at (set-lt (8 * k) (8 * n) (32 - (8 * k + 8 * n)) (getD (s .registers) i 0) v (rw e (ok .fit i))))
+
+sound-none : (s : State) (v : ℕ) → Sound s → Sound (withHeld s none v)
+unfolding withHeld
+sound-none s v ok = ok
+
 bits-kept :
     (s : State) (i o k v j p q : ℕ) → Sound s → i < 20 → (j ≡ i → (p + q ≤ o) ⊎ (o + k ≤ p)) →
     getBits p q (longOf (withLong s i (setBits o k (longOf s i) v)) j) ≡ getBits p q (longOf s j)
@@ -139,6 +154,13 @@ written-back s i o k v ok h = ap (getBits o k) (long-same s i (setBits o k (long
 held-kept : (s : State) (i o k v j p q : ℕ) → Sound s → i < 20 → (j ≡ i → (p + q ≤ o) ⊎ (o + k ≤ p)) → heldIn (withHeld s (bits i o k) v .registers) (bits j p q) ≡ heldIn (s .registers) (bits j p q)
 unfolding heldIn withHeld longOf
 held-kept s i o k v j p q ok h far = bits-kept s i o k v j p q ok h far
+
+pub sound-held : (s : State) (bank : ℕ) (z : Size) (code v : ℕ) → Sound s → Sound (withHeld s (named bank (bytesOf z) code) v)
+sound-held s bank z code v ok = go (isNamed (bytesOf z) code) refl
+  where
+    go : (b : Bool) → isNamed (bytesOf z) code ≡ b → Sound (withHeld s (named bank (bytesOf z) code) v)
+    go true e = subst (λ (t : Bits). Sound (withHeld s t v)) (sym (is-bits bank z code e)) (sound-bits s (byteOf bank code / 4) (byteOf bank code % 4) (bytesOf z) v ok (within bank z code e))
+    go false e = subst (λ (t : Bits). Sound (withHeld s t v)) (sym (is-none bank (bytesOf z) code e)) (sound-none s v ok)
 
 -- of two parts, by the bytes of the eighty where they begin and how many they have: in one long they do not overlap where these do not
 lies-apart : (a n b m : ℕ) → a % 4 + n ≤ 4 → b % 4 + m ≤ 4 → (b + m ≤ a) ⊎ (a + n ≤ b) → b / 4 ≡ a / 4 → (8 * (b % 4) + 8 * m ≤ 8 * (a % 4)) ⊎ (8 * (a % 4) + 8 * n ≤ 8 * (b % 4))

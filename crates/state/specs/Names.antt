@@ -1,9 +1,9 @@
 -- The names of the registers, as one table: for each name, what it holds in a state where no byte is like another, and what a
 -- write to it leaves. All numbers but codes and places are in hex.
 use Rattle.little.specs.Words.{ℕ, _≡_, List, [], _∷_, map, set}
-use Rattle.little.specs.declared.Size.{Size}
+use Rattle.little.specs.{declared.Size.Size, Width.bytesOf}
 use Rattle.little.specs.declared.Size.the-variants.{Byte, Word, Long}
-use Rattle.state.specs.{declared.State.State, State.lent, State.resetState, Register.getRegister, Register.setRegister}
+use Rattle.state.specs.{declared.State.State, State.lent, State.resetState, Register.getRegister, Register.setRegister, Named.named, Named.heldIn, Named.withHeld}
 
 -- twenty longs, no two bytes alike: XWA XBC XDE XHL of bank 0, of bank 1, of bank 2 and of bank 3, then XIX XIY XIZ XSP.
 -- 003 draws XWA as QW QA W A, from the high byte down: in bank 2 these are 23 22 21 20
@@ -19,26 +19,39 @@ longs =
 abbrev pub inBankTwo : List ℕ → State
 inBankTwo registers = lent (resetState 0) registers 0x123456 2 0x51 0x82
 
--- a size and a code, what that register holds, and which of the twenty longs, counted from 0, a write of FFEEDDCC changes and into what
-abbrev is : Size → ℕ → ℕ → ℕ → ℕ → (ℕ × State) × (ℕ × State)
-is size code holds place becomes =
-    ((getRegister (inBankTwo longs) size code, setRegister (inBankTwo longs) size code 0xFFEEDDCC), (holds, inBankTwo (set longs place becomes)))
+-- a register: what it holds, and what a write of FFEEDDCC leaves; by 01's code, 0 to 7, and by the code byte of request K1
+abbrev Row : Type 0
+Row = (ℕ × State) × (ℕ × State)
+
+abbrev plain : Size → ℕ → ℕ × State
+plain size r = (getRegister (inBankTwo longs) size r, setRegister (inBankTwo longs) size r 0xFFEEDDCC)
+
+abbrev coded : Size → ℕ → ℕ × State
+coded size code =
+    let part = named 2 (bytesOf size) code in
+    (heldIn longs part, withHeld (inBankTwo longs) part 0xFFEEDDCC)
+
+-- a size, 01's code and the code byte; what that register holds, and which of the twenty longs, counted from 0, the write changes and into what
+abbrev is : Size → ℕ → ℕ → ℕ → ℕ → ℕ → Row × Row
+is size r code holds place becomes =
+    let says : ℕ × State = (holds, inBankTwo (set longs place becomes)) in
+    ((plain size r, coded size code), (says, says))
 
 -- the table, as what is computed and what it must be: of FFEEDDCC a byte takes CC and a word DDCC
-abbrev pub names : List ((ℕ × State) × (ℕ × State))
+abbrev pub names : List (Row × Row)
 names =
-    is Byte 0 0x21 8 0x2322CC20 ∷ is Byte 1 0x20 8 0x232221CC ∷  -- W, A
-    is Byte 2 0x25 9 0x2726CC24 ∷ is Byte 3 0x24 9 0x272625CC ∷  -- B, C
-    is Byte 4 0x29 10 0x2B2ACC28 ∷ is Byte 5 0x28 10 0x2B2A29CC ∷  -- D, E
-    is Byte 6 0x2D 11 0x2F2ECC2C ∷ is Byte 7 0x2C 11 0x2F2E2DCC ∷  -- H, L
-    is Word 0 0x2120 8 0x2322DDCC ∷ is Word 1 0x2524 9 0x2726DDCC ∷  -- WA, BC
-    is Word 2 0x2928 10 0x2B2ADDCC ∷ is Word 3 0x2D2C 11 0x2F2EDDCC ∷  -- DE, HL
-    is Word 4 0x4140 16 0x4342DDCC ∷ is Word 5 0x4544 17 0x4746DDCC ∷  -- IX, IY
-    is Word 6 0x4948 18 0x4B4ADDCC ∷ is Word 7 0x4D4C 19 0x4F4EDDCC ∷  -- IZ, SP
-    is Long 0 0x23222120 8 0xFFEEDDCC ∷ is Long 1 0x27262524 9 0xFFEEDDCC ∷  -- XWA, XBC
-    is Long 2 0x2B2A2928 10 0xFFEEDDCC ∷ is Long 3 0x2F2E2D2C 11 0xFFEEDDCC ∷  -- XDE, XHL
-    is Long 4 0x43424140 16 0xFFEEDDCC ∷ is Long 5 0x47464544 17 0xFFEEDDCC ∷  -- XIX, XIY
-    is Long 6 0x4B4A4948 18 0xFFEEDDCC ∷ is Long 7 0x4F4E4D4C 19 0xFFEEDDCC ∷ []  -- XIZ, XSP
+    is Byte 0 0xE1 0x21 8 0x2322CC20 ∷ is Byte 1 0xE0 0x20 8 0x232221CC ∷  -- W, A
+    is Byte 2 0xE5 0x25 9 0x2726CC24 ∷ is Byte 3 0xE4 0x24 9 0x272625CC ∷  -- B, C
+    is Byte 4 0xE9 0x29 10 0x2B2ACC28 ∷ is Byte 5 0xE8 0x28 10 0x2B2A29CC ∷  -- D, E
+    is Byte 6 0xED 0x2D 11 0x2F2ECC2C ∷ is Byte 7 0xEC 0x2C 11 0x2F2E2DCC ∷  -- H, L
+    is Word 0 0xE0 0x2120 8 0x2322DDCC ∷ is Word 1 0xE4 0x2524 9 0x2726DDCC ∷  -- WA, BC
+    is Word 2 0xE8 0x2928 10 0x2B2ADDCC ∷ is Word 3 0xEC 0x2D2C 11 0x2F2EDDCC ∷  -- DE, HL
+    is Word 4 0xF0 0x4140 16 0x4342DDCC ∷ is Word 5 0xF4 0x4544 17 0x4746DDCC ∷  -- IX, IY
+    is Word 6 0xF8 0x4948 18 0x4B4ADDCC ∷ is Word 7 0xFC 0x4D4C 19 0x4F4EDDCC ∷  -- IZ, SP
+    is Long 0 0xE0 0x23222120 8 0xFFEEDDCC ∷ is Long 1 0xE4 0x27262524 9 0xFFEEDDCC ∷  -- XWA, XBC
+    is Long 2 0xE8 0x2B2A2928 10 0xFFEEDDCC ∷ is Long 3 0xEC 0x2F2E2D2C 11 0xFFEEDDCC ∷  -- XDE, XHL
+    is Long 4 0xF0 0x43424140 16 0xFFEEDDCC ∷ is Long 5 0xF4 0x47464544 17 0xFFEEDDCC ∷  -- XIX, XIY
+    is Long 6 0xF8 0x4B4A4948 18 0xFFEEDDCC ∷ is Long 7 0xFC 0x4F4E4D4C 19 0xFFEEDDCC ∷ []  -- XIZ, XSP
 
 -- each name holds what its row says, and a write to it leaves what its row says and all else as it was
 abbrev pub NamesHold : Type 0
