@@ -72,7 +72,10 @@ pub fn number_in(operand: Operand) -> u32
 pub fn field(bank: Bank, size: Size, operand: Operand) -> Field
     ensures { λ f. ⌜ f ≡ fieldOf bank size operand ⌝ }
 {
-    let none = Field { index: 20, start: 0 };
+    let none = Field {
+        index: 20,
+        start: 0,
+    };
     match operand {
         Operand::Register(r) => of_register(bank, size, r),
         Operand::Named(c) => of_code(bank, c),

@@ -7,4 +7,4 @@ use Rattle.state.specs.Names.{NamesHold}
 
 pub names-hold : NamesHold
 unfolding resetState getBits setBits slotIn setSlot slotOf registerAt setRegister byteOf named heldIn withHeld longOf withLong
-names-hold = refl
+names-hold = (refl, refl, refl)

@@ -3,7 +3,7 @@
 use Rattle.little.specs.Words.{ℕ, _≡_, List, [], _∷_, map, set}
 use Rattle.little.specs.{declared.Size.Size, Width.bytesOf}
 use Rattle.little.specs.declared.Size.the-variants.{Byte, Word, Long}
-use Rattle.state.specs.{declared.State.State, State.lent, State.resetState, Register.getRegister, Register.setRegister, Named.named, Named.heldIn, Named.withHeld}
+use Rattle.state.specs.{declared.State.State, State.lent, State.resetState, Register.getRegister, Register.setRegister, Named.Bits, Named.none, Named.named, Named.heldIn, Named.withHeld}
 
 -- twenty longs, no two bytes alike: XWA XBC XDE XHL of bank 0, of bank 1, of bank 2 and of bank 3, then XIX XIY XIZ XSP.
 -- 003 draws XWA as QW QA W A, from the high byte down: in bank 2 these are 23 22 21 20
@@ -53,6 +53,29 @@ names =
     is Long 4 0xF0 0x43424140 16 0xFFEEDDCC ∷ is Long 5 0xF4 0x47464544 17 0xFFEEDDCC ∷  -- XIX, XIY
     is Long 6 0xF8 0x4B4A4948 18 0xFFEEDDCC ∷ is Long 7 0xFC 0x4F4E4D4C 19 0xFFEEDDCC ∷ []  -- XIZ, XSP
 
+-- and by a code byte alone, where bank 2 is the current one: a code byte, what that part holds, which long the write changes and into what
+abbrev by : Size → ℕ → ℕ → ℕ → ℕ → (ℕ × State) × (ℕ × State)
+by size code holds place becomes = (coded size code, (holds, inBankTwo (set longs place becomes)))
+
+abbrev pub parts : List ((ℕ × State) × (ℕ × State))
+parts =
+    by Byte 0x00 0x00 0 0x030201CC ∷ by Byte 0x01 0x01 0 0x0302CC00 ∷  -- RA0, RW0
+    by Byte 0x02 0x02 0 0x03CC0100 ∷ by Byte 0x03 0x03 0 0xCC020100 ∷  -- QA0, QW0
+    by Word 0x3C 0x3D3C 15 0x3F3EDDCC ∷ by Word 0x3E 0x3F3E 15 0xDDCC3D3C ∷  -- RHL3, QHL3
+    by Long 0x3C 0x3F3E3D3C 15 0xFFEEDDCC ∷ by Byte 0x20 0x20 8 0x232221CC ∷  -- XHL3, RA2
+    by Byte 0xD0 0x10 4 0x131211CC ∷ by Word 0xDE 0x1F1E 7 0xDDCC1D1C ∷ by Long 0xD4 0x17161514 5 0xFFEEDDCC ∷  -- A', QHL', XBC': bank 1
+    by Byte 0xE2 0x22 8 0x23CC2120 ∷ by Word 0xE2 0x2322 8 0xDDCC2120 ∷  -- QA, QWA
+    by Byte 0xF3 0x43 16 0xCC424140 ∷ by Word 0xFE 0x4F4E 19 0xDDCC4D4C ∷ []  -- QIXH, QSP
+
+-- the dashed bank of bank 0 is bank 3; and codes that name nothing
+abbrev pub othersAre : List (Bits × Bits)
+othersAre =
+    (named 0 1 0xD0, named 2 1 0x30) ∷ (named 1 4 0xDC, named 2 4 0x0C) ∷ (named 3 2 0xD2, named 2 2 0x22) ∷
+    (named 2 1 0x40, none) ∷ (named 2 1 0xCF, none) ∷ (named 2 2 0x21, none) ∷ (named 2 2 0xF1, none) ∷ (named 2 4 0x22, none) ∷ (named 2 4 0xE6, none) ∷ []
+
 -- each name holds what its row says, and a write to it leaves what its row says and all else as it was
 abbrev pub NamesHold : Type 0
-NamesHold = map (λ n. n .0) names ≡ map (λ n. n .1) names
+NamesHold =
+    (map (λ n. n .0) names ≡ map (λ n. n .1) names)
+    × (map (λ n. n .0) parts ≡ map (λ n. n .1) parts)
+    × (map (λ n. n .0) othersAre ≡ map (λ n. n .1) othersAre)
