@@ -8,7 +8,7 @@ use Rattle.memory.specs.Access.{loadOf, storeOf, ramAfter, codeAt}
 use Rattle.state.specs.State.{zeroState, resetState, validOf, longOf, withLong, withCounter, withBank, withLevel, withNesting, withBothFlags, withFlags}
 use Rattle.state.specs.Register.{getBits, setBits, slotIn, setSlot, slotOf, registerAt, setRegister}
 use Rattle.state.specs.Named.{named, heldIn, withHeld}
-use Rattle.state.specs.Named.byteOf as codeByte
+use Rattle.state.specs.Named.{byteOf as codeByte}
 use Rattle.flags.specs.Flag.{byteOf, packedOf, flagsOf}
 use Rattle.flags.specs.Condition.{basic, holdsOf, readsV, readsMarked}
 use Rattle.alu.specs.Parity.{onesOf, evenOnes}

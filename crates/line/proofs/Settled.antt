@@ -8,7 +8,7 @@ use Rattle.state.specs.State.{zeroState, resetState, validOf, longOf, withLong,
 use Rattle.flags.specs.Flag.{byteOf, packedOf, flagsOf}
 use Rattle.alu.specs.Operation.{operated}
 use Rattle.flags.specs.Sums.{resultOf, sumOf}
-use Rattle.code.specs.Listed.{upToSevenRows, bankRows, flagRows, constantRows, stackRows, jumpRows, relativeRows, interruptRows, registerFormRows, absoluteRows, memoryFormRows, memoryAtRows, storeFormRows, aloneRows, memoryFirstRows, firstRows, decodeOf}
+use Rattle.code.specs.Listed.{upToSevenRows, bankRows, flagRows, constantRows, stackRows, jumpRows, relativeRows, interruptRows, registerFormRows, absoluteRows, memoryFormRows, memoryAtRows, storeFormRows, aloneRows, memoryFirstRows, namedFormRows, firstRows, decodeOf}
 use Rattle.code.specs.Registers.{placesRows, registerRows}
 use Rattle.code.specs.Rows.{lookup}
 use Rattle.code.specs.Said.{numberAt, judge}
@@ -31,5 +31,5 @@ pub settled : Settled
 settled image r r' e f = e .0 ∙ sym (f .0)
 
 pub example-line : ExampleLine
-unfolding valueOf loadOf codeAt placeOf getBits setBits slotIn setSlot slotOf registerAt setRegister zeroState resetState validOf longOf withLong withCounter withBothFlags withFlags byteOf packedOf flagsOf operated resultOf sumOf upToSevenRows bankRows flagRows constantRows stackRows jumpRows relativeRows interruptRows registerFormRows absoluteRows memoryFormRows memoryAtRows storeFormRows aloneRows memoryFirstRows firstRows decodeOf placesRows registerRows lookup numberAt judge pastOf controlOf stackOf putsOf effectOf executedOf flagged valueIn storing resetOf guarded onceOf tryOf manyOf runOf ranLine lineFor hexOf decimalIn
+unfolding valueOf loadOf codeAt placeOf getBits setBits slotIn setSlot slotOf registerAt setRegister zeroState resetState validOf longOf withLong withCounter withBothFlags withFlags byteOf packedOf flagsOf operated resultOf sumOf upToSevenRows bankRows flagRows constantRows stackRows jumpRows relativeRows interruptRows registerFormRows absoluteRows memoryFormRows memoryAtRows storeFormRows aloneRows memoryFirstRows namedFormRows firstRows decodeOf placesRows registerRows lookup numberAt judge pastOf controlOf stackOf putsOf effectOf executedOf flagged valueIn storing resetOf guarded onceOf tryOf manyOf runOf ranLine lineFor hexOf decimalIn
 example-line = refl
