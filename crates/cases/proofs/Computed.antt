@@ -7,8 +7,7 @@ use Rattle.memory.specs.Place.{firstWithout, missingOf, placeOf}
 use Rattle.memory.specs.Access.{loadOf, storeOf, ramAfter, codeAt}
 use Rattle.state.specs.State.{zeroState, resetState, validOf, longOf, withLong, withCounter, withBank, withLevel, withNesting, withBothFlags, withFlags}
 use Rattle.state.specs.Register.{getBits, setBits, slotIn, setSlot, slotOf, registerAt, setRegister}
-use Rattle.state.specs.Named.{named, heldIn, withHeld}
-use Rattle.state.specs.Named.{byteOf as codeByte}
+use Rattle.state.specs.Named.{byteNamed, named, heldIn, withHeld}
 use Rattle.flags.specs.Flag.{byteOf, packedOf, flagsOf}
 use Rattle.flags.specs.Condition.{basic, holdsOf, readsV, readsMarked}
 use Rattle.alu.specs.Parity.{onesOf, evenOnes}
@@ -42,7 +41,7 @@ use Rattle.cases.specs.Table.{Case, ComesOut, Tale, TaleHolds, OfEach, b
 
 -- what the run of a row leaves, and what the row says of it
 unfoldable pub left : Case → Result
-unfolding begin valueOf bytesFrom replaced firstWithout missingOf placeOf loadOf storeOf ramAfter codeAt zeroState resetState validOf longOf withLong withCounter withBank withLevel withNesting withBothFlags withFlags getBits setBits slotIn setSlot slotOf registerAt setRegister codeByte named heldIn withHeld byteOf packedOf flagsOf basic holdsOf readsV readsMarked onesOf evenOnes resultOf sumOf differenceOf plain andOf orOf xorOf operated placesOf shiftBy shiftOf incOf decOf extzOf extsOf numberAt judge lookup placesRows registerRows memoryRows storeRows copies compares blocks indirectRows upToSevenRows bankRows flagRows constantRows stackRows jumpRows relativeRows interruptRows registerFormRows absoluteRows memoryFormRows memoryAtRows storeFormRows namedFormRows codeByteRows aloneRows memoryFirstRows firstRows decodeOf addressIn valueIn storing pushOf pushFOf popOf flagged jumpOf counted moved copied compared roundOf goesOn endsAt pastOf controlOf stackOf withSr pushSrOf returned interruptOf putsOf effectOf executedOf guarded onceOf tryOf manyOf runOf
+unfolding begin valueOf bytesFrom replaced firstWithout missingOf placeOf loadOf storeOf ramAfter codeAt zeroState resetState validOf longOf withLong withCounter withBank withLevel withNesting withBothFlags withFlags getBits setBits slotIn setSlot slotOf registerAt setRegister byteNamed named heldIn withHeld byteOf packedOf flagsOf basic holdsOf readsV readsMarked onesOf evenOnes resultOf sumOf differenceOf plain andOf orOf xorOf operated placesOf shiftBy shiftOf incOf decOf extzOf extsOf numberAt judge lookup placesRows registerRows memoryRows storeRows copies compares blocks indirectRows upToSevenRows bankRows flagRows constantRows stackRows jumpRows relativeRows interruptRows registerFormRows absoluteRows memoryFormRows memoryAtRows storeFormRows namedFormRows codeByteRows aloneRows memoryFirstRows firstRows decodeOf addressIn valueIn storing pushOf pushFOf popOf flagged jumpOf counted moved copied compared roundOf goesOn endsAt pastOf controlOf stackOf withSr pushSrOf returned interruptOf putsOf effectOf executedOf guarded onceOf tryOf manyOf runOf
 left c = runOf (c .steps) (c .start .state) (c .start .ram) (c .rom)
 
 unfoldable pub said : Case → Result

@@ -31,7 +31,7 @@ pub data Setting : Type 0 where
   _&_ : Setting → Setting → Setting
   A WA BC DE HL IX XDE XHL XIX XIY XSP F F′ Bank Level Nesting Counter : ℕ → Setting
   Ram : ℕ → List ℕ → Setting
-  At : ℕ → ℕ → Setting
+  Nth : ℕ → ℕ → Setting
 
 -- a machine with this state in the place of its own; with a register, by its size and code, set
 abbrev pub having : State → Machine → Machine
@@ -63,7 +63,7 @@ m ▹ Level l = having (withLevel (m .state) l) m
 m ▹ Nesting n = having (withNesting (m .state) n) m
 m ▹ Counter a = having (withCounter (m .state) a) m
 m ▹ Ram o bytes = machine (m .state) (replaced o bytes (m .ram))
-m ▹ At i v = having (withLong (m .state) i v) m
+m ▹ Nth i v = having (withLong (m .state) i v) m
 
 -- ---- a run of so many steps from a machine and a ROM, and what it must leave: the machine, the count and the answer
 pub record Case : Type 0 where

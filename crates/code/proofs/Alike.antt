@@ -10,7 +10,6 @@ use lib.ListN.{length, getD}
 use Rattle.little.specs.declared.Size.{Size}
 use Rattle.little.specs.Width.{bytesOf}
 use Rattle.alu.specs.declared.Shift.{Shift}
-use Rattle.alu.specs.declared.change.Change.the-variants.{Inc, Dec, ShiftBy, Extz, Exts}
 use Rattle.code.specs.declared.Op.the-variants.{Puts}
 use Rattle.code.specs.declared.Use.{Use}
 use Rattle.code.specs.declared.Operand.{Operand}
@@ -20,7 +19,7 @@ use Rattle.code.specs.declared.Decoded.{Decoded}
 use Rattle.code.specs.declared.Decoded.the-variants.{Short, Unlisted}
 use Rattle.code.specs.Said.{Said, whole, unlisted, next, number, judge, numberAt, withFound, wholeOf}
 use Rattle.code.specs.Rows.{Bytes, Row, _⇒_, has, lookup, byRows, only, noByte}
-use Rattle.code.specs.Registers.{registerRows, placesRows, shiftKind}
+use Rattle.code.specs.Registers.{registerRows, placesRows}
 
 module _ (z : Size) (o p : Operand) where
   abbrev pub Alike : Decoded → Decoded → Type 0

@@ -17,7 +17,6 @@ use Rattle.code.specs.declared.Operand.{Operand}
 use Rattle.code.specs.declared.Operand.the-variants.{Register}
 use Rattle.code.specs.Said.{Said, whole, unlisted}
 use Rattle.code.specs.Rows.{Row, lookup, byRows}
-use Rattle.code.specs.Registers.{registerRows}
 use Rattle.code.specs.Memory.{form, memoryRows, indirectRows}
 use Rattle.code.specs.Listed.{withConstant, formWith, absoluteRows, bankRows, flagRows, constantRows, stackRows, jumpRows, relativeRows, interruptRows, registerFormRows, memoryFormRows, memoryAtRows, storeFormRows, namedFormRows, aloneRows, memoryFirstRows, firstRows}
 use Rattle.code.specs.inner.Parts.{sizeOf, rowsBegun, beginsRegister, registerSize, registerBegun}

@@ -1,6 +1,6 @@
 -- A code without its first bytes: what is judged of the rest is judged of the whole, and its instruction has those bytes more.
 use Prim.Native.Nat.{ℕ, _+_, _-_, _≤_, _<_}
-use mathlib.Core.Path.{_≡_, refl, sym, ap, _∙_}
+use mathlib.Core.Path.{_≡_, refl, sym}
 use mathlib.Core.Bool.{Bool, true, false, cond}
 use mathlib.Core.List.{List}
 use native.Mathlib.Omega.{arith}
@@ -9,14 +9,13 @@ use lib.Dec.{ltb, leb}
 use lib.ListN.{length, getD, take, drop, length-drop}
 use lib.Seq.{getD-drop, drop-drop, take-all}
 use borrow.Author.Tests.{ltb-true, ltb-false, lt-ltb, le-ltb, leb-true, leb-false, le-leb, lt-leb}
-use Rattle.little.specs.Bytes.{valueOf}
 use Rattle.code.specs.declared.Instruction.{Instruction}
 use Rattle.code.specs.declared.Decoded.{Decoded}
 use Rattle.code.specs.declared.Decoded.the-variants.{Whole, Short}
 use Rattle.code.specs.declared.Found.{Found}
 use Rattle.code.specs.declared.Found.the-variants.{Value, Missing}
 use Rattle.code.specs.Said.{Said, whole, unlisted, next, number, judge, numberAt, withFound}
-use Rattle.code.specs.inner.Parts.{later}
+use Rattle.code.specs.inner.Parts.{longer}
 use Rattle.code.proofs.Prefix.{after-next, within}
 
 module _ (n : ℕ) (s : List ℕ) (k : n ≤ length s) where
@@ -39,15 +38,15 @@ module _ (n : ℕ) (s : List ℕ) (k : n ≤ length s) where
   same-number i m = rw (number-there i m, drop-drop i n s) refl
 
   -- what follows, where it is there and judged so
-  next-later : (x y : Decoded) → x ≡ later n y → (b : Bool) → cond b x Short ≡ later n (cond b y Short)
+  next-later : (x y : Decoded) → x ≡ longer n y → (b : Bool) → cond b x Short ≡ longer n (cond b y Short)
   next-later x y e true = e
   next-later x y e false = refl
 
-  number-later : (f g : ℕ → Decoded) → ((v : ℕ) → f v ≡ later n (g v)) → (w : Found) → withFound w f ≡ later n (withFound w g)
+  number-later : (f g : ℕ → Decoded) → ((v : ℕ) → f v ≡ longer n (g v)) → (w : Found) → withFound w f ≡ longer n (withFound w g)
   number-later f g e (Value v) = e v
   number-later f g e Missing = refl
 
-  pub judged-later : (d : Said) (i : ℕ) → judge d s (n + i) ≡ later n (judge d (drop n s) i)
+  pub judged-later : (d : Said) (i : ℕ) → judge d s (n + i) ≡ longer n (judge d (drop n s) i)
   unfolding judge
   judged-later (whole op z o) i = refl
   judged-later unlisted i = refl
@@ -64,7 +63,7 @@ module _ (n : ℕ) (s : List ℕ) (k : n ≤ length s) (f : ℕ → Said) where
   part-drop : take (length s - n) (drop n s) ≡ drop n s
   part-drop = take-all (length s - n) (drop n s) (rw length-drop (omega arith))
 
-  pub part-later : later n (judge (next f) (take (length s - n) (drop n s)) 1) ≡ judge (next f) s (1 + n)
+  pub part-later : longer n (judge (next f) (take (length s - n) (drop n s)) 1) ≡ judge (next f) s (1 + n)
   part-later = rw (part-drop, add-comm 1 n) (sym (judged-later n s k (next f) 1))
 
   pub part-within : (x : Instruction) → judge (next f) (take (length s - n) (drop n s)) 1 ≡ Whole x → n + x .length ≤ length s

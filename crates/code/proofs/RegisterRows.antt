@@ -8,7 +8,6 @@ use native.Mathlib.Omega.{arith}
 use native.Mathlib.Nat.{mod-lt}
 use borrow.Author.Tests.{eqb-true}
 use types.Run.{OneOf}
-use Rattle.little.specs.Bytes.{bytesFrom}
 use Rattle.state.specs.Named.{isNamed}
 use Rattle.little.specs.Width.{bytesOf}
 use Rattle.little.specs.declared.Size.{Size}

@@ -72,7 +72,7 @@ examples =
     ((0xC9 ∷ 0xEC ∷ 0x00 ∷ []) is wholeOf (Puts (Changed (ShiftBy Sla 0))) Byte (Register 1) 3) ∷
     ((0xE9 ∷ 0x12 ∷ []) is wholeOf (Puts (Changed Extz)) Long (Register 1) 2) ∷
     ((0xD9 ∷ 0x13 ∷ []) is wholeOf (Puts (Changed Exts)) Word (Register 1) 2) ∷
-    -- register forms behind C7, D7 and E7: INC 1,RA2; ADD QWA2,3; SUB XBC of bank 3 where bank 0 is the current one; IXL, IXH
+    -- register forms behind C7, D7 and E7: INC 1,RA2; ADD QWA2,3; SUB XBC,XBC'; SUB XBC3,12345678H; LD IXL,A; LD W,IXH; SRL 16,WA
     ((0xC7 ∷ 0x20 ∷ 0x61 ∷ []) is wholeOf (Puts (Changed (Inc 1))) Byte (Named 0x20) 3) ∷
     ((0xD7 ∷ 0x22 ∷ 0xC8 ∷ 0x03 ∷ 0x00 ∷ []) is wholeOf (Puts (Compute Add (With 3))) Word (Named 0x22) 5) ∷
     ((0xE7 ∷ 0xD4 ∷ 0xA1 ∷ []) is wholeOf (Puts (Compute Sub (First 1))) Long (Named 0xD4) 3) ∷

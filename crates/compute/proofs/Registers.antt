@@ -24,14 +24,13 @@ use Rattle.code.specs.declared.Operand.the-variants.{Register}
 use Rattle.code.specs.declared.Side.the-variants.{First, With}
 use Rattle.code.specs.declared.Use.the-variants.{Number, From, Load, Compute, Changed}
 use Rattle.operand.specs.Flag.{flagged}
-use Rattle.operand.specs.Try.{did, leaves, after, withLoaded}
-use Rattle.operand.specs.Operand.{valueIn}
-use Rattle.operand.specs.inner.Placed.{fieldOf, At}
+use Rattle.operand.specs.Try.{did, leaves, after}
+use Rattle.operand.specs.inner.Placed.{fieldOf, BeginsAt}
 use Rattle.operand.specs.inner.Does.{Does}
 use Rattle.operand.proofs.Placed.{value-at, put-at, register-at, register-held, register-put}
 use Rattle.compute.specs.Compute.{resultIn, answerIn, storesOf, putsOf}
 
-module _ (z : Size) (o : Operand) (f : Field) (bank : Bank) (there : At bank z o f) (rest : State) (regs : List ℕ) (flags : ℕ) (ram rom : List ℕ) where
+module _ (z : Size) (o : Operand) (f : Field) (bank : Bank) (there : BeginsAt bank z o f) (rest : State) (regs : List ℕ) (flags : ℕ) (ram rom : List ℕ) where
   -- a result is put there
   result-put : (r : Computed) (w g : ℕ) (next : List ℕ) → w ≡ r .value → g ≡ packedOf (r .flags) → PutWithin regs next z f w → did (bankedWith rest next bank g) ram ≡ resultIn (bankedWith rest regs bank flags) ram rom z o r
   unfolding flagged withFlags withBothFlags
@@ -92,9 +91,9 @@ module _ (z : Size) (o : Operand) (f : Field) (bank : Bank) (there : At bank z o
       (sym (ap (λ (t : State). after Done t ram) (register-put (bankedWith rest regs bank flags) z r (fieldIn regs z f) next (subst (λ (x : Field). PutWithin regs next z x (fieldIn regs z f)) e put))))
 
 -- ---- an operation with a register, which gets the result
-module _ (z : Size) (o : Operand) (f to : Field) (bank : Bank) (there : At bank z o f) (n : ℕ) (first : to ≡ fieldOf bank z (Register n)) (rest : State) (regs : List ℕ) (flags : ℕ) (ram rom : List ℕ) where
-  into : At bank z (Register n) to
-  into = subst (At bank z (Register n)) (sym first) (register-at bank z n)
+module _ (z : Size) (o : Operand) (f to : Field) (bank : Bank) (there : BeginsAt bank z o f) (n : ℕ) (first : to ≡ fieldOf bank z (Register n)) (rest : State) (regs : List ℕ) (flags : ℕ) (ram rom : List ℕ) where
+  into : BeginsAt bank z (Register n) to
+  into = subst (BeginsAt bank z (Register n)) (sym first) (register-at bank z n)
 
   held-first : (x : ℕ) → x ≡ fieldIn regs z to → registerAt regs bank z n ≡ x
   held-first x e = register-held regs bank z n ∙ ap (fieldIn regs z) (sym first) ∙ sym e

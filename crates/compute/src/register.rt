@@ -6,9 +6,9 @@ ghost use Rattle.code.specs.declared.Side.the-variants.{First, With};
 ghost use Rattle.code.specs.declared.Use.the-variants.{Compute, Changed};
 ghost use Rattle.state.specs.declared.State.{State};
 ghost use Rattle.state.specs.inner.Lent.{bankedWith};
-ghost use Rattle.state.specs.inner.Field.{fieldIn, PutWithin};
+ghost use Rattle.state.specs.inner.Field.{fieldIn, fieldPut, PutWithin};
 ghost use Rattle.operand.specs.inner.Does.{Does};
-ghost use Rattle.operand.specs.inner.Placed.{At};
+ghost use Rattle.operand.specs.inner.Placed.{BeginsAt};
 ghost use Rattle.compute.specs.Compute.{putsOf};
 use crate::stores;
 use alu::Arith;
@@ -22,6 +22,7 @@ use state::named::of_register;
 
 // One part into another.
 pub fn load(from: Field, to: Field, size: Size, regs: &mut [u32; 20])
+    ensures { λ _. ⌜ now (regs .exit) ≡ fieldPut (now (regs .entry)) size to (fieldIn (now (regs .entry)) size from) ⌝ }
     ensures { λ _. ⌜ PutWithin (now (regs .entry)) (now (regs .exit)) size to (fieldIn (now (regs .entry)) size from) ⌝ }
 {
     let v = state::named::read(&*regs, size, from);
@@ -38,7 +39,7 @@ pub fn operate(
     flags: &mut u16,
     regs: &mut [u32; 20],
 )
-    ensures { λ _. ⌜ ((o : Operand) → At bank size o r → (s : State) (ram rom : List ℕ) → Does (λ t m. putsOf (Compute op (First n)) size o t m rom)
+    ensures { λ _. ⌜ ((o : Operand) → BeginsAt bank size o r → (s : State) (ram rom : List ℕ) → Does (λ t m. putsOf (Compute op (First n)) size o t m rom)
         (bankedWith s (now (regs .entry)) bank (now (flags .entry))) ram
         Answer.Done (bankedWith s (now (regs .exit)) bank (now (flags .exit))) ram) ⌝ }
 {
@@ -53,7 +54,7 @@ pub fn operate(
 
 // An operation on the operand and a number.
 pub fn with(op: Arith, n: u32, size: Size, r: Field, flags: &mut u16, regs: &mut [u32; 20])
-    ensures { λ _. ⌜ ((o : Operand) (bank : Bank) → At bank size o r → (s : State) (ram rom : List ℕ) → Does (λ t m. putsOf (Compute op (With n)) size o t m rom)
+    ensures { λ _. ⌜ ((o : Operand) (bank : Bank) → BeginsAt bank size o r → (s : State) (ram rom : List ℕ) → Does (λ t m. putsOf (Compute op (With n)) size o t m rom)
         (bankedWith s (now (regs .entry)) bank (now (flags .entry))) ram
         Answer.Done (bankedWith s (now (regs .exit)) bank (now (flags .exit))) ram) ⌝ }
 {
@@ -66,7 +67,7 @@ pub fn with(op: Arith, n: u32, size: Size, r: Field, flags: &mut u16, regs: &mut
 
 // A change of the operand.
 pub fn change(how: Change, size: Size, r: Field, flags: &mut u16, regs: &mut [u32; 20])
-    ensures { λ _. ⌜ ((o : Operand) (bank : Bank) → At bank size o r → (s : State) (ram rom : List ℕ) → Does (λ t m. putsOf (Changed how) size o t m rom)
+    ensures { λ _. ⌜ ((o : Operand) (bank : Bank) → BeginsAt bank size o r → (s : State) (ram rom : List ℕ) → Does (λ t m. putsOf (Changed how) size o t m rom)
         (bankedWith s (now (regs .entry)) bank (now (flags .entry))) ram
         Answer.Done (bankedWith s (now (regs .exit)) bank (now (flags .exit))) ram) ⌝ }
 {

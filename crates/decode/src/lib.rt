@@ -3,7 +3,7 @@ ghost use mathlib.Core.Path.{_≡_};
 ghost use Prim.Native.Nat.{_+_, _<_, _^_};
 ghost use Rattle.code.specs.Said.{wholeOf, judge};
 ghost use Rattle.code.specs.Rows.{lookup};
-ghost use Rattle.code.specs.inner.Parts.{aloneAs, registerAs, memoryAs, registerSize, registerBegun, later};
+ghost use Rattle.code.specs.inner.Parts.{aloneAs, registerAs, memoryAs, registerSize, registerBegun, longer};
 ghost use Rattle.code.specs.Listed.{memoryFirstRows, decodeOf};
 use code::Alone;
 use code::Base;
@@ -111,7 +111,7 @@ fn whole_of_memory(read: OfMemory, m: MemoryForm) -> Decoded
 // An instruction of which n bytes more stand before those that were read.
 fn behind(read: Decoded, n: usize) -> Decoded
     requires { ⌜ ((i : Instruction) → read ≡ Decoded.Whole i → n + i .length < 2 ^ 64) ⌝ }
-    ensures { λ r. ⌜ r ≡ later n read ⌝ }
+    ensures { λ r. ⌜ r ≡ longer n read ⌝ }
 {
     match read {
         Decoded::Whole(i) => {

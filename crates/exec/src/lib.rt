@@ -6,7 +6,7 @@ ghost use Rattle.state.specs.declared.State.{State};
 ghost use Rattle.state.specs.inner.Lent.{allOf, bankedAtWith};
 ghost use Rattle.code.specs.inner.Parts.{aloneAs, registerAs};
 ghost use Rattle.operand.specs.inner.Does.{Does};
-ghost use Rattle.operand.specs.inner.Placed.{At};
+ghost use Rattle.operand.specs.inner.Placed.{BeginsAt};
 ghost use Rattle.exec.specs.Exec.{done};
 ghost use Rattle.exec.specs.inner.Counter.{backOf, onOf};
 use answer::Answer;
@@ -116,7 +116,7 @@ pub fn of_register(
     regs: &mut [u32; 20],
     counter: &mut u32,
 ) -> Answer
-    ensures { λ a. ⌜ ((o : Operand) → At bank size o r → (s : State) (ram rom : List ℕ) → Does (λ t m. done (registerAs read size o) t m rom)
+    ensures { λ a. ⌜ ((o : Operand) → BeginsAt bank size o r → (s : State) (ram rom : List ℕ) → Does (λ t m. done (registerAs read size o) t m rom)
         (bankedAtWith s (now (regs .entry)) bank (now (counter .entry)) (now (flags .entry))) ram
         a (bankedAtWith s (now (regs .exit)) bank (now (counter .exit)) (now (flags .exit))) ram) ⌝ }
 {

@@ -3,7 +3,7 @@ use Prim.Native.Nat.{ℕ, _+_, _%_, _^_, _<_}
 use mathlib.Core.Path.{_≡_, refl, sym, ap, _∙_}
 use mathlib.Core.List.{List, [], _∷_, _++_}
 use mathlib.Core.Bool.{cond, true}
-use mathlib.Core.Logic.{_⊎_, inl, inr}
+use mathlib.Core.Logic.{inl, inr}
 use native.Mathlib.Omega.{arith}
 use lib.ListN.{length}
 use Rattle.little.specs.declared.Size.{Size}
@@ -32,7 +32,7 @@ use Rattle.code.specs.Rows.{byRows}
 use Rattle.code.specs.Registers.{registerRows}
 use Rattle.code.specs.Listed.{decodeOf}
 use Rattle.code.specs.Written.{sizeStep, placeCode}
-use Rattle.code.specs.inner.Parts.{later}
+use Rattle.code.specs.inner.Parts.{longer}
 use Rattle.code.proofs.Holds.{so-that}
 use Rattle.code.proofs.ReadsBack.{register-begun}
 use Rattle.code.proofs.Later.{judged-later}
@@ -85,16 +85,16 @@ begun : (z : Size) (o : Operand) (rest : List ℕ) → Holds (registerRange z o)
 unfolding decodeOf
 begun z o rest h = register-begun z o h .judged [] rest
 
-short-form : (z : Size) (r : ℕ) (rest : List ℕ) → r < 8 → decodeOf ((0xC8 + sizeStep z + r) ∷ rest) ≡ later 1 (judge (byRows (registerRows z (Register r))) rest 0)
+short-form : (z : Size) (r : ℕ) (rest : List ℕ) → r < 8 → decodeOf ((0xC8 + sizeStep z + r) ∷ rest) ≡ longer 1 (judge (byRows (registerRows z (Register r))) rest 0)
 short-form z r rest h = begun z (Register r) rest h ∙ judged-later 1 ((0xC8 + sizeStep z + r) ∷ rest) (omega arith) (byRows (registerRows z (Register r))) 0
 
-long-form : (z : Size) (c : ℕ) (rest : List ℕ) → c < 256 → isNamed (bytesOf z) c ≡ true → decodeOf ((0xC7 + sizeStep z) ∷ c ∷ rest) ≡ later 2 (judge (byRows (registerRows z (Named c))) rest 0)
+long-form : (z : Size) (c : ℕ) (rest : List ℕ) → c < 256 → isNamed (bytesOf z) c ≡ true → decodeOf ((0xC7 + sizeStep z) ∷ c ∷ rest) ≡ longer 2 (judge (byRows (registerRows z (Named c))) rest 0)
 long-form z c rest l e = begun z (Named c) rest (l, so-that e) ∙ judged-later 2 ((0xC7 + sizeStep z) ∷ c ∷ rest) (omega arith) (byRows (registerRows z (Named c))) 0
 
 -- ---- what is done
 done-alike :
     (z : Size) (r : ℕ) → r < 8 → (s : State) (before : ℕ) (ram rom : List ℕ) → s .counter ≡ (before + 1) % 2 ^ 24 → (d e : Decoded) →
-    Alike z (Register r) (Named (codeFor z r)) d e → done (later 2 e) (standingAt s before) ram rom ≡ done (later 1 d) s ram rom
+    Alike z (Register r) (Named (codeFor z r)) d e → done (longer 2 e) (standingAt s before) ram rom ≡ done (longer 1 d) s ram rom
 unfolding executedOf effectOf pastOf withCounter
 done-alike z r h s before ram rom k d e (inl w) =
     let past : (before + (2 + w .1)) % 2 ^ 24 ≡ (s .counter + (1 + w .1)) % 2 ^ 24 = omega (arith, k) in
@@ -103,7 +103,8 @@ done-alike z r h s before ram rom k d e (inr (inl w)) = rw (w .0, w .1) refl
 done-alike z r h s before ram rom k d e (inr (inr w)) = rw (w .0, w .1) refl
 
 pub same-by-code : SameByCode
+unfolding withCounter
 same-by-code z r rest s before ram rom h k =
     let c = plain-code z r h in
     rw (short-form z r rest h, long-form z (codeFor z r) rest (c .0) (c .1))
-    (done-alike z r h s before ram rom k _ _ (alike z (Register r) (Named (codeFor z r)) rest 0))
+    (done-alike z r h s (before % 2 ^ 24) ram rom (omega (arith, k)) _ _ (alike z (Register r) (Named (codeFor z r)) rest 0))

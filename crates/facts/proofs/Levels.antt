@@ -15,7 +15,7 @@ use Rattle.memory.specs.declared.Loaded.{Loaded}
 use Rattle.memory.specs.declared.Loaded.the-variants as loaded
 use Rattle.state.specs.State.{withLevel, withNesting, withBank, withFlags, withBothFlags, withCounter, withLong}
 use Rattle.state.specs.Register.{setSlot, getRegister, setRegister}
-use Rattle.state.specs.Named.{Bits, bits, none, withHeld}
+use Rattle.state.specs.Named.{Bits, bits, nowhere, withHeld}
 use Rattle.state.specs.declared.State.{State}
 use Rattle.state.proofs.Valid.{Valid, valid-says}
 use Rattle.code.specs.declared.Op.{Op}
@@ -71,7 +71,7 @@ ei-sets s ram rom rest n p e = (
 part-nesting : (s : State) (t : Bits) (v : ℕ) → withHeld s t v .nesting ≡ s .nesting
 unfolding withHeld withLong
 part-nesting s (bits i o k) v = refl
-part-nesting s none v = refl
+part-nesting s nowhere v = refl
 
 module _ (c : ℕ) where
   -- a valid state with this count

@@ -1,6 +1,6 @@
 -- Operands in the registers: where they begin, what they hold, and what is left where one is put.
 use Prim.Native.Nat.{ℕ, _+_, _%_, _<_, _≤_}
-use mathlib.Core.Path.{_≡_, refl, sym, ap, _∙_}
+use mathlib.Core.Path.{_≡_, refl, ap, _∙_}
 use mathlib.Core.Bool.{Bool, true, false}
 use mathlib.Core.List.{List}
 use native.Mathlib.Omega.{arith}
@@ -13,7 +13,7 @@ use Rattle.state.specs.declared.State.{State}
 use Rattle.state.specs.declared.named.Field.{Field}
 use Rattle.state.specs.State.{banked, withLong, longOf}
 use Rattle.state.specs.Register.{registerAt, setRegister}
-use Rattle.state.specs.Named.{byteOf, isNamed, Bits, bits, none, named, heldIn, withHeld, codeFor}
+use Rattle.state.specs.Named.{isNamed, Bits, bits, nowhere, heldIn, withHeld}
 use Rattle.state.specs.inner.Field.{fieldIn, PutWithin}
 use Rattle.state.proofs.Fields.{start-stays}
 use Rattle.state.proofs.Naming.{plain-names, named-at, plain-at}
@@ -21,20 +21,20 @@ use Rattle.code.specs.declared.Operand.{Operand}
 use Rattle.code.specs.declared.Operand.the-variants.{Register, Named, Constant, Memory}
 use Rattle.code.specs.Range.{Holds, that, registerRange}
 use Rattle.operand.specs.Try.{did}
-use Rattle.operand.specs.Operand.{placed, valueIn, putAt}
-use Rattle.operand.specs.inner.Placed.{fieldOf, At}
+use Rattle.operand.specs.Operand.{valueIn, putAt}
+use Rattle.operand.specs.inner.Placed.{placed, fieldOf, BeginsAt}
 
 -- a register 0 to 7 is where its code is, and what a code byte names is there
-pub register-at : (bank : Bank) (z : Size) (r : ℕ) → At bank z (Register r) (fieldOf bank z (Register r))
+pub register-at : (bank : Bank) (z : Size) (r : ℕ) → BeginsAt bank z (Register r) (fieldOf bank z (Register r))
 unfolding placed
 register-at bank z r = let p = plain-at (bank .0 % 4) z (r % 8) (omega arith) (omega arith) in record { there = p .0; known = p .1; within = p .2 }
 
-code-at : (bank : Bank) (z : Size) (c : ℕ) → c < 256 → (b : Bool) → isNamed (bytesOf z) c ≡ b → Holds (that b) → At bank z (Named c) (fieldOf bank z (Named c))
+code-at : (bank : Bank) (z : Size) (c : ℕ) → c < 256 → (b : Bool) → isNamed (bytesOf z) c ≡ b → Holds (that b) → BeginsAt bank z (Named c) (fieldOf bank z (Named c))
 unfolding placed
 code-at bank z c l true e h = let p = named-at (bank .0 % 4) z c (omega arith, l, e) in record { there = p .0; known = p .1; within = p .2 }
 code-at bank z c l false e h = absurd h
 
-pub chosen-at : (bank : Bank) (z : Size) (o : Operand) → Holds (registerRange z o) → At bank z o (fieldOf bank z o)
+pub chosen-at : (bank : Bank) (z : Size) (o : Operand) → Holds (registerRange z o) → BeginsAt bank z o (fieldOf bank z o)
 chosen-at bank z (Register r) h = register-at bank z r
 chosen-at bank z (Named c) h = code-at bank z c (h .0) (isNamed (bytesOf z) c) refl (h .1)
 chosen-at bank z (Constant n) h = absurd h
@@ -62,17 +62,17 @@ register-put s z r v after p =
     let a = register-at (s .bank) z r in
     plain-names (s .bank) z r .1 s v refl ∙ put-there s z (fieldOf (s .bank) z (Register r)) _ v after (a .there) (a .known) (a .within) p
 
-nothing : {A : Type 0} (i o k : ℕ) → none ≡ bits i o k → A
+nothing : {A : Type 0} (i o k : ℕ) → nowhere ≡ bits i o k → A
 nothing i o k e = let z : _≡_ {A = ℕ} 0 1 = cc in let y : ⊥ = omega arith in absurd y
 
-pub value-at : (registers : List ℕ) (bank : Bank) (ram rom : List ℕ) (z : Size) (o : Operand) (f : Field) → At bank z o f → valueIn registers bank ram rom z o ≡ Value (fieldIn registers z f)
+pub value-at : (registers : List ℕ) (bank : Bank) (ram rom : List ℕ) (z : Size) (o : Operand) (f : Field) → BeginsAt bank z o f → valueIn registers bank ram rom z o ≡ Value (fieldIn registers z f)
 unfolding valueIn placed
 value-at registers bank ram rom z (Register r) f a = ap Value (plain-names bank z r .0 registers ∙ held-at registers z f _ (a .there) (a .known) (a .within))
 value-at registers bank ram rom z (Named c) f a = ap Value (held-at registers z f _ (a .there) (a .known) (a .within))
 value-at registers bank ram rom z (Constant n) f a = nothing _ _ _ (a .there)
 value-at registers bank ram rom z (Memory m) f a = nothing _ _ _ (a .there)
 
-pub put-at : (s : State) (ram rom : List ℕ) (z : Size) (o : Operand) (f : Field) (v : ℕ) (after : List ℕ) → At (s .bank) z o f → PutWithin (s .registers) after z f v → putAt s ram rom z o v ≡ did (banked s after (s .bank)) ram
+pub put-at : (s : State) (ram rom : List ℕ) (z : Size) (o : Operand) (f : Field) (v : ℕ) (after : List ℕ) → BeginsAt (s .bank) z o f → PutWithin (s .registers) after z f v → putAt s ram rom z o v ≡ did (banked s after (s .bank)) ram
 unfolding placed
 put-at s ram rom z (Register r) f v after a p = ap (λ (t : State). did t ram) (plain-names (s .bank) z r .1 s v refl ∙ put-there s z f _ v after (a .there) (a .known) (a .within) p)
 put-at s ram rom z (Named c) f v after a p = ap (λ (t : State). did t ram) (put-there s z f _ v after (a .there) (a .known) (a .within) p)

@@ -4,7 +4,7 @@ use Rattle.answer.specs.declared.{Answer.Answer, Answer.the-variants.Done, Answ
 use Rattle.little.specs.{declared.Size.Size, declared.Size.the-variants.Long, Width.bytesOf}
 use Rattle.flags.specs.Width.{negative}
 use Rattle.memory.specs.{declared.Loaded.Loaded, declared.Loaded.the-variants.Value, Access.loadOf, Access.storeBytes, Access.ramBytes}
-use Rattle.state.specs.{declared.Bank.Bank, declared.State.State, Register.registerAt, Register.setRegister, Named.Bits, Named.named, Named.none, Named.codeFor, Named.heldIn, Named.withHeld}
+use Rattle.state.specs.{declared.Bank.Bank, declared.State.State, Register.registerAt, Register.setRegister, Named.named, Named.heldIn, Named.withHeld}
 use Rattle.code.specs.declared.{Base.Base, MemoryForm.MemoryForm, Operand.Operand}
 use Rattle.code.specs.declared.Base.the-variants.{Indirect, Displaced, Absolute8, Absolute16, Absolute24}
 use Rattle.code.specs.declared.Operand.the-variants.{Register, Named, Constant, Memory}
@@ -35,14 +35,6 @@ addressIn registers bank m = addressFrom registers bank (m .base) (m .number)
 
 abbrev pub addressOf : State → MemoryForm → ℕ
 addressOf s m = addressIn (s .registers) (s .bank) m
-
--- the part of the registers that an operand of a size is, and none where it is not there: a register 0 to 7 by the code that it has
--- in state/Named, another one by its own
-unfoldable pub placed : Bank → Size → Operand → Bits
-placed bank z (Register r) = named (bank .0 % 4) (bytesOf z) (codeFor z (r % 8))
-placed bank z (Named c) = named (bank .0 % 4) (bytesOf z) c
-placed bank z (Constant n) = none
-placed bank z (Memory m) = none
 
 -- the operand's value
 unfoldable pub valueIn : List ℕ → Bank → List ℕ → List ℕ → Size → Operand → Loaded

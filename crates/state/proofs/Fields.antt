@@ -14,7 +14,7 @@ use Rattle.little.specs.declared.Size.the-variants.{Byte, Word, Long}
 use Rattle.little.specs.Width.{bitsOf}
 use Rattle.state.specs.declared.named.Field.{Field}
 use Rattle.state.specs.Register.{setBits, indexOf}
-use Rattle.state.specs.Named.{sixteenOf, byteOf}
+use Rattle.state.specs.Named.{sixteenOf, byteNamed}
 use Rattle.state.specs.inner.Field.{fieldAt, putIn}
 use Rattle.state.proofs.Bits.{set-lt}
 
@@ -22,35 +22,35 @@ use Rattle.state.proofs.Bits.{set-lt}
 field-is : (i p n : ℕ) → i ≡ n / 4 → p ≡ 8 * (n % 4) → _≡_ {A = Field} (record { index = i; start = p }) (fieldAt n)
 field-is i p n e f = rw (e, f) refl
 
-pub code-field : (b c k : ℕ) → k ≡ sixteenOf b (c / 16) → _≡_ {A = Field} (record { index = 4 * k + c % 16 / 4; start = 8 * (c % 4) }) (fieldAt (byteOf b c))
-unfolding byteOf
+pub code-field : (b c k : ℕ) → k ≡ sixteenOf b (c / 16) → _≡_ {A = Field} (record { index = 4 * k + c % 16 / 4; start = 8 * (c % 4) }) (fieldAt (byteNamed b c))
+unfolding byteNamed
 code-field b c k e = rw (← e) (field-is _ _ (16 * k + c % 16) (omega arith) (omega arith))
 
 -- E0 to EF are the current bank's, F0 to FF the last sixteen
-pub byte-current : (b n : ℕ) → n < 16 → byteOf b (0xE0 + n) ≡ 16 * b + n
-unfolding byteOf
+pub byte-current : (b n : ℕ) → n < 16 → byteNamed b (0xE0 + n) ≡ 16 * b + n
+unfolding byteNamed
 byte-current b n h =
     let e : (0xE0 + n) / 16 ≡ 14 = omega arith in
     let f : (0xE0 + n) % 16 ≡ n = omega arith in
     rw (e, f) refl
 
-pub byte-shared : (b n : ℕ) → 16 ≤ n → n < 32 → byteOf b (0xE0 + n) ≡ 48 + n
-unfolding byteOf
+pub byte-shared : (b n : ℕ) → 16 ≤ n → n < 32 → byteNamed b (0xE0 + n) ≡ 48 + n
+unfolding byteNamed
 byte-shared b n l h =
     let e : (0xE0 + n) / 16 ≡ 15 = omega arith in
     let f : (0xE0 + n) % 16 ≡ n - 16 = omega arith in
     rw (e, f) (omega arith)
 
-pub byte-field : (b r : ℕ) → r < 8 → _≡_ {A = Field} (record { index = 4 * b + r / 2; start = 8 - 8 * (r % 2) }) (fieldAt (byteOf b (0xE0 + 4 * (r / 2) + (1 - r % 2))))
+pub byte-field : (b r : ℕ) → r < 8 → _≡_ {A = Field} (record { index = 4 * b + r / 2; start = 8 - 8 * (r % 2) }) (fieldAt (byteNamed b (0xE0 + 4 * (r / 2) + (1 - r % 2))))
 byte-field b r h =
     let e : 0xE0 + 4 * (r / 2) + (1 - r % 2) ≡ 0xE0 + (4 * (r / 2) + (1 - r % 2)) = omega arith in
     rw (e, byte-current b (4 * (r / 2) + (1 - r % 2)) (omega arith))
     (field-is _ _ (16 * b + (4 * (r / 2) + (1 - r % 2))) (omega arith) (omega arith))
 
-pub long-field : (b r : ℕ) → r < 8 → _≡_ {A = Field} (record { index = indexOf b r; start = 0 }) (fieldAt (byteOf b (0xE0 + 4 * r)))
+pub long-field : (b r : ℕ) → r < 8 → _≡_ {A = Field} (record { index = indexOf b r; start = 0 }) (fieldAt (byteNamed b (0xE0 + 4 * r)))
 long-field b r h = go (ltb r 4) refl
   where
-    go : (t : Bool) → ltb r 4 ≡ t → _≡_ {A = Field} (record { index = cond t (4 * b + r) (12 + r); start = 0 }) (fieldAt (byteOf b (0xE0 + 4 * r)))
+    go : (t : Bool) → ltb r 4 ≡ t → _≡_ {A = Field} (record { index = cond t (4 * b + r) (12 + r); start = 0 }) (fieldAt (byteNamed b (0xE0 + 4 * r)))
     go true e =
         let l = ltb-true r 4 e in
         rw (byte-current b (4 * r) (omega arith)) (field-is _ _ (16 * b + 4 * r) (omega arith) (omega arith))

@@ -5,9 +5,10 @@ use mathlib.Core.Bool.{Bool, true, false, cond, _&&_, _||_}
 use mathlib.Core.List.{List}
 use mathlib.Core.Logic.{_⊎_, inl, inr, _↔_}
 use native.Mathlib.Omega.{arith}
+use native.Mathlib.Nat.{mod-lt}
 use lib.Dec.{ltb, leb, eqb}
 use lib.ListN.{getD}
-use borrow.Author.Tests.{le-ltb, le-leb, eq-eqb, eqb-true, eqb-false, ltb-true, ltb-false, leb-true, leb-false}
+use borrow.Author.Tests.{le-ltb, le-leb, eq-eqb, ne-eqb, eqb-true, eqb-false, ltb-true, leb-true}
 use Rattle.little.specs.declared.Size.{Size}
 use Rattle.little.specs.declared.Size.the-variants.{Byte, Word, Long}
 use Rattle.little.specs.Width.{bitsOf, bytesOf}
@@ -17,12 +18,12 @@ use Rattle.state.specs.declared.Part.the-variants.{Byte0, Byte1}
 use Rattle.state.specs.declared.named.Field.{Field}
 use Rattle.state.specs.State.{banked, longOf, withLong}
 use Rattle.state.specs.Register.{getBits, setBits, startOf, widthOf, slotOf, slotIn, setSlot, registerAt, setRegister}
-use Rattle.state.specs.Named.{sixteenOf, byteOf, isNamed, Bits, bits, none, named, heldIn, withHeld, codeFor}
+use Rattle.state.specs.Named.{sixteenOf, byteNamed, isNamed, Bits, bits, nowhere, named, heldIn, withHeld, codeFor}
 use Rattle.state.specs.Sound.{Sound}
-use Rattle.state.specs.Naming.{byteIn, Names, Share, PlainNames, PartWrites, PartsOverlap, PartsApart}
+use Rattle.state.specs.Naming.{CodesAre, byteIn, Names, Share, PlainNames, PartWrites, PartsOverlap, PartsApart}
 use Rattle.state.proofs.Bits.{get-set, set-lt}
 use Rattle.state.proofs.Laws.{long-same, long-other, part-apart, sound-with}
-use Rattle.state.proofs.Fields.{byte-field, long-field}
+use Rattle.state.proofs.Fields.{byte-current, byte-field, long-field}
 
 -- ---- the registers 0 to 7
 current-named : (n c : ℕ) → 0xE0 ≤ c → c % n ≡ 0 → isNamed n c ≡ true
@@ -65,13 +66,39 @@ plain-names bank z r = (
 
 -- ---- where a named part lies: in one of the twenty, and within it
 sixteen-lt : (bank d : ℕ) → bank < 4 → sixteenOf bank d < 5
-sixteen-lt bank d h = go (eqb d 0xD) (eqb d 0xE) (eqb d 0xF)
+sixteen-lt bank d h = go (eqb d 0xD) (eqb d 0xE) (eqb d 0xF) (mod-lt _ (omega arith))
   where
-    go : (x y w : Bool) → cond x ((bank + 3) % 4) (cond y bank (cond w 4 (d % 4))) < 5
-    go true y w = omega arith
-    go false true w = omega arith
-    go false false true = omega arith
-    go false false false = omega arith
+    go : {n : ℕ} (x y w : Bool) → n < 4 → cond x n (cond y bank (cond w 4 (d % 4))) < 5
+    go true y w l = omega arith
+    go false true w l = omega arith
+    go false false true l = omega arith
+    go false false false l = omega arith
+
+-- the map
+bank-byte : (bank n i : ℕ) → n < 4 → i < 16 → byteNamed bank (16 * n + i) ≡ 16 * n + i
+unfolding byteNamed
+bank-byte bank n i l h =
+    let e : (16 * n + i) / 16 ≡ n = omega arith in
+    let f : (16 * n + i) % 16 ≡ i = omega arith in
+    let d : n % 4 ≡ n = omega arith in
+    rw (e, f, ne-eqb n 0xD (λ k. omega arith), ne-eqb n 0xE (λ k. omega arith), ne-eqb n 0xF (λ k. omega arith), d) refl
+
+dashed-byte : (bank i : ℕ) → i < 16 → byteNamed bank (0xD0 + i) ≡ 16 * ((bank + 3) % 4) + i
+unfolding byteNamed
+dashed-byte bank i h =
+    let e : (0xD0 + i) / 16 ≡ 13 = omega arith in
+    let f : (0xD0 + i) % 16 ≡ i = omega arith in
+    rw (e, f) refl
+
+last-byte : (bank i : ℕ) → i < 16 → byteNamed bank (0xF0 + i) ≡ 64 + i
+unfolding byteNamed
+last-byte bank i h =
+    let e : (0xF0 + i) / 16 ≡ 15 = omega arith in
+    let f : (0xF0 + i) % 16 ≡ i = omega arith in
+    rw (e, f) refl
+
+pub codes-are : CodesAre
+codes-are bank i l h = (λ n k. bank-byte bank n i k h, dashed-byte bank i h, byte-current bank i h, last-byte bank i h)
 
 -- what the test says
 is-there : (n code : ℕ) → isNamed n code ≡ true → ((code < 0x40) ⊎ (0xD0 ≤ code)) × (code % n ≡ 0)
@@ -87,12 +114,12 @@ is-there n code e = go (ltb code 0x40) (leb 0xD0 code) (eqb (code % n) 0) refl r
     go false true false e f g h = no h
     go false false w e f g h = no h
 
-pub byte-lt : (bank code : ℕ) → bank < 4 → byteOf bank code / 4 < 20
-unfolding byteOf
+pub byte-lt : (bank code : ℕ) → bank < 4 → byteNamed bank code / 4 < 20
+unfolding byteNamed
 byte-lt bank code h = omega (arith, sixteen-lt bank (code / 16) h)
 
-pub within : (bank : ℕ) (z : Size) (code : ℕ) → isNamed (bytesOf z) code ≡ true → byteOf bank code % 4 + bytesOf z ≤ 4
-unfolding byteOf
+pub within : (bank : ℕ) (z : Size) (code : ℕ) → isNamed (bytesOf z) code ≡ true → byteNamed bank code % 4 + bytesOf z ≤ 4
+unfolding byteNamed
 within bank Byte code h = omega arith
 within bank Word code h = omega (arith, is-there 2 code h .1)
 within bank Long code h = omega (arith, is-there 4 code h .1)
@@ -102,28 +129,28 @@ eight-bytes Byte = refl
 eight-bytes Word = refl
 eight-bytes Long = refl
 
-is-bits : (bank : ℕ) (z : Size) (code : ℕ) → isNamed (bytesOf z) code ≡ true → named bank (bytesOf z) code ≡ bits (byteOf bank code / 4) (8 * (byteOf bank code % 4)) (8 * bytesOf z)
+is-bits : (bank : ℕ) (z : Size) (code : ℕ) → isNamed (bytesOf z) code ≡ true → named bank (bytesOf z) code ≡ bits (byteNamed bank code / 4) (8 * (byteNamed bank code % 4)) (8 * bytesOf z)
 unfolding named
 is-bits bank z code h = rw h refl
 
 -- a part that is named, by where it begins
 pub named-at :
     (bank : ℕ) (z : Size) (code : ℕ) → Names bank z code →
-    (named bank (bytesOf z) code ≡ bits (byteOf bank code / 4) (8 * (byteOf bank code % 4)) (bitsOf z))
-    × (byteOf bank code / 4 < 20) × (8 * (byteOf bank code % 4) + bitsOf z ≤ 32)
+    (named bank (bytesOf z) code ≡ bits (byteNamed bank code / 4) (8 * (byteNamed bank code % 4)) (bitsOf z))
+    × (byteNamed bank code / 4 < 20) × (8 * (byteNamed bank code % 4) + bitsOf z ≤ 32)
 named-at bank z code h = (
-  is-bits bank z code (h .2) ∙ ap (bits (byteOf bank code / 4) (8 * (byteOf bank code % 4))) (eight-bytes z),
+  is-bits bank z code (h .2) ∙ ap (bits (byteNamed bank code / 4) (8 * (byteNamed bank code % 4))) (eight-bytes z),
   byte-lt bank code (h .0),
   rw (← eight-bytes z) (omega (arith, within bank z code (h .2))),
 )
 
 pub plain-at :
     (bank : ℕ) (z : Size) (r : ℕ) → bank < 4 → r < 8 →
-    (named bank (bytesOf z) (codeFor z r) ≡ bits (byteOf bank (codeFor z r) / 4) (8 * (byteOf bank (codeFor z r) % 4)) (bitsOf z))
-    × (byteOf bank (codeFor z r) / 4 < 20) × (8 * (byteOf bank (codeFor z r) % 4) + bitsOf z ≤ 32)
+    (named bank (bytesOf z) (codeFor z r) ≡ bits (byteNamed bank (codeFor z r) / 4) (8 * (byteNamed bank (codeFor z r) % 4)) (bitsOf z))
+    × (byteNamed bank (codeFor z r) / 4 < 20) × (8 * (byteNamed bank (codeFor z r) % 4) + bitsOf z ≤ 32)
 plain-at bank z r h k = let c = plain-code z r k in named-at bank z (codeFor z r) (h, c .0, c .1)
 
-is-none : (bank n code : ℕ) → isNamed n code ≡ false → named bank n code ≡ none
+is-none : (bank n code : ℕ) → isNamed n code ≡ false → named bank n code ≡ nowhere
 unfolding named
 is-none bank n code h = rw h refl
 
@@ -134,7 +161,7 @@ sound-bits s i k n v ok h =
     let e : 32 - (8 * k + 8 * n) + 8 * n + 8 * k ≡ 32 = omega arith in
     sound-with s i _ ok (rw e at (set-lt (8 * k) (8 * n) (32 - (8 * k + 8 * n)) (getD (s .registers) i 0) v (rw e (ok .fit i))))
 
-sound-none : (s : State) (v : ℕ) → Sound s → Sound (withHeld s none v)
+sound-none : (s : State) (v : ℕ) → Sound s → Sound (withHeld s nowhere v)
 unfolding withHeld
 sound-none s v ok = ok
 
@@ -159,7 +186,7 @@ pub sound-held : (s : State) (bank : ℕ) (z : Size) (code v : ℕ) → Sound s 
 sound-held s bank z code v ok = go (isNamed (bytesOf z) code) refl
   where
     go : (b : Bool) → isNamed (bytesOf z) code ≡ b → Sound (withHeld s (named bank (bytesOf z) code) v)
-    go true e = subst (λ (t : Bits). Sound (withHeld s t v)) (sym (is-bits bank z code e)) (sound-bits s (byteOf bank code / 4) (byteOf bank code % 4) (bytesOf z) v ok (within bank z code e))
+    go true e = subst (λ (t : Bits). Sound (withHeld s t v)) (sym (is-bits bank z code e)) (sound-bits s (byteNamed bank code / 4) (byteNamed bank code % 4) (bytesOf z) v ok (within bank z code e))
     go false e = subst (λ (t : Bits). Sound (withHeld s t v)) (sym (is-none bank (bytesOf z) code e)) (sound-none s v ok)
 
 -- of two parts, by the bytes of the eighty where they begin and how many they have: in one long they do not overlap where these do not
@@ -170,25 +197,25 @@ lies-apart a n b m h k (inr l) e = inr (omega arith)
 only-registers : (s : State) (t : Bits) (v : ℕ) → withHeld s t v ≡ banked s (withHeld s t v .registers) (s .bank)
 unfolding withHeld withLong
 only-registers s (bits i o k) v = refl
-only-registers s none v = refl
+only-registers s nowhere v = refl
 
 other-byte :
-    (s : State) (bank : ℕ) (z : Size) (code v : ℕ) → Sound s → Names bank z code → (i : ℕ) → (i < byteOf bank code) ⊎ (byteOf bank code + bytesOf z ≤ i) →
+    (s : State) (bank : ℕ) (z : Size) (code v : ℕ) → Sound s → Names bank z code → (i : ℕ) → (i < byteNamed bank code) ⊎ (byteNamed bank code + bytesOf z ≤ i) →
     byteIn (withHeld s (named bank (bytesOf z) code) v .registers) i ≡ byteIn (s .registers) i
 unfolding heldIn
 other-byte s bank z code v ok h i far =
-    let a = byteOf bank code in
+    let a = byteNamed bank code in
     rw (is-bits bank z code (h .2))
     (held-kept s (a / 4) (8 * (a % 4)) (8 * bytesOf z) v (i / 4) (8 * (i % 4)) 8 ok (byte-lt bank code (h .0))
     (lies-apart a (bytesOf z) i 1 (within bank z code (h .2)) (omega arith) (one-byte far)))
   where
-    one-byte : (i < byteOf bank code) ⊎ (byteOf bank code + bytesOf z ≤ i) → (i + 1 ≤ byteOf bank code) ⊎ (byteOf bank code + bytesOf z ≤ i)
+    one-byte : (i < byteNamed bank code) ⊎ (byteNamed bank code + bytesOf z ≤ i) → (i + 1 ≤ byteNamed bank code) ⊎ (byteNamed bank code + bytesOf z ≤ i)
     one-byte (inl l) = inl (omega arith)
     one-byte (inr l) = inr l
 
 read-back : (s : State) (bank : ℕ) (z : Size) (code v : ℕ) → Sound s → Names bank z code → heldIn (withHeld s (named bank (bytesOf z) code) v .registers) (named bank (bytesOf z) code) ≡ v % 2 ^ bitsOf z
 read-back s bank z code v ok h =
-    let a = byteOf bank code in
+    let a = byteNamed bank code in
     rw (is-bits bank z code (h .2), ← eight-bytes z)
     (written-back s (a / 4) (8 * (a % 4)) (8 * bytesOf z) v ok (byte-lt bank code (h .0)))
 
@@ -197,12 +224,13 @@ part-writes s bank z code v ok h = (
   read-back s bank z code v ok h,
   other-byte s bank z code v ok h,
   only-registers s (named bank (bytesOf z) code) v,
+  sound-held s bank z code v ok,
 )
 
 pub parts-apart : PartsApart
 parts-apart s bank z y c d v ok h k far =
-    let a = byteOf bank c in
-    let b = byteOf bank d in
+    let a = byteNamed bank c in
+    let b = byteNamed bank d in
     rw (is-bits bank z c (h .2), is-bits bank y d (k .2))
     (held-kept s (a / 4) (8 * (a % 4)) (8 * bytesOf z) v (b / 4) (8 * (b % 4)) (8 * bytesOf y) ok (byte-lt bank c (h .0))
     (lies-apart a (bytesOf z) b (bytesOf y) (within bank z c (h .2)) (within bank y d (k .2)) far))
@@ -217,4 +245,4 @@ overlaps a n b m h k = (
 pub parts-overlap : PartsOverlap
 parts-overlap bank z y c d h k =
     rw (is-bits bank z c (h .2), is-bits bank y d (k .2))
-    (overlaps (byteOf bank c) (bytesOf z) (byteOf bank d) (bytesOf y) (within bank z c (h .2)) (within bank y d (k .2)))
+    (overlaps (byteNamed bank c) (bytesOf z) (byteNamed bank d) (bytesOf y) (within bank z c (h .2)) (within bank y d (k .2)))

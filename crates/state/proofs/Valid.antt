@@ -6,7 +6,7 @@ use mathlib.Core.Bool.{Bool, true, false, _&&_, _||_}
 use native.Mathlib.Omega.{arith}
 use lib.Dec.{ltb}
 use borrow.Author.Tests.{lt-ltb, ltb-true}
-use Rattle.state.specs.Named.{Bits, bits, none, withHeld}
+use Rattle.state.specs.Named.{Bits, bits, nowhere, withHeld}
 use Rattle.state.specs.State.{clear, flagsValid, validOf, zeroState, resetState, lent, nested, withCounter, withBank, withLevel, withNesting, withFlags, withBothFlags, withLong}
 use Rattle.state.specs.Register.{setSlot, setRegister}
 use Rattle.little.specs.declared.Size.{Size}
@@ -64,7 +64,7 @@ valid-register s z c v = valid-set s _ v
 pub valid-held : (s : State) (t : Bits) (v : ℕ) → validOf (withHeld s t v) ≡ validOf s
 unfolding withHeld withLong validOf
 valid-held s (bits i o k) v = refl
-valid-held s none v = refl
+valid-held s nowhere v = refl
 
 -- a valid state with parts laid over it that are within their bounds
 valid-lent :

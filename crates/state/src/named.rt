@@ -4,7 +4,7 @@ ghost use mathlib.Core.Path.{_≡_};
 ghost use Prim.Native.Nat.{_+_, _-_, _%_, _^_, _<_, _≤_};
 ghost use Rattle.little.specs.Width.{bitsOf, bytesOf};
 ghost use Rattle.state.specs.Register.{setBits};
-ghost use Rattle.state.specs.Named.{sixteenOf, byteOf, isNamed, codeFor};
+ghost use Rattle.state.specs.Named.{sixteenOf, byteNamed, isNamed, codeFor};
 ghost use Rattle.state.specs.inner.Field.{fieldAt, fieldIn, putIn, fieldPut, PutWithin};
 use crate::Bank;
 use crate::index_of;
@@ -17,7 +17,7 @@ pub struct Field {
 }
 
 // As many ones as a number of a size has bits.
-fn mask(size: Size) -> u32
+fn ones(size: Size) -> u32
     ensures { λ r. ⌜ r ≡ 2 ^ bitsOf size - 1 ⌝ }
 {
     match size {
@@ -42,7 +42,7 @@ fn sixteen(bank: usize, digit: usize) -> usize
 
 // Where the register of a code byte begins, in a bank.
 pub fn of_code(bank: Bank, code: u8) -> Field
-    ensures { λ r. ⌜ r ≡ fieldAt (byteOf (bank .0 % 4) code) ⌝ }
+    ensures { λ r. ⌜ r ≡ fieldAt (byteNamed (bank .0 % 4) code) ⌝ }
 {
     let n = bank.0 % 4;
     let c = code as usize;
@@ -54,8 +54,8 @@ pub fn of_code(bank: Bank, code: u8) -> Field
     }
 }
 
-// How many codes a register of a size has.
-fn codes(size: Size) -> u8
+// At every how many codes a register of a size begins.
+fn spacing(size: Size) -> u8
     ensures { λ r. ⌜ (r ≡ bytesOf size) × (0 < r) ⌝ }
 {
     match size {
@@ -69,12 +69,12 @@ fn codes(size: Size) -> u8
 pub fn is_named(size: Size, code: u8) -> bool
     ensures { λ r. ⌜ r ≡ isNamed (bytesOf size) code ⌝ }
 {
-    ((code < 0x40) | (0xD0 <= code)) & (code % codes(size) == 0)
+    ((code < 0x40) | (0xD0 <= code)) & (code % spacing(size) == 0)
 }
 
 // Where the register r of a size begins, 0 to 7, in a bank: both numbers are taken modulo what there is.
 pub fn of_register(bank: Bank, size: Size, r: u8) -> Field
-    ensures { λ f. ⌜ f ≡ fieldAt (byteOf (bank .0 % 4) (codeFor size (r % 8))) ⌝ }
+    ensures { λ f. ⌜ f ≡ fieldAt (byteNamed (bank .0 % 4) (codeFor size (r % 8))) ⌝ }
 {
     let n = bank.0 % 4;
     let b = n as usize;
@@ -98,7 +98,7 @@ pub fn read(registers: &[u32; 20], size: Size, f: Field) -> u32
 {
     let i = f.index;
     if i < 20 {
-        return (registers[i] >> (f.start % 32)) & mask(size);
+        return (registers[i] >> (f.start % 32)) & ones(size);
     }
     0
 }
@@ -108,7 +108,7 @@ fn replaced(size: Size, start: u32, x: u32, v: u32) -> u32
     requires { ⌜ start < 32 ⌝ }
     ensures { λ r. ⌜ (r ≡ putIn size start x v) × (start + bitsOf size ≤ 32 → r ≡ setBits start (bitsOf size) x v) ⌝ }
 {
-    x ^ ((((x >> start) ^ v) & mask(size)) << start)
+    x ^ ((((x >> start) ^ v) & ones(size)) << start)
 }
 
 // Those bits replaced; nothing is written past the twenty.

@@ -1,6 +1,6 @@
 -- A register form behind a code byte: what is read behind it is done past it.
 use Prim.Native.Nat.{ℕ, _+_, _%_, _^_}
-use mathlib.Core.Path.{_≡_, refl, sym, ap}
+use mathlib.Core.Path.{_≡_, refl, ap}
 use mathlib.Core.Bool.{Bool, true, false, cond}
 use mathlib.Core.List.{List}
 use native.Mathlib.Omega.{arith}
@@ -21,7 +21,7 @@ use Rattle.code.specs.declared.Decoded.{Decoded}
 use Rattle.code.specs.declared.OfRegister.{OfRegister}
 use Rattle.code.specs.declared.OfRegister.the-variants as register
 use Rattle.code.specs.Said.{wholeOf}
-use Rattle.code.specs.inner.Parts.{registerAs, later}
+use Rattle.code.specs.inner.Parts.{registerAs, longer}
 use Rattle.operand.specs.Try.{leaves, after}
 use Rattle.compute.specs.Compute.{putsOf}
 use Rattle.exec.specs.Exec.{pastOf, effectOf, executedOf, done}
@@ -41,7 +41,7 @@ module _ (rest : State) (regs : List ℕ) (bank : Bank) (counter flags : ℕ) (r
   unfolding executedOf effectOf pastOf withCounter
   use-later how m = ap (λ (c : ℕ). putsOf how z o (bankedAtWith rest regs bank c flags) ram rom) (past-twice n m counter)
 
-  done-later : (read : OfRegister) → done (later n (registerAs read z o)) (bankedAtWith rest regs bank counter flags) ram rom ≡ done (registerAs read z o) (bankedAtWith rest regs bank (pastName n counter) flags) ram rom
+  done-later : (read : OfRegister) → done (longer n (registerAs read z o)) (bankedAtWith rest regs bank counter flags) ram rom ≡ done (registerAs read z o) (bankedAtWith rest regs bank (pastName n counter) flags) ram rom
   done-later (register.Number v m) = use-later (Number v) m
   done-later (register.From r m) = use-later (From r) m
   done-later (register.Load r m) = use-later (Load r) m
@@ -53,7 +53,7 @@ module _ (rest : State) (regs : List ℕ) (bank : Bank) (counter flags : ℕ) (r
 
   -- what was done past the code byte is done at the instruction
   pub form-done :
-      (read : OfRegister) (d : Decoded) (a : Answer) (u : State) → d ≡ later n (registerAs read z o) →
+      (read : OfRegister) (d : Decoded) (a : Answer) (u : State) → d ≡ longer n (registerAs read z o) →
       after a u ram ≡ leaves (bankedAtWith rest regs bank (pastName n counter) flags) ram (done (registerAs read z o) (bankedAtWith rest regs bank (pastName n counter) flags) ram rom) →
       after a (standingAt u (backOf a counter (u .counter))) ram ≡ leaves (bankedAtWith rest regs bank counter flags) ram (done d (bankedAtWith rest regs bank counter flags) ram rom)
   form-done read d a u e h =

@@ -75,10 +75,10 @@ behindOf chosen.Short = 0
 behindOf chosen.Unlisted = 0
 
 -- what was read of a code without its first n bytes, of the whole code: an instruction has n bytes more
-abbrev pub later : ℕ → Decoded → Decoded
-later n (Whole i) = wholeOf (i .op) (i .size) (i .operand) (n + i .length)
-later n Short = Short
-later n Unlisted = Unlisted
+abbrev pub longer : ℕ → Decoded → Decoded
+longer n (Whole i) = wholeOf (i .op) (i .size) (i .operand) (n + i .length)
+longer n Short = Short
+longer n Unlisted = Unlisted
 
 -- of a register form, of a size and with its operand
 abbrev pub registerAs : OfRegister → Size → Operand → Decoded

@@ -6,7 +6,7 @@ use borrow.Author.Needs.{needs}
 use Rattle.code.specs.Said.{Said}
 use Rattle.code.specs.Rows.{lookup}
 use Rattle.code.specs.Registers.{registerRows}
-use Rattle.code.specs.inner.Parts.{later}
+use Rattle.code.specs.inner.Parts.{longer}
 use Rattle.code.proofs.Later.{part-later, part-within}
 use Rattle.decode.proofs.whole_chosen.Statement.{statement}
 use Rattle.decode.proofs.whole_chosen.Tie as tie
@@ -62,7 +62,7 @@ returns c =
     let begun = rw (k .before .operand .given .1) at (k .before .before .before .begin .ensures .0) in
     rw (← k .before .before .before .before .size-by .ensures)
     (c .behind .ensures
-    ∙ (ap (later _) (c .before .whole-of-register .ensures ∙ c .before .before .read .ensures _)
+    ∙ (ap (longer _) (c .before .whole-of-register .ensures ∙ c .before .before .read .ensures _)
     ∙ (part-later _ s (in-code k) (says k) ∙ begun)))
 
 returns-2 : tie.Need-returns-2

@@ -91,7 +91,7 @@ returns-2 c o there rest ram rom =
     let p = standingAt rest ((a .counter .now + read .0 .1 .0) % 2 ^ 24) in
     rw (c .on2 .ensures .0, c .on2 .ensures .1, read .1)
     (put-on rest (a .regs .now) (a .bank) (a .counter .now) (a .flags .now) (read .0 .1 .0) ram rom (From (read .0 .0)) (a .size) o _ _
-    (from-there (a .size) o (a .r) (a .bank) there p (a .regs .now) (a .flags .now) ram rom (read .0 .0) _ _ (c .before .before .before .before .of-register .ensures) (c .before .before .load .ensures)))
+    (from-there (a .size) o (a .r) (a .bank) there p (a .regs .now) (a .flags .now) ram rom (read .0 .0) _ _ (c .before .before .before .before .of-register .ensures) (c .before .before .load .ensures .1)))
 
 returns-3 : tie.Need-returns-3
 returns-3 c o there rest ram rom =
@@ -100,7 +100,7 @@ returns-3 c o there rest ram rom =
     let p = standingAt rest ((a .counter .now + read .0 .1 .0) % 2 ^ 24) in
     rw (c .on3 .ensures .0, c .on3 .ensures .1, read .1)
     (put-on rest (a .regs .now) (a .bank) (a .counter .now) (a .flags .now) (read .0 .1 .0) ram rom (Load (read .0 .0)) (a .size) o _ _
-    (load-there (a .size) o (a .r) (a .bank) there p (a .regs .now) (a .flags .now) ram rom (read .0 .0) _ _ (c .before .before .before .before .of-register2 .ensures) (c .before .before .load2 .ensures)))
+    (load-there (a .size) o (a .r) (a .bank) there p (a .regs .now) (a .flags .now) ram rom (read .0 .0) _ _ (c .before .before .before .before .of-register2 .ensures) (c .before .before .load2 .ensures .1)))
 
 returns-4 : tie.Need-returns-4
 returns-4 c o there rest ram rom =

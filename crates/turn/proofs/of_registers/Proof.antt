@@ -3,9 +3,9 @@ use mathlib.Core.Path.{refl, sym, ap, _∙_}
 use lib.ListN.{length}
 use Rattle.code.specs.Rows.{lookup}
 use Rattle.code.specs.Registers.{registerRows}
-use Rattle.code.specs.inner.Parts.{later}
+use Rattle.code.specs.inner.Parts.{longer}
 use Rattle.code.proofs.Later.{part-later}
-use Rattle.operand.specs.inner.Placed.{At}
+use Rattle.operand.specs.inner.Placed.{BeginsAt}
 use Rattle.operand.proofs.Placed.{chosen-at}
 use Rattle.turn.proofs.Named.{form-done}
 use borrow.Author.Needs.{needs}
@@ -32,7 +32,7 @@ in-code : (c : tie.After-known-told) → c .before .operand .given .0 .1 .0 ≤ 
 in-code c = rw (c .before .operand .given .1) at (c .before .before .before .begin .ensures .1 .1)
 
 -- the operand is a register, and stands where its field is
-there : (c : tie.After-field) → At (c .before .before .before .before .before .before .before .before .before .before .args .bank) (c .before .before .before .before .before .before .before .before .size-by .result) (c .before .before .before .before .operand .given .0 .0) (c .field .result)
+there : (c : tie.After-field) → BeginsAt (c .before .before .before .before .before .before .before .before .before .before .args .bank) (c .before .before .before .before .before .before .before .before .size-by .result) (c .before .before .before .before .operand .given .0 .0) (c .field .result)
 there c =
     let chosen = rw (c .before .before .before .before .operand .given .1) at (c .before .before .before .before .before .before .begin .ensures .1 .0) in
     rw (c .field .ensures) (chosen-at _ _ _ chosen)
@@ -74,7 +74,7 @@ returns c rest ram rom =
     let work = c .before .before .of-register in
     rw (c .back .ensures .0, c .back .ensures .1, ← c .before .before .before .before .before .before .before .before .before .before .before .before .before .before .before .before .size-by .ensures)
     (form-done rest (a .regs .now) (a .bank) (a .counter .now) (a .flags .now) ram rom z o n (read .result) _ (work .result) _
-    (sym begun ∙ (sym (part-later n (a .code .now) (in-code k) says) ∙ ap (later n) (sym (read .ensures o))))
+    (sym begun ∙ (sym (part-later n (a .code .now) (in-code k) says) ∙ ap (longer n) (sym (read .ensures o))))
     (rw (c .before .before .before .before .before .before .before .before .before .past-name .ensures) at (work .ensures o (there (c .before .before .before .before .before .before .before .before)) rest ram rom)))
 
 returns-2 : tie.Need-returns-2

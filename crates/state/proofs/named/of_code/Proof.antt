@@ -3,7 +3,6 @@ use Rattle.state.proofs.Fields.{code-field}
 use borrow.Author.Needs.{needs}
 use Rattle.state.proofs.named.of_code.Statement.{statement}
 use Rattle.state.proofs.named.of_code.Tie as tie
-use Rattle.state.proofs.named.sixteen.Reads as sixteen-reads
 
 cast-sixteen : tie.Need-cast-sixteen
 cast-sixteen c = search needs

@@ -10,7 +10,7 @@ use Rattle.little.specs.declared.Size.{Size}
 use Rattle.little.specs.declared.Size.the-variants.{Byte, Word, Long}
 use Rattle.state.specs.declared.named.Field.{Field}
 use Rattle.state.specs.Register.{indexOf}
-use Rattle.state.specs.Named.{byteOf, codeFor}
+use Rattle.state.specs.Named.{byteNamed, codeFor}
 use Rattle.state.specs.inner.Field.{fieldAt}
 use Rattle.state.proofs.Fields.{byte-field, long-field}
 use borrow.Author.Needs.{needs}
@@ -48,7 +48,7 @@ index-of-requires : tie.Need-index-of-requires
 index-of-requires c κs = search needs
 
 -- a word or a long
-no-byte : (b r : ℕ) → r < 8 → (z : Size) → OneOf (1 ∷ 2 ∷ []) (tagOf the-type z) → _≡_ {A = Field} (record { index = indexOf b r; start = 0 }) (fieldAt (byteOf b (codeFor z r)))
+no-byte : (b r : ℕ) → r < 8 → (z : Size) → OneOf (1 ∷ 2 ∷ []) (tagOf the-type z) → _≡_ {A = Field} (record { index = indexOf b r; start = 0 }) (fieldAt (byteNamed b (codeFor z r)))
 no-byte b r h Byte (inl e) = let none : ⊥ = omega arith in absurd none
 no-byte b r h Byte (inr e) = let none : ⊥ = omega arith in absurd none
 no-byte b r h Word k = long-field b r h

@@ -1,4 +1,3 @@
-use Prim.Native.Nat.{_%_}
 use mathlib.Core.Path.{refl}
 use lib.Bits.{and-mask}
 use Rattle.little.specs.Width.{bitsOf}
@@ -18,12 +17,12 @@ element-copy-out-result c = search needs
 shr-result : tie.Need-shr-result
 shr-result c = search needs
 
-mask-requires : tie.Need-mask-requires
-mask-requires c κs = search needs
+ones-requires : tie.Need-ones-requires
+ones-requires c κs = search needs
 
 returns : tie.Need-returns
 unfolding fieldIn getBits
-returns c = let a = c .before .before .before .before .args in rw (lt-ltb (a .f .index) 20 (c .before .before .before .if1 .taken), c .mask .ensures) (and-mask _ (bitsOf (a .size)))
+returns c = let a = c .before .before .before .before .args in rw (lt-ltb (a .f .index) 20 (c .before .before .before .if1 .taken), c .ones .ensures) (and-mask _ (bitsOf (a .size)))
 
 returns-2 : tie.Need-returns-2
 unfolding fieldIn
@@ -32,4 +31,4 @@ returns-2 c = rw (le-ltb (c .before .args .f .index) 20 (c .if1 .left)) refl
 pub read-spec : {M : Type 1} → statement M
 read-spec =
     tie.close
-    (tie.spec mul-result element-copy-out-result shr-result mask-requires returns returns-2)
+    (tie.spec mul-result element-copy-out-result shr-result ones-requires returns returns-2)

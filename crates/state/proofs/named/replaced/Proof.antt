@@ -10,8 +10,8 @@ use Rattle.state.proofs.named.replaced.Tie as tie
 shr-result : tie.Need-shr-result
 shr-result c = search needs
 
-mask-requires : tie.Need-mask-requires
-mask-requires c κs = search needs
+ones-requires : tie.Need-ones-requires
+ones-requires c κs = search needs
 
 shl-result : tie.Need-shl-result
 shl-result c = search needs
@@ -20,9 +20,9 @@ returns : tie.Need-returns
 unfolding putIn
 returns c =
     let a = c .before .args in (
-      rw (c .mask .ensures) (put-within (a .start) (bitsOf (a .size)) (a .x) (a .v) (omega arith)),
-      λ w. rw (c .mask .ensures) (put-within (a .start) (bitsOf (a .size)) (a .x) (a .v) (omega arith)) ∙ put-whole (a .size) (a .start) (a .x) (a .v) (omega arith) w,
+      rw (c .ones .ensures) (put-within (a .start) (bitsOf (a .size)) (a .x) (a .v) (omega arith)),
+      λ w. rw (c .ones .ensures) (put-within (a .start) (bitsOf (a .size)) (a .x) (a .v) (omega arith)) ∙ put-whole (a .size) (a .start) (a .x) (a .v) (omega arith) w,
     )
 
 pub replaced-spec : {M : Type 1} → statement M
-replaced-spec = tie.close (tie.spec shr-result mask-requires shl-result returns)
+replaced-spec = tie.close (tie.spec shr-result ones-requires shl-result returns)
