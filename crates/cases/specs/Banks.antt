@@ -48,20 +48,20 @@ counting =
     ∷ []
 
 -- a code byte that names nothing is 4 at that byte, even where no byte follows; 3 where a byte lacks that could still make it whole
-abbrev pub stops : Why → List ℕ → Case
-stops w code = row 1 (begin 0xD7 code) [] 0 nothing (Refused w)
+abbrev pub halts : Why → List ℕ → Case
+halts w code = row 1 (begin 0xD7 code) [] 0 nothing (Refused w)
 
 unfoldable pub unnamed : List Case
 unnamed =
-    stops Unlisted (0xC7 ∷ 0x40 ∷ [])
-    ∷ stops Unlisted (0xC7 ∷ 0xCF ∷ 0x61 ∷ [])
-    ∷ stops Unlisted (0xD7 ∷ 0x21 ∷ [])
-    ∷ stops Unlisted (0xE7 ∷ 0x22 ∷ [])
-    ∷ stops Unlisted (0xC7 ∷ 0x20 ∷ 0x12 ∷ [])
-    ∷ stops NoCode (0xC7 ∷ [])
-    ∷ stops NoCode (0xC7 ∷ 0x20 ∷ [])
-    ∷ stops NoCode (0xD7 ∷ 0x22 ∷ 0xC8 ∷ 0x01 ∷ [])
-    ∷ stops NoCode (0xE7 ∷ 0x34 ∷ 0xCA ∷ 0x5A ∷ 0x5A ∷ 0x5A ∷ [])
+    halts Unlisted (0xC7 ∷ 0x40 ∷ [])
+    ∷ halts Unlisted (0xC7 ∷ 0xCF ∷ 0x61 ∷ [])
+    ∷ halts Unlisted (0xD7 ∷ 0x21 ∷ [])
+    ∷ halts Unlisted (0xE7 ∷ 0x22 ∷ [])
+    ∷ halts Unlisted (0xC7 ∷ 0x20 ∷ 0x12 ∷ [])
+    ∷ halts NoCode (0xC7 ∷ [])
+    ∷ halts NoCode (0xC7 ∷ 0x20 ∷ [])
+    ∷ halts NoCode (0xD7 ∷ 0x22 ∷ 0xC8 ∷ 0x01 ∷ [])
+    ∷ halts NoCode (0xE7 ∷ 0x34 ∷ 0xCA ∷ 0x5A ∷ 0x5A ∷ 0x5A ∷ [])
     ∷ []
 
 abbrev pub BanksHold : Type 0

@@ -355,7 +355,7 @@ fn rest(chance: &mut Chance, second: u8) -> [u8; 5] {
 }
 
 /// The 24 registers that 01 has: every second byte does the same by either code,
-/// flags and marks with it, and what the one refuses the other does.
+/// flags and marks with it, and both refuse the same.
 #[test]
 fn the_registers_of_01_both_ways() {
     let mut chance = Chance(3);
@@ -445,6 +445,7 @@ fn nothing_else_is_written() {
 #[test]
 fn a_count_in_another_bank() {
     let code = [
+        0xC7, 0x3F, 0x03, 0x77, // LD QH3,77H
         0x21, 0x05, // LD A,5
         0xD7, 0x20, 0x61, // INC 1,RWA2
         0xC7, 0x3F, 0x88, // LD W,QH3
@@ -454,9 +455,9 @@ fn a_count_in_another_bank() {
     ];
     let mut ram = memory(0x20, &code);
     let mut machine = Machine::zero();
-    assert_eq!(run(&mut machine, &mut ram, &[], 1 + 5 * 4), (21, 0, 0));
+    assert_eq!(run(&mut machine, &mut ram, &[], 2 + 5 * 4), (22, 0, 0));
     let mut wanted = [0; LENGTH];
-    wanted[32] = 5;
+    (wanted[32], wanted[63], wanted[1]) = (5, 0x77, 0x77);
     assert_eq!(machine.to_record().unwrap()[..COUNTER], wanted[..COUNTER]);
     assert_eq!(run(&mut machine, &mut ram, &[], 1), (1, 0, 0));
     assert_eq!((machine.bank, machine.get(Width::Byte, 1)), (2, 5));

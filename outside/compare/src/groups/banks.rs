@@ -99,7 +99,7 @@ fn every_second_byte(bench: &mut Bench, forms: &[Form], (size, code): (Size, u8)
         aim::draw_flags(&mut bench.chance, &mut case.record);
         let [mut a, b, c, d] = bench.chance.long().to_le_bytes();
         if second >= 0xEC {
-            // All of these shift.
+            // Shifts among them: so many places are listed.
             a &= 0x0F;
         }
         let bytes = [size.any, code, second, a, b, c, d];
