@@ -22,7 +22,7 @@ use Rattle.code.specs.declared.Operand.{Operand}
 use Rattle.code.specs.declared.Operand.the-variants.{Constant}
 use Rattle.code.specs.Rows.{Row, lookup, byRows, noLong}
 use Rattle.code.specs.Memory.{form, memoryRows, storeRows, copies, compares, blocks, blockRows, indirectRows}
-use Rattle.code.specs.Listed.{alone, withConstant, formWith, absoluteRows, upToSevenRows, bankRows, flagRows, constantRows, stackRows, jumpRows, relativeRows, interruptRows, registerFormRows, memoryFormRows, memoryAtRows, storeFormRows, aloneRows, memoryFirstRows, namedFormRows, firstRows}
+use Rattle.code.specs.Listed.{alone, withConstant, formWith, absoluteRows, upToSevenRows, bankRows, flagRows, constantRows, stackRows, jumpRows, relativeRows, interruptRows, registerFormRows, memoryFormRows, memoryAtRows, storeFormRows, aloneRows, memoryFirstRows, codeByteRows, namedFormRows, firstRows}
 use Rattle.code.specs.Range.{Holds, that, InRange, baseRange, pointerRange}
 use Rattle.code.specs.Written.{codeOf, placeCode, sizeStep}
 use Rattle.code.proofs.RowBytes.{run-in, columns-in, computes, computes-into}
@@ -334,18 +334,12 @@ module _ (Y : Type 0) where
     ),
   )
 
+  code-byte-row : (z : Size) (a : ℕ) → a ≡ 0xC7 + sizeStep z → (b : ℕ) → eqb b a ≡ true → Walk Y (byRows (codeByteRows z)) 1 (b ∷ [])
+  code-byte-row z a e b h = code-byte-walk Y z b (eqb-true b a h ∙ e)
+
   named-form-rows : Rows Y namedFormRows 1 []
   unfolding namedFormRows
-  named-form-rows = (
-    λ b h. code-byte-walk Y Byte b (eqb-true b 0xC7 h),
-    (
-      λ b h. code-byte-walk Y Word b (eqb-true b 0xD7 h),
-      (
-        λ b h. code-byte-walk Y Long b (eqb-true b 0xE7 h),
-        tt,
-      ),
-    ),
-  )
+  named-form-rows = (code-byte-row Byte 0xC7 refl, (code-byte-row Word 0xD7 refl, (code-byte-row Long 0xE7 refl, tt)))
 
   memory-form-rows : Rows Y memoryFormRows 1 []
   unfolding memoryFormRows

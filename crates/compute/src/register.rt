@@ -39,7 +39,8 @@ pub fn operate(
     flags: &mut u16,
     regs: &mut [u32; 20],
 )
-    ensures { λ _. ⌜ ((o : Operand) → BeginsAt bank size o r → (s : State) (ram rom : List ℕ) → Does (λ t m. putsOf (Compute op (First n)) size o t m rom)
+    ensures { λ _. ⌜ ((o : Operand) → BeginsAt bank size o r → (s : State) (ram rom : List ℕ) →
+        Does (λ t m. putsOf (Compute op (First n)) size o t m rom)
         (bankedWith s (now (regs .entry)) bank (now (flags .entry))) ram
         Answer.Done (bankedWith s (now (regs .exit)) bank (now (flags .exit))) ram) ⌝ }
 {
@@ -54,7 +55,8 @@ pub fn operate(
 
 // An operation on the operand and a number.
 pub fn with(op: Arith, n: u32, size: Size, r: Field, flags: &mut u16, regs: &mut [u32; 20])
-    ensures { λ _. ⌜ ((o : Operand) (bank : Bank) → BeginsAt bank size o r → (s : State) (ram rom : List ℕ) → Does (λ t m. putsOf (Compute op (With n)) size o t m rom)
+    ensures { λ _. ⌜ ((o : Operand) (bank : Bank) → BeginsAt bank size o r → (s : State) (ram rom : List ℕ) →
+        Does (λ t m. putsOf (Compute op (With n)) size o t m rom)
         (bankedWith s (now (regs .entry)) bank (now (flags .entry))) ram
         Answer.Done (bankedWith s (now (regs .exit)) bank (now (flags .exit))) ram) ⌝ }
 {
@@ -67,7 +69,8 @@ pub fn with(op: Arith, n: u32, size: Size, r: Field, flags: &mut u16, regs: &mut
 
 // A change of the operand.
 pub fn change(how: Change, size: Size, r: Field, flags: &mut u16, regs: &mut [u32; 20])
-    ensures { λ _. ⌜ ((o : Operand) (bank : Bank) → BeginsAt bank size o r → (s : State) (ram rom : List ℕ) → Does (λ t m. putsOf (Changed how) size o t m rom)
+    ensures { λ _. ⌜ ((o : Operand) (bank : Bank) → BeginsAt bank size o r → (s : State) (ram rom : List ℕ) →
+        Does (λ t m. putsOf (Changed how) size o t m rom)
         (bankedWith s (now (regs .entry)) bank (now (flags .entry))) ram
         Answer.Done (bankedWith s (now (regs .exit)) bank (now (flags .exit))) ram) ⌝ }
 {

@@ -116,7 +116,8 @@ pub fn of_register(
     regs: &mut [u32; 20],
     counter: &mut u32,
 ) -> Answer
-    ensures { λ a. ⌜ ((o : Operand) → BeginsAt bank size o r → (s : State) (ram rom : List ℕ) → Does (λ t m. done (registerAs read size o) t m rom)
+    ensures { λ a. ⌜ ((o : Operand) → BeginsAt bank size o r → (s : State) (ram rom : List ℕ) →
+        Does (λ t m. done (registerAs read size o) t m rom)
         (bankedAtWith s (now (regs .entry)) bank (now (counter .entry)) (now (flags .entry))) ram
         a (bankedAtWith s (now (regs .exit)) bank (now (counter .exit)) (now (flags .exit))) ram) ⌝ }
 {
