@@ -8,9 +8,6 @@ use lib.Dec.{ltb}
 use borrow.Author.Tests.{lt-ltb, ltb-true}
 use Rattle.state.specs.Named.{Bits, bits, nowhere, withHeld}
 use Rattle.state.specs.State.{clear, flagsValid, validOf, zeroState, resetState, lent, nested, withCounter, withBank, withLevel, withNesting, withFlags, withBothFlags, withLong}
-use Rattle.state.specs.Register.{setSlot, setRegister}
-use Rattle.little.specs.declared.Size.{Size}
-use Rattle.state.specs.declared.Slot.{Slot}
 use Rattle.state.specs.declared.State.{State}
 
 pub record Valid (s : State) : Type 0 where
@@ -53,14 +50,6 @@ unfolding validOf
 valid-from s v = simp (lt-ltb _ _ (v .counter), lt-ltb _ _ (v .bank), lt-ltb _ _ (v .level), v .flags, v .spare)
 
 -- ---- what keeps it: registers have no part in it, and the others are written within their bounds
-pub valid-set : (s : State) (t : Slot) (v : ℕ) → validOf (setSlot s t v) ≡ validOf s
-unfolding validOf setSlot withLong
-valid-set s t v = refl
-
-pub valid-register : (s : State) (z : Size) (c v : ℕ) → validOf (setRegister s z c v) ≡ validOf s
-unfolding setRegister
-valid-register s z c v = valid-set s _ v
-
 pub valid-held : (s : State) (t : Bits) (v : ℕ) → validOf (withHeld s t v) ≡ validOf s
 unfolding withHeld withLong validOf
 valid-held s (bits i o k) v = refl
