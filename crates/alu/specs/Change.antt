@@ -1,13 +1,9 @@
 -- What is made of one value of k bits by itself; `old` are the flags before.
 use Rattle.little.specs.Words.{ℕ}
-use Rattle.flags.specs.{declared.Computed.Computed, declared.Flags.Flags}
+use Rattle.flags.specs.{declared.Computed.Computed, declared.Flags.Flags, Flag.keeping}
 use Rattle.alu.specs.{declared.change.Change.Change, Count.stepsOf, Count.incOf, Count.decOf}
 use Rattle.alu.specs.{Shift.placesOf, Shift.shiftOf, Extend.extzOf, Extend.extsOf}
 use Rattle.alu.specs.declared.change.Change.the-variants.{Inc, Dec, ShiftBy, Extz, Exts}
-
--- a value, and the flags as they were
-abbrev pub keeping : Flags → ℕ → Computed
-keeping old value = record { value = value; flags = old }
 
 -- by how many, or by how many places, is as the code has it
 abbrev pub changed : Change → ℕ → ℕ → Flags → Computed

@@ -2,7 +2,7 @@
 ghost use mathlib.Core.Path.{_≡_};
 ghost use Rattle.little.specs.Width.{bitsOf};
 ghost use Rattle.flags.specs.Flag.{packedOf, flagsOf};
-ghost use Rattle.alu.specs.Change.{keeping, changed};
+ghost use Rattle.alu.specs.Change.{changed};
 use crate::Shift;
 use crate::count::dec;
 use crate::count::inc;
@@ -10,8 +10,7 @@ use crate::count::steps_of;
 use crate::extend::exts;
 use crate::extend::extz;
 use crate::shifter::shift_by;
-use flags::Computed;
-use flags::Flags;
+use flags::keeping;
 use flags::settled;
 use flags::unpack;
 use little::Size;
@@ -23,13 +22,6 @@ pub enum Change {
     ShiftBy(Shift, u8),
     Extz,
     Exts,
-}
-
-// A value, and the flags as they were.
-fn keeping(old: Flags, value: u32) -> Computed
-    ensures { λ r. ⌜ r ≡ keeping old value ⌝ }
-{
-    Computed { value, flags: old }
 }
 
 // The value; the flags go into F. Each arm does so by itself, which was measured to be faster.

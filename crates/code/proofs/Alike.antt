@@ -1,6 +1,6 @@
--- The rows after a register say the same of every operand: of two operands, both codes are short, or both unlisted, or both are whole and
--- differ in the operand alone.
-use Prim.Native.Nat.{ℕ, _+_}
+-- The rows after a register say the same of two operands that are both the lower half of a wider register, or both not: both codes are
+-- short, or both unlisted, or both are whole and differ in the operand alone.
+use Prim.Native.Nat.{ℕ, _+_, _*_, _/_, _%_}
 use mathlib.Core.Path.{_≡_, refl}
 use mathlib.Core.Bool.{Bool, true, false, cond}
 use mathlib.Core.List.{List, [], _∷_}
@@ -10,16 +10,23 @@ use lib.ListN.{length, getD}
 use Rattle.little.specs.declared.Size.{Size}
 use Rattle.little.specs.Width.{bytesOf}
 use Rattle.alu.specs.declared.Shift.{Shift}
+use Rattle.feed.specs.declared.cycle.Stride.{Stride}
+use Rattle.feed.specs.declared.cycle.Cycle.{Cycle}
+use Rattle.feed.specs.declared.cycle.Cycle.the-variants.{Minc, Mdec}
+use Rattle.feed.specs.Cycle.{isTable}
+use native.Mathlib.Omega.{arith}
 use Rattle.code.specs.declared.Op.the-variants.{Puts}
 use Rattle.code.specs.declared.Use.{Use}
+use Rattle.code.specs.declared.Use.the-variants.{Scaled, ScaledWith, Cycled}
 use Rattle.code.specs.declared.Operand.{Operand}
+use Rattle.code.specs.declared.Operand.the-variants.{Register}
 use Rattle.code.specs.declared.Found.{Found}
 use Rattle.code.specs.declared.Found.the-variants.{Value, Missing}
 use Rattle.code.specs.declared.Decoded.{Decoded}
 use Rattle.code.specs.declared.Decoded.the-variants.{Short, Unlisted}
 use Rattle.code.specs.Said.{Said, whole, unlisted, next, number, judge, numberAt, withFound, wholeOf}
-use Rattle.code.specs.Rows.{Bytes, Row, _⇒_, has, lookup, byRows, only, noByte}
-use Rattle.code.specs.Registers.{registerRows, placesRows}
+use Rattle.code.specs.Rows.{Bytes, run, Row, _⇒_, has, lookup, byRows, only, noByte, onlyWord}
+use Rattle.code.specs.Registers.{registerRows, placesRows, isLow, scaleKind, strideKind, lastRows, tableRows, feedRows}
 
 module _ (z : Size) (o p : Operand) where
   abbrev pub Alike : Decoded → Decoded → Type 0
@@ -39,9 +46,11 @@ module _ (z : Size) (o p : Operand) where
   unfolding judge
   same-none s i = inr (inr (refl, refl))
 
-  same-only : (b : Bool) (how : Use) → Same (only b (whole (Puts how) z o)) (only b (whole (Puts how) z p))
-  same-only true how = same-use how
-  same-only false how = same-none
+  same-only : (b c : Bool) (x y : Said) → b ≡ c → Same x y → Same (only b x) (only c y)
+  same-only true true x y e h = h
+  same-only false false x y e h = same-none
+  same-only true false x y e h = let z : _≡_ {A = ℕ} 0 1 = cc in let w : ⊥ = omega arith in absurd w
+  same-only false true x y e h = let z : _≡_ {A = ℕ} 0 1 = cc in let w : ⊥ = omega arith in absurd w
 
   same-number : (n : ℕ) (f g : ℕ → Said) → ((v : ℕ) → Same (f v) (g v)) → Same (number n f) (number n g)
   unfolding judge
@@ -79,9 +88,25 @@ module _ (z : Size) (o p : Operand) where
   unfolding placesRows
   places shift = and-row _ _ _ [] [] (λ n. same-use _) no-rows
 
-  same-registers : SameRows (registerRows z o) (registerRows z p)
+  lasts : (s : Stride) (how : ℕ → Cycle) (lo : ℕ) → SameRows (lastRows z o s how lo) (lastRows z p s how lo)
+  unfolding lastRows
+  lasts s how lo = and-row _ _ _ [] [] (λ hi. same-only (isTable s (lo + 256 * hi)) (isTable s (lo + 256 * hi)) _ _ refl (same-use (Cycled (how (lo + 256 * hi))))) no-rows
+
+  tables : (s : Stride) (how : ℕ → Cycle) → SameRows (tableRows z o s how) (tableRows z p s how)
+  unfolding tableRows
+  tables s how = and-row _ _ _ [] [] (λ lo. same-only (isTable s lo) (isTable s lo) _ _ refl (same-next _ _ (lasts s how lo))) no-rows
+
+  same-feed : isLow z o ≡ isLow z p → SameRows (feedRows z o) (feedRows z p)
+  unfolding feedRows
+  same-feed e =
+      and-row (run 0x08 0x0B) _ _ _ _ (λ b. same-only (isLow z o) (isLow z p) _ _ e (same-number (bytesOf z) _ _ (λ n. same-use (ScaledWith (scaleKind (b % 4)) n))))
+      (and-row (run 0x40 0x5F) _ _ _ _ (λ b. same-only (isLow z (Register (b % 8))) (isLow z (Register (b % 8))) _ _ refl (same-use (Scaled (scaleKind (b / 8 % 4)) (b % 8))))
+      (and-row (run 0x38 0x3A) _ _ _ _ (λ b. same-only (onlyWord z) (onlyWord z) _ _ refl (same-next _ _ (tables (strideKind (b % 4)) (Minc (strideKind (b % 4))))))
+      (and-row (run 0x3C 0x3E) _ _ _ _ (λ b. same-only (onlyWord z) (onlyWord z) _ _ refl (same-next _ _ (tables (strideKind (b % 4)) (Mdec (strideKind (b % 4)))))) no-rows)))
+
+  same-registers : isLow z o ≡ isLow z p → SameRows (registerRows z o) (registerRows z p)
   unfolding registerRows
-  same-registers =
+  same-registers e =
       and-row _ _ _ _ _ (λ b. same-number (bytesOf z) _ _ (λ n. same-use _))
       (and-row _ _ _ _ _ (λ b. same-use _)
       (and-row _ _ _ _ _ (λ b. same-use _)
@@ -90,8 +115,8 @@ module _ (z : Size) (o p : Operand) where
       (and-row _ _ _ _ _ (λ b. same-use _)
       (and-row _ _ _ _ _ (λ b. same-use _)
       (and-row _ _ _ _ _ (λ b. same-next _ _ (places _))
-      (and-row _ _ _ _ _ (λ b. same-only (noByte z) _)
-      (and-row _ _ _ _ _ (λ b. same-only (noByte z) _) no-rows)))))))))
+      (and-row _ _ _ _ _ (λ b. same-only (noByte z) (noByte z) _ _ refl (same-use _))
+      (and-row _ _ _ _ _ (λ b. same-only (noByte z) (noByte z) _ _ refl (same-use _)) (same-feed e))))))))))
 
-  pub alike : (s : List ℕ) (i : ℕ) → Alike (judge (byRows (registerRows z o)) s i) (judge (byRows (registerRows z p)) s i)
-  alike = same-next _ _ same-registers
+  pub alike : isLow z o ≡ isLow z p → (s : List ℕ) (i : ℕ) → Alike (judge (byRows (registerRows z o)) s i) (judge (byRows (registerRows z p)) s i)
+  alike e = same-next _ _ (same-registers e)

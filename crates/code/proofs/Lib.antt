@@ -4,6 +4,7 @@ pub mod Judge
 pub mod Later
 pub mod Alike
 pub mod FirstRows
+pub mod FeedRows
 pub mod RegisterRows
 pub mod Prefix
 pub mod AllRows
@@ -15,5 +16,6 @@ pub mod Begins
 pub mod Holds
 pub mod Says
 pub mod EachByte
+pub mod FeedBytes
 pub mod ReadsBack
 pub mod Exact

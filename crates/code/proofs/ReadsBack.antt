@@ -20,7 +20,7 @@ use Rattle.code.specs.declared.Stack.the-variants.{PushF, PopF, Push, Po
 use Rattle.code.specs.declared.Interrupt.{Interrupt}
 use Rattle.code.specs.declared.Interrupt.the-variants.{PushSr, PopSr, Reti}
 use Rattle.code.specs.declared.Use.{Use}
-use Rattle.code.specs.declared.Use.the-variants.{Number, From, Load, Compute, Changed}
+use Rattle.code.specs.declared.Use.the-variants.{Number, From, Load, Compute, Changed, Scaled, ScaledWith, Cycled}
 use Rattle.code.specs.declared.Side.{Side}
 use Rattle.code.specs.declared.Side.the-variants.{First, Second, With}
 use Rattle.code.specs.declared.Base.{Base}
@@ -34,10 +34,11 @@ use Rattle.code.specs.Memory.{form, memoryRows, storeRows}
 use Rattle.code.specs.Listed.{alone, withConstant, upToSevenRows, codeByteRows, firstRows}
 use Rattle.alu.specs.declared.Arith.{Arith}
 use Rattle.code.specs.Range.{Holds, that, InRange, controlRange, stackRange, interruptRange, sideRange, useRange, aloneRange, upToSevenRange, pointerRange, constantBelow, registerBelow, baseRange, memoryRange, registerRange, placeRange, blockRange}
-use Rattle.code.specs.Written.{codeOf, controlCode, stackCode, interruptCode, sideCode, useCode, placeCode, baseCode, sizeStep, arithNumber, blockCode, constantIn, registerIn}
+use Rattle.code.specs.Written.{codeOf, controlCode, stackCode, interruptCode, sideCode, useCode, placeCode, baseCode, sizeStep, arithNumber, scaleNumber, blockCode, constantIn, registerIn}
 use Rattle.code.proofs.FirstRows.{first}
 use Rattle.code.proofs.Says.{Says, Lists, byte, value, next}
 use Rattle.code.proofs.RegisterRows.{of-change}
+use Rattle.code.proofs.FeedBytes.{scaled-byte, scaled-with-byte, of-cycle}
 use Rattle.code.proofs.EachByte.{set, push, pop, short-jump, long-jump, up-to-seven, register-form, named-form, code-byte, load-constant, load, into, compute, compute-constant, moreRows, rowsOf, indirect, displaced, absolute-8, absolute-16, absolute-24, load-memory, compute-memory, compute-into, indirect-store, displaced-store, absolute-store, store, block-byte}
 
 -- the bytes p are this instruction
@@ -223,6 +224,9 @@ of-use (Load r) z (Constant v) h = absurd (h .1)
 of-use (Load r) z (Memory m) h = memory-byte z (Memory m) (0x20 + r) (h .1) (λ more. load-memory z (Memory m) more r (h .0))
 of-use (Compute a other) z o h = of-side a other z o h
 of-use (Changed how) z o h = after-register z o (h .1) (of-change how z o (h .0))
+of-use (Scaled how r) z o h = register-byte z o (0x40 + 8 * scaleNumber how + r) (h .1 .1) (scaled-byte z o how r (h .0) (h .1 .0))
+of-use (ScaledWith how n) z o h = register-constant z o (0x08 + scaleNumber how) n (h .1 .1) (h .0) (scaled-with-byte z o how (h .1 .0))
+of-use (Cycled how) z o h = after-register z o (h .1) (of-cycle z o how (h .0))
 
 pub reads : (op : Op) (z : Size) (o : Operand) → InRange op z o → Is (codeOf op z o) op z o
 unfolding codeOf

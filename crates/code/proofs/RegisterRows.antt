@@ -22,7 +22,7 @@ use Rattle.code.specs.declared.Operand.{Operand}
 use Rattle.code.specs.declared.Operand.the-variants.{Register, Named}
 use Rattle.code.specs.Said.{Said, whole, unlisted, number}
 use Rattle.code.specs.Rows.{Row, lookup, byRows, only, noByte}
-use Rattle.code.specs.Registers.{registerRows, placesRows, arithOf, shiftKind}
+use Rattle.code.specs.Registers.{registerRows, feedRows, placesRows, arithOf, shiftKind}
 use Rattle.code.specs.Listed.{codeByteRows}
 use Rattle.code.specs.Range.{Holds, that, registerRange, placeRange, changeRange}
 use Rattle.code.specs.Written.{codeOf, placeCode, loadCode, fromCode, changeCode, sizeStep, shiftNumber}
@@ -32,6 +32,7 @@ use Rattle.code.proofs.Judge.{bytes-bounds}
 use Rattle.code.proofs.RowBytes.{run-in, columns-in, arith-back, shift-back, computes}
 use Rattle.code.proofs.Says.{Says, Lists, byte, next}
 use Rattle.code.proofs.Walk.{Can, Walk, Rows, by-rows}
+use Rattle.code.proofs.FeedRows.{feed-rows}
 
 -- ---- group by group, as the source asks
 module _ (z : Size) (o : Operand) where
@@ -60,11 +61,11 @@ module _ (z : Size) (o : Operand) where
   compute = in-arm _ _ (16 ∷ 18 ∷ 20 ∷ 22 ∷ 24 ∷ 26 ∷ 28 ∷ 30 ∷ []) refl
 
   pub no-load : (b : ℕ) → b / 8 ≡ 0 → (b ≡ 3 → ⊥) → lookup (registerRows z o) b ≡ unlisted
-  unfolding registerRows lookup
+  unfolding registerRows feedRows lookup
   no-load = in-group _ 0 (λ h. refl, λ h. refl, λ h. refl, λ h. absurd (h refl), λ h. refl, λ h. refl, λ h. refl, λ h. refl)
 
   pub no-extension : (b : ℕ) → b / 8 ≡ 2 → ((Unit {0} × (b ≡ 0x12 → ⊥)) × (b ≡ 0x13 → ⊥)) → lookup (registerRows z o) b ≡ unlisted
-  unfolding registerRows lookup
+  unfolding registerRows feedRows lookup
   no-extension = in-group _ 2 (λ h. refl, λ h. refl, λ h. absurd (h .0 .1 refl), λ h. absurd (h .1 refl), λ h. refl, λ h. refl, λ h. refl, λ h. refl)
 
   pub shift : (b : ℕ) → b / 8 ≡ 29 → 0xEC ≤ b → lookup (registerRows z o) b ≡ byRows (placesRows z o (shiftKind (b % 4)))
@@ -72,16 +73,16 @@ module _ (z : Size) (o : Operand) where
   shift = in-group _ 29 (λ h. let x : ⊥ = omega arith in absurd x, λ h. let x : ⊥ = omega arith in absurd x, λ h. let x : ⊥ = omega arith in absurd x, λ h. let x : ⊥ = omega arith in absurd x, λ h. refl, λ h. refl, λ h. refl, λ h. refl)
 
   pub no-shift : (b : ℕ) → b / 8 ≡ 29 → b < 0xEC → lookup (registerRows z o) b ≡ unlisted
-  unfolding registerRows lookup
+  unfolding registerRows feedRows lookup
   no-shift = in-group _ 29 (λ h. refl, λ h. refl, λ h. refl, λ h. refl, λ h. let x : ⊥ = omega arith in absurd x, λ h. let x : ⊥ = omega arith in absurd x, λ h. let x : ⊥ = omega arith in absurd x, λ h. let x : ⊥ = omega arith in absurd x)
 
   -- the arms, last first
   abbrev pub register-arms : List (List ℕ)
   register-arms = (29 ∷ []) ∷ (25 ∷ []) ∷ (16 ∷ 18 ∷ 20 ∷ 22 ∷ 24 ∷ 26 ∷ 28 ∷ 30 ∷ []) ∷ (19 ∷ []) ∷ (17 ∷ []) ∷ (13 ∷ []) ∷ (12 ∷ []) ∷ (2 ∷ []) ∷ (0 ∷ []) ∷ []
 
-  pub no-register : (b : ℕ) → b < 256 → Missed register-arms (b / 8) → lookup (registerRows z o) b ≡ unlisted
+  pub the-rest : (b : ℕ) → b < 256 → Missed register-arms (b / 8) → lookup (registerRows z o) b ≡ lookup (feedRows z o) b
   unfolding registerRows lookup
-  no-register = in-no-arm _ (λ b. unlisted) register-arms 256 refl
+  the-rest = in-no-arm _ (lookup (feedRows z o)) register-arms 256 refl
 
 -- ---- the walk over them, after the byte a of the register
 can-place : (z : Size) (o : Operand) (kind : Shift) → Can (byRows (placesRows z o kind))
@@ -136,7 +137,7 @@ module _
                           λ b h. extension Extz (noByte z) (two b 0x12 (eqb-true b _ h)) (λ w. w),
                           (
                             λ b h. extension Exts (noByte z) (two b 0x13 (eqb-true b _ h)) (λ w. w),
-                            tt,
+                            feed-rows Y z o i p l e q,
                           ),
                         ),
                       ),

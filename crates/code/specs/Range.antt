@@ -4,13 +4,16 @@ use Rattle.little.specs.{declared.Size.Size, Width.bytesOf}
 use Rattle.alu.specs.declared.change.Change.{Change}
 use Rattle.alu.specs.declared.change.Change.the-variants.{Inc, Dec, ShiftBy, Extz, Exts}
 use Rattle.state.specs.Named.{isNamed}
-use Rattle.code.specs.Rows.{onlyByte, noByte, noLong}
+use Rattle.feed.specs.Cycle.{isTable}
+use Rattle.feed.specs.declared.cycle.{Cycle.Cycle, Cycle.the-variants.Minc, Cycle.the-variants.Mdec}
+use Rattle.code.specs.Rows.{onlyByte, onlyWord, noByte, noLong}
+use Rattle.code.specs.Registers.{isLow}
 use Rattle.code.specs.declared.{Form.Form, Op.Op, Control.Control, Stack.Stack, Interrupt.Interrupt, Use.Use, Side.Side, Base.Base, Operand.Operand}
 use Rattle.code.specs.declared.Op.the-variants.{Controls, Stacks, Puts, Sets, Blocks, Interrupts}
 use Rattle.code.specs.declared.Control.the-variants.{Nop, Incf, Decf, Ldf, Rcf, Scf, Ccf, Zcf, Exf, Jp16, Jp24, Jr, Jrl, Ei}
 use Rattle.code.specs.declared.Stack.the-variants.{PushF, PopF, Push, Pop, Call16, Call24, Calr, Ret}
 use Rattle.code.specs.declared.Interrupt.the-variants.{PushSr, PopSr, Reti}
-use Rattle.code.specs.declared.Use.the-variants.{Number, From, Load, Compute, Changed}
+use Rattle.code.specs.declared.Use.the-variants.{Number, From, Load, Compute, Changed, Scaled, ScaledWith, Cycled}
 use Rattle.code.specs.declared.Side.the-variants.{First, Second, With}
 use Rattle.code.specs.declared.Base.the-variants.{Indirect, Displaced, Absolute8, Absolute16, Absolute24}
 use Rattle.code.specs.declared.Operand.the-variants.{Register, Named, Constant, Memory}
@@ -177,12 +180,20 @@ changeRange (ShiftBy kind n) z = n below 16
 changeRange Extz z = that (noByte z)
 changeRange Exts z = that (noByte z)
 
+-- MINC and MDEC: words alone, and a number that 000 allows, less the step
+abbrev pub cycleRange : Cycle → Size → Range
+cycleRange (Minc s last) z = that (onlyWord z) and that (isTable s last)
+cycleRange (Mdec s last) z = that (onlyWord z) and that (isTable s last)
+
 abbrev pub useRange : Use → Size → Operand → Range
 useRange (Number n) z o = n below 256 ^ bytesOf z and registerRange z o
 useRange (From r) z o = r below 8 and placeRange z o
 useRange (Load r) z o = r below 8 and placeRange z o
 useRange (Compute a other) z o = sideRange other z o
 useRange (Changed how) z o = changeRange how z and registerRange z o
+useRange (Scaled how r) z o = r below 8 and that (isLow z (Register r)) and registerRange z o
+useRange (ScaledWith how n) z o = n below 256 ^ bytesOf z and that (isLow z o) and registerRange z o
+useRange (Cycled how) z o = cycleRange how z and registerRange z o
 
 abbrev pub rangeOf : Op → Size → Operand → Range
 rangeOf (Controls what) z o = controlRange what z o

@@ -31,11 +31,16 @@ unfoldable pub lookup : List Row → ℕ → Said
 lookup [] b = unlisted
 lookup (r ∷ rs) b = cond (has (r .bytes) b) (r .says b) (lookup rs b)
 
--- which sizes some codes have: bytes; words and longs; bytes and words
+-- which sizes some codes have: bytes; words; words and longs; bytes and words
 abbrev pub onlyByte : Size → Bool
 onlyByte Byte = true
 onlyByte Word = false
 onlyByte Long = false
+
+abbrev pub onlyWord : Size → Bool
+onlyWord Byte = false
+onlyWord Word = true
+onlyWord Long = false
 
 abbrev pub noByte : Size → Bool
 noByte Byte = false

@@ -6,12 +6,15 @@ use Rattle.alu.specs.declared.{Arith.Arith, Shift.Shift, change.Change.Change}
 use Rattle.alu.specs.declared.Arith.the-variants.{Add, Adc, Sub, Sbc, And, Xor, Or, Cp}
 use Rattle.alu.specs.declared.Shift.the-variants.{Sla, Sra, Sll, Srl}
 use Rattle.alu.specs.declared.change.Change.the-variants.{Inc, Dec, ShiftBy, Extz, Exts}
+use Rattle.feed.specs.declared.scale.{Scale.Scale, Scale.the-variants.Mul, Scale.the-variants.Muls, Scale.the-variants.Div, Scale.the-variants.Divs}
+use Rattle.feed.specs.declared.cycle.{Cycle.Cycle, Stride.Stride, Stride.the-variants.One, Stride.the-variants.Two, Stride.the-variants.Four}
+use Rattle.feed.specs.declared.cycle.Cycle.the-variants.{Minc, Mdec}
 use Rattle.code.specs.declared.{Op.Op, Control.Control, Stack.Stack, Interrupt.Interrupt, Use.Use, Side.Side, Base.Base, Operand.Operand}
 use Rattle.code.specs.declared.Op.the-variants.{Controls, Stacks, Puts, Sets, Blocks, Interrupts}
 use Rattle.code.specs.declared.Control.the-variants.{Nop, Incf, Decf, Ldf, Rcf, Scf, Ccf, Zcf, Exf, Jp16, Jp24, Jr, Jrl, Ei}
 use Rattle.code.specs.declared.Stack.the-variants.{PushF, PopF, Push, Pop, Call16, Call24, Calr, Ret}
 use Rattle.code.specs.declared.Interrupt.the-variants.{PushSr, PopSr, Reti}
-use Rattle.code.specs.declared.Use.the-variants.{Number, From, Load, Compute, Changed}
+use Rattle.code.specs.declared.Use.the-variants.{Number, From, Load, Compute, Changed, Scaled, ScaledWith, Cycled}
 use Rattle.code.specs.declared.Side.the-variants.{First, Second, With}
 use Rattle.code.specs.declared.Base.the-variants.{Indirect, Displaced, Absolute8, Absolute16, Absolute24}
 use Rattle.code.specs.declared.Operand.the-variants.{Register, Named, Constant, Memory}
@@ -39,6 +42,18 @@ shiftNumber Sla = 0
 shiftNumber Sra = 1
 shiftNumber Sll = 2
 shiftNumber Srl = 3
+
+-- the number of a multiplication or division, and of a step of 1, 2 and 4
+abbrev pub scaleNumber : Scale → ℕ
+scaleNumber Mul = 0
+scaleNumber Muls = 1
+scaleNumber Div = 2
+scaleNumber Divs = 3
+
+abbrev pub strideNumber : Stride → ℕ
+strideNumber One = 0
+strideNumber Two = 1
+strideNumber Four = 2
 
 -- the code, 0 to 7, of the register that an operand is; 0 where it is none
 abbrev pub registerIn : Operand → ℕ
@@ -94,6 +109,11 @@ changeCode (ShiftBy kind n) = (0xEC + shiftNumber kind) ∷ n ∷ []
 changeCode Extz = 0x12 ∷ []
 changeCode Exts = 0x13 ∷ []
 
+-- MINC and MDEC, after the operand's bytes
+abbrev pub cycleCode : Cycle → List ℕ
+cycleCode (Minc s last) = (0x38 + strideNumber s) ∷ bytesFrom 2 last
+cycleCode (Mdec s last) = (0x3C + strideNumber s) ∷ bytesFrom 2 last
+
 -- a register into the operand: 98+R after a register; 40+R, 50+R, 60+R after a memory form in the row of the stores
 abbrev pub fromCode : ℕ → Size → Operand → List ℕ
 fromCode r z (Register n) = placeCode (sizeStep z) (Register n) ++ ((0x98 + r) ∷ [])
@@ -139,6 +159,9 @@ useCode (From r) z o = fromCode r z o
 useCode (Load r) z o = placeCode (sizeStep z) o ++ ((loadCode o + r) ∷ [])
 useCode (Compute a other) z o = placeCode (sizeStep z) o ++ sideCode a other z
 useCode (Changed how) z o = placeCode (sizeStep z) o ++ changeCode how
+useCode (Scaled how r) z o = placeCode (sizeStep z) o ++ ((0x40 + 8 * scaleNumber how + r) ∷ [])
+useCode (ScaledWith how n) z o = placeCode (sizeStep z) o ++ ((0x08 + scaleNumber how) ∷ bytesFrom (bytesOf z) n)
+useCode (Cycled how) z o = placeCode (sizeStep z) o ++ cycleCode how
 
 unfoldable pub codeOf : Op → Size → Operand → List ℕ
 codeOf (Controls what) z o = controlCode what o

@@ -1,6 +1,8 @@
 // The listed codes: what an instruction is, and what the bytes of one can say. There is no code here, only what it is held to.
 use alu::Arith;
 use alu::Change;
+use feed::cycle::Cycle;
+use feed::scale::Scale;
 use little::Size;
 
 // Where a memory form's address comes from: a register, a register and a displacement, or the code alone.
@@ -87,6 +89,9 @@ pub enum Use {
     Load(u8), // the operand's value, into the register of a code
     Compute(Arith, Side),
     Changed(Change), // what is made of the operand's value alone
+    Scaled(Scale, u8), // the register of a code, twice as wide as the operand, by the operand
+    ScaledWith(Scale, u32), // the register that the operand is the lower half of, by a number
+    Cycled(Cycle), // a pointer that goes round in a table
 }
 
 // What is done, by the kind of work. A code or a number in it stood after the operand's bytes.
@@ -132,6 +137,16 @@ pub enum OfRegister {
     Compute(Arith, u8, usize), // with the register of a code, which is the first and gets the result
     With(Arith, u32, usize),
     Changed(Change, usize),
+    Rest, // what `OfFeed` says: those forms are read and done in a function of their own, which was measured to be faster for all others
+    Short,
+    Unlisted,
+}
+
+// What a form of the feed calculation says of its register (request K7), and how many bytes it has.
+pub enum OfFeed {
+    Scaled(Scale, u8, usize),
+    ScaledWith(Scale, u32, usize),
+    Cycled(Cycle, usize),
     Short,
     Unlisted,
 }

@@ -1,6 +1,6 @@
 -- The flags apart, and as the byte F: S 7, Z 6, H 4, V 2, N 1, C 0, with their marks above it. What some instructions keep of them.
 use Rattle.little.specs.Words.{ℕ, _+_, _*_, _/_, _%_, Bool, true, false, not, eqb}
-use Rattle.flags.specs.{declared.Flags.Flags, Width.one}
+use Rattle.flags.specs.{declared.Flags.Flags, declared.Computed.Computed, Width.one}
 use Rattle.flags.specs.Undefined.{nothing, byRcfScf, byCcfZcf, undefinedOf}
 
 -- F, whose bits 5 and 3 are 0
@@ -49,3 +49,11 @@ copiedOf old more = record { s = old .s; z = old .z; h = false; v = more; n = fa
 -- CPI and CPD: S, Z and H of the comparison, with H's mark alone; V says whether there is more to do, N 1, C kept
 abbrev pub comparedOf : Flags → Flags → Bool → Flags
 comparedOf old f more = record { s = f .s; z = f .z; h = f .h; v = more; n = true; c = old .c; marks = f .marks % 2 }
+
+-- DIV and DIVS: V says whether there was no quotient, and has a value; the other flags are kept, H with its mark
+abbrev pub dividing : Flags → Bool → Flags
+dividing old over = record { s = old .s; z = old .z; h = old .h; v = over; n = old .n; c = old .c; marks = old .marks % 2 }
+
+-- a value, and the flags as they were
+abbrev pub keeping : Flags → ℕ → Computed
+keeping old value = record { value = value; flags = old }

@@ -2,7 +2,7 @@
 ghost use mathlib.Core.Path.{_≡_};
 ghost use Prim.Native.Nat.{_*_, _≤_};
 ghost use Rattle.flags.specs.Width.{one};
-ghost use Rattle.flags.specs.Flag.{byteOf, packedOf, flagsOf, anyMarked, carried, rcfOf, scfOf, ccfOf, zcfOf, copiedOf, comparedOf};
+ghost use Rattle.flags.specs.Flag.{byteOf, packedOf, flagsOf, anyMarked, carried, rcfOf, scfOf, ccfOf, zcfOf, copiedOf, comparedOf, dividing, keeping};
 use crate::Computed;
 use crate::Flags;
 
@@ -115,6 +115,28 @@ pub fn copy_flags(old: Flags, more: bool) -> Flags
         c: old.c,
         marks: 0,
     }
+}
+
+// DIV and DIVS: V alone is new, and has a value, so that its mark goes.
+pub fn divide_flags(old: Flags, over: bool) -> Flags
+    ensures { λ r. ⌜ r ≡ dividing old over ⌝ }
+{
+    Flags {
+        s: old.s,
+        z: old.z,
+        h: old.h,
+        v: over,
+        n: old.n,
+        c: old.c,
+        marks: old.marks % 2,
+    }
+}
+
+// A value, and the flags as they were.
+pub fn keeping(old: Flags, value: u32) -> Computed
+    ensures { λ r. ⌜ r ≡ keeping old value ⌝ }
+{
+    Computed { value, flags: old }
 }
 
 // CPI and CPD, with the flags of the comparison.

@@ -6,6 +6,8 @@ pub use crate::flag::byte;
 pub use crate::flag::ccf;
 pub use crate::flag::compare_flags;
 pub use crate::flag::copy_flags;
+pub use crate::flag::divide_flags;
+pub use crate::flag::keeping;
 pub use crate::flag::pack;
 pub use crate::flag::rcf;
 pub use crate::flag::scf;

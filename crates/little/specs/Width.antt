@@ -14,3 +14,9 @@ abbrev pub bytesOf : Size → ℕ
 bytesOf Byte = 1
 bytesOf Word = 2
 bytesOf Long = 4
+
+-- the size of twice as many; there is none above a long
+abbrev pub twiceOf : Size → Size
+twiceOf Byte = Word
+twiceOf Word = Long
+twiceOf Long = Long

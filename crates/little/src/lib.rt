@@ -1,7 +1,7 @@
 // Operand sizes, and numbers as bytes in a part of a slice, low byte first.
 ghost use mathlib.Core.Path.{_≡_};
 ghost use lib.ListN.{length, getD, take};
-ghost use Rattle.little.specs.Width.{bytesOf};
+ghost use Rattle.little.specs.Width.{bytesOf, twiceOf};
 ghost use Rattle.little.specs.Bytes.{valueOf, bytesFrom};
 
 // The weight of the top byte of a long.
@@ -27,6 +27,17 @@ pub fn bytes(size: Size) -> usize
         Size::Byte => 1,
         Size::Word => 2,
         Size::Long => 4,
+    }
+}
+
+// The size of twice as many bytes; there is none above a long.
+pub fn twice(size: Size) -> Size
+    ensures { λ r. ⌜ r ≡ twiceOf size ⌝ }
+{
+    match size {
+        Size::Byte => Size::Word,
+        Size::Word => Size::Long,
+        Size::Long => Size::Long,
     }
 }
 

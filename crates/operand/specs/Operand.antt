@@ -1,7 +1,8 @@
 -- The operand of an instruction: its address, its value, and a value put there.
-use Rattle.little.specs.Words.{ℕ, _+_, _-_, _%_, _^_, List, cond}
+use Rattle.little.specs.Words.{ℕ, _+_, _-_, _*_, _/_, _%_, _^_, List, cond}
 use Rattle.answer.specs.declared.{Answer.Answer, Answer.the-variants.Done, Answer.the-variants.Refused}
-use Rattle.little.specs.{declared.Size.Size, declared.Size.the-variants.Long, Width.bytesOf}
+use Rattle.little.specs.{declared.Size.Size, Width.bytesOf}
+use Rattle.little.specs.declared.Size.the-variants.{Byte, Word, Long}
 use Rattle.flags.specs.Width.{negative}
 use Rattle.memory.specs.{declared.Loaded.Loaded, declared.Loaded.the-variants.Value, Access.loadOf, Access.storeBytes, Access.ramBytes}
 use Rattle.state.specs.{declared.Bank.Bank, declared.State.State, Register.registerAt, Register.setRegister, Named.named, Named.heldIn, Named.withHeld}
@@ -45,6 +46,18 @@ valueIn registers bank ram rom z (Memory m) = loadOf ram rom (addressIn register
 
 abbrev pub valueAt : State → List ℕ → List ℕ → Size → Operand → Loaded
 valueAt s ram rom z o = valueIn (s .registers) (s .bank) ram rom z o
+
+-- the register of twice as many bytes that a register of a size is half of: by 000's tables WA for W and for A, XWA for WA; what a code byte
+-- names begins at the multiple of those bytes. There is none above a long
+abbrev pub wideOf : Size → Operand → Operand
+wideOf Byte (Register r) = Register (r % 8 / 2)
+wideOf Word (Register r) = Register r
+wideOf Long (Register r) = Register r
+wideOf Byte (Named c) = Named (c / 2 * 2)
+wideOf Word (Named c) = Named (c / 4 * 4)
+wideOf Long (Named c) = Named c
+wideOf z (Constant n) = Constant n
+wideOf z (Memory m) = Memory m
 
 -- a store at an address, and the state t where it is done
 abbrev pub storedBy : Answer → State → List ℕ → Try

@@ -5,9 +5,9 @@ use Rattle.little.specs.declared.Size.the-variants.{Byte, Word, Long}
 use Rattle.code.specs.{declared.MemoryForm.MemoryForm, declared.Base.the-variants.Indirect, declared.Operand.Operand}
 use Rattle.code.specs.{declared.Operand.the-variants.Register, declared.Operand.the-variants.Constant, declared.Operand.the-variants.Memory, declared.Decoded.Decoded}
 use Rattle.code.specs.{declared.Decoded.the-variants.Whole, declared.Decoded.the-variants.Short, declared.Decoded.the-variants.Unlisted, Said.Said, Said.wholeOf, Said.judge, Rows.Row}
-use Rattle.code.specs.{Rows.byRows, Registers.registerRows, Listed.codeByteRows, Range.InRegisters, Memory.form, Memory.memoryRows, Memory.storeRows, Memory.blockRows}
+use Rattle.code.specs.{Rows.byRows, Registers.registerRows, Registers.feedRows, Listed.codeByteRows, Range.InRegisters, Memory.form, Memory.memoryRows, Memory.storeRows, Memory.blockRows}
 use Rattle.code.specs.declared.Op.the-variants.{Controls, Stacks, Puts, Sets, Blocks, Interrupts}
-use Rattle.code.specs.declared.Use.the-variants.{Number, From, Load, Compute, Changed}
+use Rattle.code.specs.declared.Use.the-variants.{Number, From, Load, Compute, Changed, Scaled, ScaledWith, Cycled}
 use Rattle.code.specs.declared.Side.the-variants.{First, Second, With}
 use Rattle.code.specs.declared.Alone.{Alone}
 use Rattle.code.specs.declared.Alone.the-variants as alone
@@ -15,6 +15,8 @@ use Rattle.code.specs.declared.Chosen.{Chosen}
 use Rattle.code.specs.declared.Chosen.the-variants as chosen
 use Rattle.code.specs.declared.OfRegister.{OfRegister}
 use Rattle.code.specs.declared.OfRegister.the-variants as register
+use Rattle.code.specs.declared.OfFeed.{OfFeed}
+use Rattle.code.specs.declared.OfFeed.the-variants as feed
 use Rattle.code.specs.declared.Begun.{Begun}
 use Rattle.code.specs.declared.Begun.the-variants as begun
 use Rattle.code.specs.declared.OfMemory.{OfMemory}
@@ -80,16 +82,25 @@ longer n (Whole i) = wholeOf (i .op) (i .size) (i .operand) (n + i .length)
 longer n Short = Short
 longer n Unlisted = Unlisted
 
--- of a register form, of a size and with its operand
-abbrev pub registerAs : OfRegister → Size → Operand → Decoded
-registerAs (register.Number v n) z o = wholeOf (Puts (Number v)) z o n
-registerAs (register.From r n) z o = wholeOf (Puts (From r)) z o n
-registerAs (register.Load r n) z o = wholeOf (Puts (Load r)) z o n
-registerAs (register.Compute op r n) z o = wholeOf (Puts (Compute op (First r))) z o n
-registerAs (register.With op v n) z o = wholeOf (Puts (Compute op (With v))) z o n
-registerAs (register.Changed how n) z o = wholeOf (Puts (Changed how)) z o n
-registerAs register.Short z o = Short
-registerAs register.Unlisted z o = Unlisted
+-- of a register form, of a size and with its operand, in the code s: the rest is judged by rows of its own
+abbrev pub registerAs : OfRegister → Size → Operand → List ℕ → Decoded
+registerAs (register.Number v n) z o s = wholeOf (Puts (Number v)) z o n
+registerAs (register.From r n) z o s = wholeOf (Puts (From r)) z o n
+registerAs (register.Load r n) z o s = wholeOf (Puts (Load r)) z o n
+registerAs (register.Compute op r n) z o s = wholeOf (Puts (Compute op (First r))) z o n
+registerAs (register.With op v n) z o s = wholeOf (Puts (Compute op (With v))) z o n
+registerAs (register.Changed how n) z o s = wholeOf (Puts (Changed how)) z o n
+registerAs register.Rest z o s = judge (byRows (feedRows z o)) s 1
+registerAs register.Short z o s = Short
+registerAs register.Unlisted z o s = Unlisted
+
+-- of a form of the feed calculation
+abbrev pub feedAs : OfFeed → Size → Operand → Decoded
+feedAs (feed.Scaled how r n) z o = wholeOf (Puts (Scaled how r)) z o n
+feedAs (feed.ScaledWith how v n) z o = wholeOf (Puts (ScaledWith how v)) z o n
+feedAs (feed.Cycled how n) z o = wholeOf (Puts (Cycled how)) z o n
+feedAs feed.Short z o = Short
+feedAs feed.Unlisted z o = Unlisted
 
 -- of the byte after a memory form m
 abbrev pub memoryAs : OfMemory → MemoryForm → Decoded

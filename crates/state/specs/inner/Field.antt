@@ -7,6 +7,10 @@ use Rattle.state.specs.{declared.named.Field.Field, Register.getBits, Re
 abbrev pub fieldAt : ℕ → Field
 fieldAt i = record { index = i / 4; start = 8 * (i % 4) }
 
+-- where what is twice as wide begins, with this in it
+abbrev pub wideAt : Size → Field → Field
+wideAt z f = record { index = f .index; start = f .start / (2 * bitsOf z) * (2 * bitsOf z) }
+
 -- the bits of a size that begin there; 0 past the twenty
 unfoldable pub fieldIn : List ℕ → Size → Field → ℕ
 fieldIn registers z f = cond (ltb (f .index) 20) (getBits (f .start % 32) (bitsOf z) (getD registers (f .index) 0)) 0

@@ -1,0 +1,2 @@
+pub mod Scale
+pub mod Cycle

@@ -1,0 +1,3 @@
+// What the feed calculation needs: multiplying, dividing, and a pointer that goes round in a table.
+pub mod cycle;
+pub mod scale;
