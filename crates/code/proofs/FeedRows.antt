@@ -7,6 +7,7 @@ use mathlib.Core.Logic.{inl, inr}
 use native.Mathlib.Omega.{arith}
 use native.Mathlib.Nat.{mod-lt}
 use lib.Dec.{leb, ltb, eqb}
+use lib.ListN.{length, getD}
 use borrow.Author.Tests.{eqb-true, leb-true, ltb-true, le-leb}
 use Rattle.little.specs.Bytes.{bytesFrom}
 use Rattle.little.specs.Width.{bytesOf}
@@ -22,14 +23,17 @@ use Rattle.code.specs.declared.Op.the-variants.{Puts}
 use Rattle.code.specs.declared.Use.the-variants.{Scaled, ScaledWith, Cycled}
 use Rattle.code.specs.declared.Operand.{Operand}
 use Rattle.code.specs.declared.Operand.the-variants.{Register}
-use Rattle.code.specs.Said.{Said, whole, number}
+use Rattle.code.specs.declared.Decoded.the-variants.{Short, Unlisted}
+use Rattle.code.specs.Said.{Said, whole, unlisted, number, judge, wholeOf}
 use Rattle.code.specs.Rows.{Row, lookup, byRows, only, onlyWord}
 use Rattle.code.specs.Registers.{isLow, scaleKind, strideKind, lastRows, tableRows, feedRows}
 use Rattle.code.specs.Range.{Holds, that, registerRange, cycleRange}
 use Rattle.code.specs.Written.{codeOf, placeCode, sizeStep, scaleNumber, strideNumber, cycleCode}
 use Rattle.code.proofs.Holds.{both-true, either-true, so-that}
-use Rattle.code.proofs.Tables.{table}
-use Rattle.code.proofs.Judge.{bytes-bounds}
+use Rattle.code.proofs.Tables.{table, in-run, in-no-arm}
+use Rattle.code.specs.inner.Parts.{cycleAs}
+use Rattle.code.proofs.Groups.{in-group, Missed}
+use Rattle.code.proofs.Judge.{bytes-bounds, run-there, next-short}
 use Rattle.code.proofs.RowBytes.{run-in}
 use Rattle.code.proofs.Walk.{Can, Walk, Rows, by-rows}
 
@@ -183,3 +187,53 @@ module _ (Y : Type 0) (z : Size) (o : Operand) (i : ℕ) (p : List ℕ) (l : i �
           ),
         ),
       )
+
+-- ---- group by group, as the source asks
+module _ (z : Size) (o : Operand) where
+  pub with-constant : (b : ℕ) → b / 8 ≡ 1 → b ≤ 0x0B → lookup (feedRows z o) b ≡ only (isLow z o) (number (bytesOf z) (λ n. whole (Puts (ScaledWith (scaleKind (b % 4)) n)) z o))
+  unfolding feedRows lookup
+  with-constant = in-group _ 1 (λ h. refl, λ h. refl, λ h. refl, λ h. refl, λ h. let x : ⊥ = omega arith in absurd x, λ h. let x : ⊥ = omega arith in absurd x, λ h. let x : ⊥ = omega arith in absurd x, λ h. let x : ⊥ = omega arith in absurd x)
+
+  pub no-constant : (b : ℕ) → b / 8 ≡ 1 → 0x0B < b → lookup (feedRows z o) b ≡ unlisted
+  unfolding feedRows lookup
+  no-constant = in-group _ 1 (λ h. let x : ⊥ = omega arith in absurd x, λ h. let x : ⊥ = omega arith in absurd x, λ h. let x : ⊥ = omega arith in absurd x, λ h. let x : ⊥ = omega arith in absurd x, λ h. refl, λ h. refl, λ h. refl, λ h. refl)
+
+  pub by-register : (b : ℕ) → 0x40 ≤ b → b < 0x40 + 0x20 → lookup (feedRows z o) b ≡ only (isLow z (Register (b % 8))) (whole (Puts (Scaled (scaleKind (b / 8 % 4)) (b % 8))) z o)
+  unfolding feedRows lookup
+  by-register = in-run _ _ 0x40 0x20 refl
+
+  pub by-table : (b : ℕ) → b / 8 ≡ 7 → (b % 4 ≡ 3 → ⊥) → lookup (feedRows z o) b ≡ only (onlyWord z) (byRows (tableRows z o (strideKind (b % 4)) (cycleAs (ltb b 0x3C) (strideKind (b % 4)))))
+  unfolding feedRows lookup
+  by-table = in-group _ 7 (λ h. refl, λ h. refl, λ h. refl, λ h. absurd (h refl), λ h. refl, λ h. refl, λ h. refl, λ h. absurd (h refl))
+
+  pub no-table : (b : ℕ) → b / 8 ≡ 7 → b % 4 ≡ 3 → lookup (feedRows z o) b ≡ unlisted
+  unfolding feedRows lookup
+  no-table = in-group _ 7 (λ h. let x : ⊥ = omega arith in absurd x, λ h. let x : ⊥ = omega arith in absurd x, λ h. let x : ⊥ = omega arith in absurd x, λ h. refl, λ h. let x : ⊥ = omega arith in absurd x, λ h. let x : ⊥ = omega arith in absurd x, λ h. let x : ⊥ = omega arith in absurd x, λ h. refl)
+
+  -- the other groups, below and above
+  pub no-feed-below : (b : ℕ) → b < 0x40 → Missed ((7 ∷ []) ∷ (1 ∷ []) ∷ []) (b / 8) → lookup (feedRows z o) b ≡ unlisted
+  unfolding feedRows lookup
+  no-feed-below = in-no-arm _ (λ b. unlisted) ((7 ∷ []) ∷ (1 ∷ []) ∷ []) 0x40 refl
+
+  pub no-feed-above : (b : ℕ) → 0x60 ≤ b → b < 0x60 + 0xA0 → lookup (feedRows z o) b ≡ unlisted
+  unfolding feedRows lookup
+  no-feed-above = in-run _ (λ b. unlisted) 0x60 0xA0 refl
+
+  -- a number less its step, judged byte by byte
+  module _ (s : Stride) (how : ℕ → Cycle) (t : List ℕ) (l : 2 < length t) (lo : ℕ) (b : lo ≡ getD t 2 0) (w : lo ≤ 0xFF) where
+    pub low-none : isTable s lo ≡ false → Unlisted ≡ judge (byRows (tableRows z o s how)) t 2
+    unfolding tableRows judge
+    low-none e = run-there 0xFF _ t 2 l Unlisted (rw (← b) w) (rw (← b, e) refl)
+
+    pub high-short : isTable s lo ≡ true → length t ≤ 3 → Short ≡ judge (byRows (tableRows z o s how)) t 2
+    unfolding tableRows judge
+    high-short e k = run-there 0xFF _ t 2 l Short (rw (← b) w) (rw (← b, e) (next-short (lookup (lastRows z o s how lo)) t 3 k))
+
+    module _ (e : isTable s lo ≡ true) (m : 3 < length t) (hi : ℕ) (c : hi ≡ getD t 3 0) (v : hi ≤ 0xFF) where
+      pub high-none : isTable s (lo + 256 * hi) ≡ false → Unlisted ≡ judge (byRows (tableRows z o s how)) t 2
+      unfolding tableRows lastRows judge
+      high-none f = run-there 0xFF _ t 2 l Unlisted (rw (← b) w) (rw (← b, e) (run-there 0xFF _ t 3 m Unlisted (rw (← c) v) (rw (← c, f) refl)))
+
+      pub table-whole : isTable s (lo + 256 * hi) ≡ true → wholeOf (Puts (Cycled (how (lo + 256 * hi)))) z o 4 ≡ judge (byRows (tableRows z o s how)) t 2
+      unfolding tableRows lastRows judge
+      table-whole f = run-there 0xFF _ t 2 l _ (rw (← b) w) (rw (← b, e) (run-there 0xFF _ t 3 m _ (rw (← c) v) (rw (← c, f) refl)))

@@ -5,6 +5,7 @@ use alu::Arith;
 
 pub mod form;
 pub mod register;
+pub mod scaling;
 
 // Whether the result is put; of CP only the flags are.
 fn stores(op: Arith) -> bool

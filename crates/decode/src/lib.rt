@@ -2,8 +2,9 @@
 ghost use mathlib.Core.Path.{_≡_};
 ghost use Prim.Native.Nat.{_+_, _<_, _^_};
 ghost use Rattle.code.specs.Said.{wholeOf, judge};
-ghost use Rattle.code.specs.Rows.{lookup};
-ghost use Rattle.code.specs.inner.Parts.{aloneAs, registerAs, memoryAs, registerSize, registerBegun, longer};
+ghost use Rattle.code.specs.Rows.{lookup, byRows};
+ghost use Rattle.code.specs.Registers.{registerRows, feedRows};
+ghost use Rattle.code.specs.inner.Parts.{aloneAs, registerAs, feedAs, memoryAs, registerSize, registerBegun, longer};
 ghost use Rattle.code.specs.Listed.{memoryFirstRows, decodeOf};
 use code::Alone;
 use code::Base;
@@ -12,6 +13,7 @@ use code::Chosen;
 use code::Decoded;
 use code::Instruction;
 use code::MemoryForm;
+use code::OfFeed;
 use code::OfMemory;
 use code::OfRegister;
 use code::Op;
@@ -19,6 +21,7 @@ use code::Operand;
 use code::Side;
 use code::Use;
 use little::Size;
+use registers::rest;
 
 fn whole(op: Op, size: Size, operand: Operand, length: usize) -> Decoded
     ensures { λ r. ⌜ r ≡ wholeOf op size operand length ⌝ }
@@ -61,8 +64,28 @@ fn whole_alone(read: Alone) -> Decoded
     }
 }
 
-fn whole_of_register(read: OfRegister, size: Size, operand: Operand) -> Decoded
-    ensures { λ r. ⌜ r ≡ registerAs read size operand ⌝ }
+fn whole_of_feed(read: OfFeed, size: Size, operand: Operand) -> Decoded
+    ensures { λ r. ⌜ r ≡ feedAs read size operand ⌝ }
+{
+    match read {
+        OfFeed::Scaled(how, r, n) => puts(Use::Scaled(how, r), size, operand, n),
+        OfFeed::ScaledWith(how, v, n) => puts(Use::ScaledWith(how, v), size, operand, n),
+        OfFeed::Cycled(how, n) => puts(Use::Cycled(how), size, operand, n),
+        OfFeed::Short => Decoded::Short,
+        OfFeed::Unlisted => Decoded::Unlisted,
+    }
+}
+
+// A form of the feed calculation, as an instruction.
+fn whole_rest(code: &[u8], size: Size, operand: Operand) -> Decoded
+    ensures { λ r. ⌜ r ≡ judge (byRows (feedRows size operand)) (now (code .entry)) 1 ⌝ }
+{
+    let read = rest::read(code, size, rest::is_low(size, operand));
+    whole_of_feed(read, size, operand)
+}
+
+fn whole_of_register(read: OfRegister, code: &[u8], size: Size, operand: Operand) -> Decoded
+    ensures { λ r. ⌜ r ≡ registerAs read size operand (now (code .entry)) ⌝ }
 {
     match read {
         OfRegister::Number(v, n) => puts(Use::Number(v), size, operand, n),
@@ -71,6 +94,7 @@ fn whole_of_register(read: OfRegister, size: Size, operand: Operand) -> Decoded
         OfRegister::Compute(op, r, n) => puts(Use::Compute(op, Side::First(r)), size, operand, n),
         OfRegister::With(op, v, n) => puts(Use::Compute(op, Side::With(v)), size, operand, n),
         OfRegister::Changed(how, n) => puts(Use::Changed(how), size, operand, n),
+        OfRegister::Rest => whole_rest(code, size, operand),
         OfRegister::Short => Decoded::Short,
         OfRegister::Unlisted => Decoded::Unlisted,
     }
@@ -108,6 +132,13 @@ fn whole_of_memory(read: OfMemory, m: MemoryForm) -> Decoded
     }
 }
 
+// What stands behind a code byte, or behind the first byte, as an instruction.
+fn whole_behind(code: &[u8], size: Size, operand: Operand) -> Decoded
+    ensures { λ r. ⌜ r ≡ judge (byRows (registerRows size operand)) (now (code .entry)) 1 ⌝ }
+{
+    whole_of_register(registers::read(code, size), code, size, operand)
+}
+
 // An instruction of which n bytes more stand before those that were read.
 fn behind(read: Decoded, n: usize) -> Decoded
     requires { ⌜ ((i : Instruction) → read ≡ Decoded.Whole i → n + i .length < 2 ^ 64) ⌝ }
@@ -131,10 +162,7 @@ fn whole_chosen(code: &[u8], b: u8) -> Decoded
 {
     let size = registers::size_by(b);
     match registers::begin(code, size, b) {
-        Chosen::Register(operand, n) => behind(
-            whole_of_register(registers::read(&code[n..], size), size, operand),
-            n,
-        ),
+        Chosen::Register(operand, n) => behind(whole_behind(&code[n..], size, operand), n),
         Chosen::Short => Decoded::Short,
         Chosen::Unlisted => Decoded::Unlisted,
     }

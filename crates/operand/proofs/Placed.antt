@@ -1,27 +1,28 @@
 -- Operands in the registers: where they begin, what they hold, and what is left where one is put.
-use Prim.Native.Nat.{ℕ, _+_, _%_, _<_, _≤_}
+use Prim.Native.Nat.{ℕ, _+_, _*_, _/_, _%_, _<_, _≤_}
 use mathlib.Core.Path.{_≡_, refl, ap, _∙_}
 use mathlib.Core.Bool.{Bool, true, false}
 use mathlib.Core.List.{List}
 use native.Mathlib.Omega.{arith}
 use borrow.Author.Tests.{lt-ltb}
 use Rattle.little.specs.declared.Size.{Size}
-use Rattle.little.specs.Width.{bitsOf, bytesOf}
+use Rattle.little.specs.declared.Size.the-variants.{Byte, Word, Long}
+use Rattle.little.specs.Width.{bitsOf, bytesOf, twiceOf}
 use Rattle.memory.specs.declared.Loaded.the-variants.{Value}
 use Rattle.state.specs.declared.Bank.{Bank}
 use Rattle.state.specs.declared.State.{State}
 use Rattle.state.specs.declared.named.Field.{Field}
 use Rattle.state.specs.State.{banked, withLong, longOf}
 use Rattle.state.specs.Register.{registerAt, setRegister}
-use Rattle.state.specs.Named.{isNamed, Bits, bits, nowhere, heldIn, withHeld}
-use Rattle.state.specs.inner.Field.{fieldIn, PutWithin}
+use Rattle.state.specs.Named.{isNamed, codeFor, Bits, bits, nowhere, heldIn, withHeld}
+use Rattle.state.specs.inner.Field.{fieldIn, wideAt, PutWithin}
 use Rattle.state.proofs.Fields.{start-stays}
-use Rattle.state.proofs.Naming.{plain-names, named-at, plain-at}
+use Rattle.state.proofs.Naming.{plain-names, named-at, plain-at, named-around}
 use Rattle.code.specs.declared.Operand.{Operand}
 use Rattle.code.specs.declared.Operand.the-variants.{Register, Named, Constant, Memory}
 use Rattle.code.specs.Range.{Holds, that, registerRange}
 use Rattle.operand.specs.Try.{did}
-use Rattle.operand.specs.Operand.{valueIn, putAt}
+use Rattle.operand.specs.Operand.{valueIn, putAt, wideOf}
 use Rattle.operand.specs.inner.Placed.{placed, fieldOf, BeginsAt}
 
 -- a register 0 to 7 is where its code is, and what a code byte names is there
@@ -78,3 +79,34 @@ put-at s ram rom z (Register r) f v after a p = ap (λ (t : State). did t ram) (
 put-at s ram rom z (Named c) f v after a p = ap (λ (t : State). did t ram) (put-there s z f _ v after (a .there) (a .known) (a .within) p)
 put-at s ram rom z (Constant n) f v after a p = nothing _ _ _ (a .there)
 put-at s ram rom z (Memory m) f v after a p = nothing _ _ _ (a .there)
+
+-- ---- what is twice as wide begins at the multiple of its bytes
+byte-code : (r : ℕ) → codeFor Word (r % 8 / 2 % 8) ≡ codeFor Byte (r % 8) / 2 * 2
+byte-code r = omega arith
+
+word-code : (r : ℕ) → codeFor Long (r % 8) ≡ codeFor Word (r % 8) / 4 * 4
+word-code r = omega arith
+
+at-first : (f : Field) → f .start + 32 ≤ 32 → bits (f .index) (f .start) 32 ≡ bits (f .index) (f .start / 64 * 64) 32
+at-first f w = ap (λ (o : ℕ). bits (f .index) o 32) (omega arith)
+
+wide-there :
+    (bank : Bank) (z : Size) (o : Operand) (f : Field) → placed bank z o ≡ bits (f .index) (f .start) (bitsOf z) → f .start + bitsOf z ≤ 32 →
+    placed bank (twiceOf z) (wideOf z o) ≡ bits (f .index) (wideAt z f .start) (bitsOf (twiceOf z))
+unfolding placed
+wide-there bank Byte (Register r) f e w = rw (byte-code r) (named-around (bank .0 % 4) Byte Word (codeFor Byte (r % 8)) (f .index) (f .start) e)
+wide-there bank Word (Register r) f e w = rw (word-code r) (named-around (bank .0 % 4) Word Long (codeFor Word (r % 8)) (f .index) (f .start) e)
+wide-there bank Long (Register r) f e w = e ∙ at-first f w
+wide-there bank Byte (Named c) f e w = named-around (bank .0 % 4) Byte Word c (f .index) (f .start) e
+wide-there bank Word (Named c) f e w = named-around (bank .0 % 4) Word Long c (f .index) (f .start) e
+wide-there bank Long (Named c) f e w = e ∙ at-first f w
+wide-there bank z (Constant n) f e w = nothing _ _ _ e
+wide-there bank z (Memory m) f e w = nothing _ _ _ e
+
+wide-within : (z : Size) (f : Field) → f .start + bitsOf z ≤ 32 → wideAt z f .start + bitsOf (twiceOf z) ≤ 32
+wide-within Byte f w = omega arith
+wide-within Word f w = omega arith
+wide-within Long f w = omega arith
+
+pub wide-at : (bank : Bank) (z : Size) (o : Operand) (f : Field) → BeginsAt bank z o f → BeginsAt bank (twiceOf z) (wideOf z o) (wideAt z f)
+wide-at bank z o f a = record { there = wide-there bank z o f (a .there) (a .within); known = a .known; within = wide-within z f (a .within) }

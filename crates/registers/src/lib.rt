@@ -2,7 +2,7 @@
 ghost use mathlib.Core.Path.{_≡_};
 ghost use mathlib.Core.List.{List};
 ghost use Prim.Native.Nat.{ℕ, _/_, _<_, _≤_};
-ghost use lib.ListN.{length};
+ghost use lib.ListN.{length, getD};
 ghost use Rattle.code.specs.Said.{Said, judge};
 ghost use Rattle.code.specs.Rows.{lookup, byRows, only, noByte};
 ghost use Rattle.code.specs.Registers.{registerRows, placesRows, shiftKind};
@@ -18,6 +18,8 @@ use code::Use;
 use little::Size;
 use number::arith_of;
 use state::named::is_named;
+
+pub mod rest;
 
 // Whether a first byte begins a register form: C8 to CF, D8 to DF and E8 to EF, or C7, D7 and E7 with a code byte behind them.
 pub fn begins(b: u8) -> bool
@@ -78,7 +80,7 @@ fn shift_of(n: u8) -> Shift
 // 00 to 07: 03 and a constant.
 fn case_00(code: &[u8], size: Size, c: u8) -> OfRegister
     requires { ⌜ (2 ≤ length (now code)) × (c < 8) ⌝ }
-    ensures { λ d. ⌜ ((o : Operand) → registerAs d size o ≡ judge (lookup (registerRows size o) c) (now (code .entry)) 2) ⌝ }
+    ensures { λ d. ⌜ ((o : Operand) → registerAs d size o (now (code .entry)) ≡ judge (lookup (registerRows size o) c) (now (code .entry)) 2) ⌝ }
 {
     if c == 3 {
         let n = little::bytes(size);
@@ -93,7 +95,7 @@ fn case_00(code: &[u8], size: Size, c: u8) -> OfRegister
 // C8 to CF and a constant.
 fn compute_constant(code: &[u8], size: Size, c: u8) -> OfRegister
     requires { ⌜ (2 ≤ length (now code)) × (c / 8 ≡ 25) ⌝ }
-    ensures { λ d. ⌜ ((o : Operand) → registerAs d size o ≡ judge (lookup (registerRows size o) c) (now (code .entry)) 2) ⌝ }
+    ensures { λ d. ⌜ ((o : Operand) → registerAs d size o (now (code .entry)) ≡ judge (lookup (registerRows size o) c) (now (code .entry)) 2) ⌝ }
 {
     let n = little::bytes(size);
     match number::number(code, 2, n) {
@@ -115,7 +117,7 @@ fn no_byte(size: Size) -> bool
 
 // A change that is listed only where a test is so.
 fn only(listed: bool, how: Change) -> OfRegister
-    ensures { λ d. ⌜ ((z : Size) (o : Operand) (s : List ℕ) → registerAs d z o ≡ judge (only listed (Said.whole (Op.Puts (Use.Changed how)) z o)) s 2) ⌝ }
+    ensures { λ d. ⌜ ((z : Size) (o : Operand) (s : List ℕ) → registerAs d z o s ≡ judge (only listed (Said.whole (Op.Puts (Use.Changed how)) z o)) s 2) ⌝ }
 {
     if listed {
         OfRegister::Changed(how, 2)
@@ -127,7 +129,7 @@ fn only(listed: bool, how: Change) -> OfRegister
 // 10 to 17: 12 EXTZ, 13 EXTS.
 fn case_10(size: Size, c: u8) -> OfRegister
     requires { ⌜ c / 8 ≡ 2 ⌝ }
-    ensures { λ d. ⌜ ((o : Operand) (s : List ℕ) → registerAs d size o ≡ judge (lookup (registerRows size o) c) s 2) ⌝ }
+    ensures { λ d. ⌜ ((o : Operand) (s : List ℕ) → registerAs d size o s ≡ judge (lookup (registerRows size o) c) s 2) ⌝ }
 {
     match c {
         0x12 => only(no_byte(size), Change::Extz),
@@ -138,7 +140,7 @@ fn case_10(size: Size, c: u8) -> OfRegister
 
 // A shift, by the byte of its places.
 fn shifted(code: &[u8], size: Size, shift: Shift) -> OfRegister
-    ensures { λ d. ⌜ ((o : Operand) → registerAs d size o ≡ judge (byRows (placesRows size o shift)) (now (code .entry)) 2) ⌝ }
+    ensures { λ d. ⌜ ((o : Operand) → registerAs d size o (now (code .entry)) ≡ judge (byRows (placesRows size o shift)) (now (code .entry)) 2) ⌝ }
 {
     if code.len() <= 2 {
         return OfRegister::Short;
@@ -153,7 +155,7 @@ fn shifted(code: &[u8], size: Size, shift: Shift) -> OfRegister
 // E8 to EF: EC SLA, ED SRA, EE SLL, EF SRL.
 fn case_e8(code: &[u8], size: Size, c: u8) -> OfRegister
     requires { ⌜ c / 8 ≡ 29 ⌝ }
-    ensures { λ d. ⌜ ((o : Operand) → registerAs d size o ≡ judge (lookup (registerRows size o) c) (now (code .entry)) 2) ⌝ }
+    ensures { λ d. ⌜ ((o : Operand) → registerAs d size o (now (code .entry)) ≡ judge (lookup (registerRows size o) c) (now (code .entry)) 2) ⌝ }
 {
     if c < 0xEC {
         return OfRegister::Unlisted;
@@ -163,8 +165,8 @@ fn case_e8(code: &[u8], size: Size, c: u8) -> OfRegister
 
 // What the second byte c says.
 fn second(code: &[u8], size: Size, c: u8) -> OfRegister
-    requires { ⌜ 2 ≤ length (now code) ⌝ }
-    ensures { λ d. ⌜ ((o : Operand) → registerAs d size o ≡ judge (lookup (registerRows size o) c) (now (code .entry)) 2) ⌝ }
+    requires { ⌜ (2 ≤ length (now code)) × (c ≡ getD (now code) 1 0) ⌝ }
+    ensures { λ d. ⌜ ((o : Operand) → registerAs d size o (now (code .entry)) ≡ judge (lookup (registerRows size o) c) (now (code .entry)) 2) ⌝ }
 {
     let n = c % 8;
     match c / 8 {
@@ -177,13 +179,13 @@ fn second(code: &[u8], size: Size, c: u8) -> OfRegister
         16 | 18 | 20 | 22 | 24 | 26 | 28 | 30 => OfRegister::Compute(arith_of(c / 16 % 8), n, 2),
         25 => compute_constant(code, size, c),
         29 => case_e8(code, size, c),
-        _ => OfRegister::Unlisted,
+        _ => OfRegister::Rest,
     }
 }
 
-// A register form of a size, whatever its register.
+// A register form of a size, whatever its register, but for those of the feed calculation, which `rest::read` reads.
 pub fn read(code: &[u8], size: Size) -> OfRegister
-    ensures { λ d. ⌜ ((o : Operand) → registerAs d size o ≡ judge (byRows (registerRows size o)) (now (code .entry)) 1) ⌝ }
+    ensures { λ d. ⌜ ((o : Operand) → registerAs d size o (now (code .entry)) ≡ judge (byRows (registerRows size o)) (now (code .entry)) 1) ⌝ }
 {
     if code.len() <= 1 {
         return OfRegister::Short;

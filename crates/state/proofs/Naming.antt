@@ -8,7 +8,7 @@ use native.Mathlib.Omega.{arith}
 use native.Mathlib.Nat.{mod-lt}
 use lib.Dec.{ltb, leb, eqb}
 use lib.ListN.{getD}
-use borrow.Author.Tests.{le-ltb, le-leb, eq-eqb, ne-eqb, eqb-true, eqb-false, ltb-true, leb-true}
+use borrow.Author.Tests.{lt-ltb, le-ltb, le-leb, eq-eqb, ne-eqb, eqb-true, eqb-false, ltb-true, leb-true}
 use Rattle.little.specs.declared.Size.{Size}
 use Rattle.little.specs.declared.Size.the-variants.{Byte, Word, Long}
 use Rattle.little.specs.Width.{bitsOf, bytesOf}
@@ -26,7 +26,7 @@ use Rattle.state.proofs.Laws.{long-same, long-other, part-apart, sound-
 use Rattle.state.proofs.Fields.{byte-current, byte-field, long-field}
 
 -- ---- the registers 0 to 7
-current-named : (n c : ℕ) → 0xE0 ≤ c → c % n ≡ 0 → isNamed n c ≡ true
+current-named : (n c : ℕ) → 0xD0 ≤ c → c % n ≡ 0 → isNamed n c ≡ true
 current-named n c h e = rw (le-ltb c 0x40 (omega arith), le-leb 0xD0 c (omega arith), eq-eqb (c % n) 0 e) refl
 
 plain : (b : ℕ) (z : Size) (r : ℕ) → r < 8 → named b (bytesOf z) (codeFor z r) ≡ bits (slotOf b z r .index) (startOf (slotOf b z r .part)) (widthOf (slotOf b z r .part))
@@ -153,6 +153,58 @@ plain-at bank z r h k = let c = plain-code z r k in named-at bank z (codeFor z r
 is-none : (bank n code : ℕ) → isNamed n code ≡ false → named bank n code ≡ nowhere
 unfolding named
 is-none bank n code h = rw h refl
+
+-- ---- the part of a size y around another, which begins at the multiple of y's bytes
+named-there : (bank n code i o k : ℕ) → named bank n code ≡ bits i o k → isNamed n code ≡ true
+named-there bank n code i o k h = go (isNamed n code) refl
+  where
+    none : {A : Type 0} → nowhere ≡ bits i o k → A
+    none e = let z : _≡_ {A = ℕ} 0 1 = cc in let y : ⊥ = omega arith in absurd y
+
+    go : (b : Bool) → isNamed n code ≡ b → isNamed n code ≡ true
+    go true e = e
+    go false e = none (sym (is-none bank n code e) ∙ h)
+
+-- a code that is rounded down keeps its high digit
+code-rounds : (y : Size) (c : ℕ) → let d = c / bytesOf y * bytesOf y in (d % bytesOf y ≡ 0) × (d / 16 ≡ c / 16) × (d % 16 ≡ c % 16 / bytesOf y * bytesOf y)
+code-rounds Byte c = (omega arith, omega arith, omega arith)
+code-rounds Word c = (omega arith, omega arith, omega arith)
+code-rounds Long c = (omega arith, omega arith, omega arith)
+
+byte-rounds : (y : Size) (k n : ℕ) → 16 * k + n / bytesOf y * bytesOf y ≡ (16 * k + n) / bytesOf y * bytesOf y
+byte-rounds Byte k n = omega arith
+byte-rounds Word k n = omega arith
+byte-rounds Long k n = omega arith
+
+bits-round : (y : Size) (a : ℕ) → let b = a / bytesOf y * bytesOf y in (b / 4 ≡ a / 4) × (8 * (b % 4) ≡ 8 * (a % 4) / bitsOf y * bitsOf y)
+bits-round Byte a = (omega arith, omega arith)
+bits-round Word a = (omega arith, omega arith)
+bits-round Long a = (omega arith, omega arith)
+
+same-digit : (n c d : ℕ) → d % n ≡ 0 → d / 16 ≡ c / 16 → (c < 0x40) ⊎ (0xD0 ≤ c) → isNamed n d ≡ true
+same-digit n c d e f (inl l) = rw (lt-ltb d 0x40 (omega arith), eq-eqb (d % n) 0 e) refl
+same-digit n c d e f (inr l) = current-named n d (omega arith) e
+
+around-byte : (bank : ℕ) (y : Size) (c : ℕ) → byteNamed bank (c / bytesOf y * bytesOf y) ≡ byteNamed bank c / bytesOf y * bytesOf y
+unfolding byteNamed
+around-byte bank y c =
+    let r = code-rounds y c in
+    rw (r .1, r .2) (byte-rounds y (sixteenOf bank (c / 16)) (c % 16))
+
+-- a part with another start, of another width
+abbrev around : ℕ → Bits → Bits
+around k (bits i o w) = bits i (o / k * k) k
+around k nowhere = nowhere
+
+part-around : (bank n : ℕ) (y : Size) (c : ℕ) → isNamed n c ≡ true → named bank (bytesOf y) (c / bytesOf y * bytesOf y) ≡ around (bitsOf y) (named bank n c)
+unfolding named
+part-around bank n y c h =
+    let r = code-rounds y c in
+    let t = bits-round y (byteNamed bank c) in
+    rw (h, same-digit (bytesOf y) c (c / bytesOf y * bytesOf y) (r .0) (r .1) (is-there n c h .0), around-byte bank y c, t .0, t .1, eight-bytes y) refl
+
+pub named-around : (bank : ℕ) (z y : Size) (c i o : ℕ) → named bank (bytesOf z) c ≡ bits i o (bitsOf z) → named bank (bytesOf y) (c / bytesOf y * bytesOf y) ≡ bits i (o / bitsOf y * bitsOf y) (bitsOf y)
+named-around bank z y c i o e = part-around bank (bytesOf z) y c (named-there bank (bytesOf z) c i o (bitsOf z) e) ∙ ap (around (bitsOf y)) e
 
 -- ---- what a write leaves
 sound-bits : (s : State) (i k n v : ℕ) → Sound s → k + n ≤ 4 → Sound (withHeld s (bits i (8 * k) (8 * n)) v)

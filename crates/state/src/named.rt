@@ -5,7 +5,7 @@ ghost use Prim.Native.Nat.{_+_, _-_, _%_, _^_, _<_, _≤_};
 ghost use Rattle.little.specs.Width.{bitsOf, bytesOf};
 ghost use Rattle.state.specs.Register.{setBits};
 ghost use Rattle.state.specs.Named.{sixteenOf, byteNamed, isNamed, codeFor};
-ghost use Rattle.state.specs.inner.Field.{fieldAt, fieldIn, putIn, fieldPut, PutWithin};
+ghost use Rattle.state.specs.inner.Field.{fieldAt, wideAt, fieldIn, putIn, fieldPut, PutWithin};
 use crate::Bank;
 use crate::index_of;
 use little::Size;
@@ -89,6 +89,22 @@ pub fn of_register(bank: Bank, size: Size, r: u8) -> Field
     Field {
         index: index_of(b, c),
         start: 0,
+    }
+}
+
+// Where the register begins that has twice the bits of a size and this field in it.
+pub fn wide(size: Size, f: Field) -> Field
+    ensures { λ r. ⌜ r ≡ wideAt size f ⌝ }
+{
+    let x = f.start;
+    let start = match size {
+        Size::Byte => x / 16 * 16,
+        Size::Word => x / 32 * 32,
+        Size::Long => x / 64 * 64,
+    };
+    Field {
+        index: f.index,
+        start: start,
     }
 }
 

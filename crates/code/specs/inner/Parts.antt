@@ -1,7 +1,9 @@
 -- What each of the readers gives, as a decoded instruction, and what they read it by.
-use Rattle.little.specs.Words.{ℕ, _+_, _/_, _%_, Bool, cond, _&&_, _||_, List, [], _++_, eqb, ltb, leb}
+use Rattle.little.specs.Words.{ℕ, _+_, _/_, _%_, Bool, true, false, cond, _&&_, _||_, List, [], _++_, eqb, ltb, leb}
 use Rattle.little.specs.declared.Size.{Size}
 use Rattle.little.specs.declared.Size.the-variants.{Byte, Word, Long}
+use Rattle.feed.specs.declared.cycle.{Cycle.Cycle, Stride.Stride}
+use Rattle.feed.specs.declared.cycle.Cycle.the-variants.{Minc, Mdec}
 use Rattle.code.specs.{declared.MemoryForm.MemoryForm, declared.Base.the-variants.Indirect, declared.Operand.Operand}
 use Rattle.code.specs.{declared.Operand.the-variants.Register, declared.Operand.the-variants.Constant, declared.Operand.the-variants.Memory, declared.Decoded.Decoded}
 use Rattle.code.specs.{declared.Decoded.the-variants.Whole, declared.Decoded.the-variants.Short, declared.Decoded.the-variants.Unlisted, Said.Said, Said.wholeOf, Said.judge, Rows.Row}
@@ -93,6 +95,11 @@ registerAs (register.Changed how n) z o s = wholeOf (Puts (Changed how)) z o n
 registerAs register.Rest z o s = judge (byRows (feedRows z o)) s 1
 registerAs register.Short z o s = Short
 registerAs register.Unlisted z o s = Unlisted
+
+-- MINC, or MDEC
+abbrev pub cycleAs : Bool → Stride → ℕ → Cycle
+cycleAs true s last = Minc s last
+cycleAs false s last = Mdec s last
 
 -- of a form of the feed calculation
 abbrev pub feedAs : OfFeed → Size → Operand → Decoded

@@ -1,6 +1,10 @@
+use mathlib.Core.Path.{sym, ap, _∙_}
 use native.Mathlib.Omega.{arith}
-use Rattle.code.specs.Said.{judge}
-use Rattle.code.proofs.RegisterRows.{inc, dec, load, into, compute, no-register}
+use Rattle.code.specs.Said.{Said, judge}
+use Rattle.code.specs.Rows.{lookup}
+use Rattle.code.specs.Registers.{feedRows}
+use Rattle.code.proofs.Judge.{next-there}
+use Rattle.code.proofs.RegisterRows.{inc, dec, load, into, compute, the-rest}
 use borrow.Author.Needs.{needs}
 use Rattle.registers.proofs.second.Statement.{statement}
 use Rattle.registers.proofs.second.Tie as tie
@@ -53,8 +57,11 @@ returns-9 : tie.Need-returns-9
 returns-9 c = search needs
 
 returns-10 : tie.Need-returns-10
-unfolding judge
-returns-10 c = λ o. rw (no-register _ _ _ (omega arith) (c .match .rest))
+returns-10 c = λ o.
+    let a = c .before .before .args in
+    let p = c .before .before .pre in
+    sym (next-there (lookup (feedRows (a .size) o)) (a .code .now) 1 _ (omega arith)
+    (ap (λ (x : Said). judge x (a .code .now) 2) (the-rest (a .size) o (a .c) (omega arith) (c .match .rest) ∙ ap (lookup (feedRows (a .size) o)) (p .1))))
 
 pub second-spec : {M : Type 1} → statement M
 second-spec =
