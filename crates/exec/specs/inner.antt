@@ -1,1 +1,2 @@
 pub mod Counter
+pub mod Fed

@@ -3,25 +3,34 @@ ghost use mathlib.Core.Path.{_≡_};
 ghost use mathlib.Core.List.{List};
 ghost use Prim.Native.Nat.{ℕ};
 ghost use Rattle.state.specs.declared.State.{State};
-ghost use Rattle.state.specs.inner.Lent.{allOf, bankedAtWith};
+ghost use Rattle.state.specs.inner.Lent.{allOf, bankedWith, bankedAtWith};
+ghost use Rattle.code.specs.Said.{judge};
+ghost use Rattle.code.specs.Rows.{byRows};
+ghost use Rattle.code.specs.Registers.{feedRows};
 ghost use Rattle.code.specs.inner.Parts.{aloneAs, registerAs};
 ghost use Rattle.operand.specs.inner.Does.{Does};
-ghost use Rattle.operand.specs.inner.Placed.{BeginsAt};
+ghost use Rattle.operand.specs.inner.Placed.{BeginsAt, lowAt};
 ghost use Rattle.exec.specs.Exec.{done};
 ghost use Rattle.exec.specs.inner.Counter.{backOf, onOf};
+ghost use Rattle.exec.specs.inner.Fed.{answerOf, Feeds};
 use answer::Answer;
 use answer::Why;
 use code::Alone;
+use code::OfFeed;
 use code::OfRegister;
 use code::Operand;
 use compute::register::change;
 use compute::register::load;
 use compute::register::operate;
 use compute::register::with;
+use compute::scaling::cycle;
+use compute::scaling::scale;
+use compute::scaling::scale_with;
 use control::control;
 use control::past;
 use interrupt::interrupt;
 use little::Size;
+use registers::rest;
 use stack::stack;
 use state::Bank;
 use state::current;
@@ -106,9 +115,78 @@ pub fn alone(
     }
 }
 
-// What a register form says of the operand that begins at a field: nothing is refused but its code.
+// The same field. Where the field itself is handed on, the compiler keeps it in memory for every form, which was measured to be slower.
+fn anew(f: Field) -> Field
+    ensures { λ r. ⌜ r ≡ f ⌝ }
+{
+    Field {
+        index: f.index,
+        start: f.start,
+    }
+}
+
+// Whether what begins at a field is the lower half of what is twice as wide.
+fn is_low(size: Size, f: Field) -> bool
+    ensures { λ r. ⌜ r ≡ lowAt size f ⌝ }
+{
+    match size {
+        Size::Byte => f.start % 16 == 0,
+        Size::Word => f.start % 32 == 0,
+        Size::Long => false,
+    }
+}
+
+// A form of the feed calculation of the operand that begins at a field. It tells how many bytes it had: 0 where they begin nothing that
+// is listed, and 1 where they are too few. One number is handed back in a register, an answer in memory.
+fn feed(
+    code: &[u8],
+    size: Size,
+    r: Field,
+    bank: Bank,
+    flags: &mut u16,
+    regs: &mut [u32; 20],
+) -> usize
+    ensures { λ n. ⌜ ((o : Operand) → BeginsAt bank size o r → (s : State) (ram rom : List ℕ) →
+        Feeds (judge (byRows (feedRows size o)) (now (code .entry)) 1) n
+        (bankedWith s (now (regs .entry)) bank (now (flags .entry))) ram rom
+        (bankedWith s (now (regs .exit)) bank (now (flags .exit)))) ⌝ }
+{
+    match rest::read(code, size, is_low(size, r)) {
+        OfFeed::Scaled(how, first, n) => {
+            scale(how, first, size, r, bank, flags, regs);
+            n
+        }
+        OfFeed::ScaledWith(how, v, n) => {
+            scale_with(how, v, size, r, flags, regs);
+            n
+        }
+        OfFeed::Cycled(how, n) => {
+            cycle(how, size, r, regs);
+            n
+        }
+        OfFeed::Short => 1,
+        OfFeed::Unlisted => 0,
+    }
+}
+
+// What it told, as an answer; the counter goes past it where it is done.
+fn told(n: usize, counter: &mut u32) -> Answer
+    ensures { λ a. ⌜ (a ≡ answerOf n) × (now (counter .exit) ≡ onOf (answerOf n) n (now (counter .entry))) ⌝ }
+{
+    if n == 0 {
+        return Answer::Refused(Why::Unlisted);
+    }
+    if n == 1 {
+        return Answer::Refused(Why::NoCode);
+    }
+    on(Answer::Done, counter, n)
+}
+
+// What a register form says of the operand that begins at a field, and is read from the code: nothing is refused but its code. The
+// feed calculation is called in three places, so that the compiler keeps it a function of its own.
 pub fn of_register(
     read: OfRegister,
+    code: &[u8],
     size: Size,
     r: Field,
     bank: Bank,
@@ -117,7 +195,7 @@ pub fn of_register(
     counter: &mut u32,
 ) -> Answer
     ensures { λ a. ⌜ ((o : Operand) → BeginsAt bank size o r → (s : State) (ram rom : List ℕ) →
-        Does (λ t m. done (registerAs read size o) t m rom)
+        Does (λ t m. done (registerAs read size o (now (code .entry))) t m rom)
         (bankedAtWith s (now (regs .entry)) bank (now (counter .entry)) (now (flags .entry))) ram
         a (bankedAtWith s (now (regs .exit)) bank (now (counter .exit)) (now (flags .exit))) ram) ⌝ }
 {
@@ -146,6 +224,11 @@ pub fn of_register(
             change(how, size, r, flags, regs);
             on(Answer::Done, counter, n)
         }
+        OfRegister::Rest => match size {
+            Size::Byte => told(feed(code, Size::Byte, anew(r), bank, flags, regs), counter),
+            Size::Word => told(feed(code, Size::Word, anew(r), bank, flags, regs), counter),
+            Size::Long => told(feed(code, Size::Long, anew(r), bank, flags, regs), counter),
+        },
         OfRegister::Short => Answer::Refused(Why::NoCode),
         OfRegister::Unlisted => Answer::Refused(Why::Unlisted),
     }

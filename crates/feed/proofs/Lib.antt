@@ -1,5 +1,9 @@
 pub mod Signs
 pub mod Results
+pub mod Once
+pub mod Products
+pub mod Quotients
+pub mod Cases
 pub mod Wraps
 pub mod Powers
 pub mod Round

@@ -1,7 +1,7 @@
 -- What the functions of feed::scale make of signs and of how large numbers are is what the definitions say, once over the width.
 use mathlib.Core.Path.{_≡_, refl, sym, ap, ap₂, _∙_}
 use mathlib.Core.Bool.{Bool, true, false, not, cond, _||_}
-use Prim.Native.Nat.{ℕ, zero, suc, _+_, _-_, _*_, _/_, _%_, _^_, _≤_, _<_}
+use Prim.Native.Nat.{ℕ, suc, _+_, _-_, _*_, _/_, _%_, _^_, _≤_, _<_}
 use native.Mathlib.Nat.{mod-lt, mul-le-mul, mul-pos, pow-suc, pos-of-ne-zero}
 use native.Mathlib.Omega.{arith}
 use lib.Dec.{leb, eqb, lit<}
@@ -19,12 +19,16 @@ use Rattle.feed.specs.inner.Sign.{magnitudeOf, withSign, largestOf}
 use Rattle.feed.proofs.Signs.{sg, differ, turnedIn, sizeIn, product-is, quotient-is, remainder-is, magnitude-le, magnitude-pos, bits, holds, largest-le}
 
 -- ---- the two widths
-pub twice-half : (size : Size) → 2 * (bitsOf size / 2) ≡ bitsOf size
+-- the bits of half a size
+abbrev pub halfOf : Size → ℕ
+halfOf size = bitsOf size / 2
+
+twice-half : (size : Size) → 2 * halfOf size ≡ bitsOf size
 twice-half Byte = refl
 twice-half Word = refl
 twice-half Long = refl
 
-pub half-pos : (size : Size) → 0 < bitsOf size / 2
+pub half-pos : (size : Size) → 0 < halfOf size
 half-pos Byte = lit< tt
 half-pos Word = lit< tt
 half-pos Long = lit< tt
@@ -38,26 +42,27 @@ top-square k p =
     ap (λ (n : ℕ). 2 ^ n) e ∙ omega arith
 
 -- a number in k bits is below twice the weight of their top bit
-pub low-lt : (k a t x : ℕ) → 0 < k → t ≡ 2 ^ (k - 1) → x ≡ low k a → x < 2 * t
-low-lt k a t x p et ex =
+pub low-lt : (k a : ℕ) {t x : ℕ} → 0 < k → t ≡ 2 ^ (k - 1) → x ≡ low k a → x < 2 * t
+low-lt k a p et ex =
     let h : low k a < 2 ^ k = mod-lt a (pow-pos k) in
     omega (arith, twice k p)
 
 -- a divisor other than 0 is so without its sign
 pub divisor-pos :
-    (k b t y n : ℕ) → 0 < k → t ≡ 2 ^ (k - 1) → y ≡ low k b → (y ≡ 0 → ⊥) → n ≡ magnitudeOf t y → 0 < n
-divisor-pos k b t y n p et ey f en = rw en (magnitude-pos t y (pos-of-ne-zero f) (low-lt k b t y p et ey))
+    (size : Size) (b : ℕ) {t y n : ℕ} → t ≡ 2 ^ (halfOf size - 1) → y ≡ low (halfOf size) b → (y ≡ 0 → ⊥) → n ≡ magnitudeOf t y → 0 < n
+divisor-pos size b {t} {y} et ey f en =
+    rw en (magnitude-pos t y (pos-of-ne-zero f) (low-lt (halfOf size) b (half-pos size) et ey))
 
 -- ---- products
 -- two numbers of at most 16 bits
-pub product-lt : (m n : ℕ) → m < 65536 → n < 65536 → m * n < 4294967296
-product-lt m n hm hn =
+pub product-lt : {m n : ℕ} → m < 65536 → n < 65536 → m * n < 4294967296
+product-lt {m} {n} hm hn =
     let a : m ≤ 65535 = omega arith in
     let b : n ≤ 65535 = omega arith in
     let h : m * n ≤ 65535 * 65535 = mul-le-mul a b in
     omega arith
 
-pub product-le : (k m n : ℕ) → 0 < k → m ≤ 2 ^ (k - 1) → n ≤ 2 ^ (k - 1) → m * n < 2 ^ (2 * k - 1)
+product-le : (k m n : ℕ) → 0 < k → m ≤ 2 ^ (k - 1) → n ≤ 2 ^ (k - 1) → m * n < 2 ^ (2 * k - 1)
 product-le k m n p hm hn =
     let t = 2 ^ (k - 1) in
     let h : m * n ≤ t * t = mul-le-mul hm hn in
@@ -70,10 +75,10 @@ size-product-lt k x y p =
 
 -- what the sign is put to is at most the weight of the top bit
 pub product-top :
-    (size : Size) (t m n s : ℕ) → t ≡ 2 ^ (bitsOf size / 2 - 1) → s ≡ 2 ^ (bitsOf size - 1) → m ≤ t → n ≤ t → m * n ≤ s
-product-top size t m n s et es hm hn =
-    let h = product-le (bitsOf size / 2) m n (half-pos size) (rw et at hm) (rw et at hn) in
-    let f : 2 ^ (2 * (bitsOf size / 2) - 1) ≡ 2 ^ (bitsOf size - 1) = ap (λ (j : ℕ). 2 ^ (j - 1)) (twice-half size) in
+    (size : Size) {t m n s : ℕ} → t ≡ 2 ^ (halfOf size - 1) → s ≡ 2 ^ (bitsOf size - 1) → m ≤ t → n ≤ t → m * n ≤ s
+product-top size {m = m} {n = n} et es hm hn =
+    let h = product-le (halfOf size) m n (half-pos size) (rw et at hm) (rw et at hn) in
+    let f : 2 ^ (2 * halfOf size - 1) ≡ 2 ^ (bitsOf size - 1) = ap (λ (j : ℕ). 2 ^ (j - 1)) (twice-half size) in
     omega arith
 
 muls-is :
@@ -89,15 +94,17 @@ muls-is k a b p =
 
 -- as the function has it
 pub muls-made :
-    (j k a b t x y m n s : ℕ) → 2 * k ≡ j → 0 < k → t ≡ 2 ^ (k - 1) → x ≡ low k a → y ≡ low k b →
-    m ≡ magnitudeOf t x → n ≡ magnitudeOf t y → s ≡ 2 ^ (j - 1) →
-    withSign s (differ (leb t x) (leb t y)) (m * n) ≡ mulsOf k a b
-muls-made j k a b t x y m n s e p et ex ey em en es = rw (es, ← e, em, en, ex, ey, et) (sym (muls-is k a b p))
+    (size : Size) (a b : ℕ) {t x y m n s : ℕ} →
+    t ≡ 2 ^ (halfOf size - 1) → x ≡ low (halfOf size) a → y ≡ low (halfOf size) b →
+    m ≡ magnitudeOf t x → n ≡ magnitudeOf t y → s ≡ 2 ^ (bitsOf size - 1) →
+    withSign s (differ (leb t x) (leb t y)) (m * n) ≡ mulsOf (halfOf size) a b
+muls-made size a b et ex ey em en es =
+    rw (es, em, en, ex, ey, et) (sym (rw (twice-half size) at (muls-is (halfOf size) a b (half-pos size))))
 
 -- ---- quotients
 -- both halves, of at most 16 bits each
-pub halves-lt : (t q r : ℕ) → t ≤ 32768 → q < 2 * t → r < 2 * t → r * (2 * t) + q < 4294967296
-halves-lt t q r ht hq hr =
+pub halves-lt : {t q r : ℕ} → t ≤ 32768 → q < 2 * t → r < 2 * t → r * (2 * t) + q < 4294967296
+halves-lt {t} {q} {r} ht hq hr =
     let a : r ≤ 65535 = omega arith in
     let b : 2 * t ≤ 65536 = omega arith in
     let h : r * (2 * t) ≤ 65535 * 65536 = mul-le-mul a b in
@@ -113,26 +120,30 @@ or-true : (b : Bool) → (b || true) ≡ true
 or-true true = refl
 or-true false = refl
 
-module _ (j k a b t x y : ℕ) (e : 2 * k ≡ j) (p : 0 < k) (et : t ≡ 2 ^ (k - 1)) (ex : x ≡ low j a) (ey : y ≡ low k b) where
-  pub div-none : y ≡ 0 → keptAs x ≡ divOf k a b
-  unfolding divOf
-  div-none h = rw (e, ← ex, ← ey, eq-eqb y 0 h) refl
+-- as the functions have them, after t, x and y
+module _
+    (size : Size) (a b : ℕ) {t x y : ℕ}
+    (et : t ≡ 2 ^ (halfOf size - 1)) (ex : x ≡ low (bitsOf size) a) (ey : y ≡ low (halfOf size) b)
+  where
+    pub div-none : y ≡ 0 → keptAs x ≡ divOf (halfOf size) a b
+    unfolding divOf
+    div-none h = rw (twice-half size, ← ex, ← ey, eq-eqb y 0 h) refl
 
-  pub divs-none : y ≡ 0 → keptAs x ≡ divsOf k a b
-  unfolding divsOf
-  divs-none h = rw (e, ← ex, ← ey, eq-eqb y 0 h) refl
+    pub divs-none : y ≡ 0 → keptAs x ≡ divsOf (halfOf size) a b
+    unfolding divsOf
+    divs-none h = rw (twice-half size, ← ex, ← ey, eq-eqb y 0 h) refl
 
-  pub div-large : 2 * t ≤ x / y → keptAs x ≡ divOf k a b
-  unfolding divOf
-  div-large h =
-      let l : 2 ^ k ≤ x / y = omega (arith, twice k p) in
-      rw (e, ← ex, ← ey, le-leb (2 ^ k) (x / y) l, or-true (eqb y 0)) refl
+    -- 2 to the bits of the lower half
+    half-twice : 2 ^ halfOf size ≡ 2 * t
+    half-twice = omega (arith, twice (halfOf size) (half-pos size))
 
-  pub div-fit : (y ≡ 0 → ⊥) → x / y < 2 * t → halvesOf k (x / y) (x % y) ≡ divOf k a b
-  unfolding divOf
-  div-fit f h =
-      let l : x / y < 2 ^ k = omega (arith, twice k p) in
-      rw (e, ← ex, ← ey, ne-eqb y 0 f, lt-leb (2 ^ k) (x / y) l) refl
+    pub div-large : 2 * t ≤ x / y → keptAs x ≡ divOf (halfOf size) a b
+    unfolding divOf
+    div-large h = rw (twice-half size, ← ex, ← ey, half-twice, le-leb (2 * t) (x / y) h, or-true (eqb y 0)) refl
+
+    pub div-fit : (y ≡ 0 → ⊥) → x / y < 2 * t → halvesOf (halfOf size) (x / y) (x % y) ≡ divOf (halfOf size) a b
+    unfolding divOf
+    div-fit f h = rw (twice-half size, ← ex, ← ey, half-twice, ne-eqb y 0 f, lt-leb (2 * t) (x / y) h) refl
 
 -- what is left of a quotient q and a remainder r
 abbrev chosen : ℕ → ℕ → ℕ → ℤ → ℤ → Divided
@@ -170,22 +181,26 @@ module _ (k a b : ℕ) (p : 0 < k) where
       let o : 0 < 2 * k = omega arith in
       ap₂ (chosen k x y) (quotient-is (2 * k) k x y o p) (remainder-is (2 * k) k x y o p)
 
--- as the function has them
+-- as the function has them, after m and n
 module _
-    (j k a b t s x y m n : ℕ) (e : 2 * k ≡ j) (p : 0 < k) (et : t ≡ 2 ^ (k - 1)) (es : s ≡ 2 ^ (j - 1)) (ex : x ≡ low j a) (ey : y ≡ low k b)
+    (size : Size) (a b : ℕ) {t s x y m n : ℕ}
+    (et : t ≡ 2 ^ (halfOf size - 1)) (es : s ≡ 2 ^ (bitsOf size - 1)) (ex : x ≡ low (bitsOf size) a) (ey : y ≡ low (halfOf size) b)
     (em : m ≡ magnitudeOf s x) (en : n ≡ magnitudeOf t y)
-    where
-  divs-as : divsOf k a b ≡ chosen k x y (sg (differ (leb s x) (leb t y)) (m / n)) (sg (leb s x) (m % n))
-  divs-as = rw (em, en, es, et, ex, ey, ← e) (divs-is k a b p)
+  where
+    -- the signs of the quotient and of the remainder
+    abbrev d : Bool
+    d = differ (leb s x) (leb t y)
 
-  -- the signs of the quotient and of the remainder
-  abbrev d : Bool
-  d = differ (leb s x) (leb t y)
+    abbrev e : Bool
+    e = leb s x
 
-  pub divs-large : largestOf t d < m / n → keptAs x ≡ divsOf k a b
-  divs-large h = sym (divs-as ∙ chosen-large k t x y (m / n) (m % n) d (leb s x) p et h)
+    divs-as : divsOf (halfOf size) a b ≡ chosen (halfOf size) x y (sg d (m / n)) (sg e (m % n))
+    divs-as = rw (em, en, es, et, ex, ey) (rw (twice-half size) at (divs-is (halfOf size) a b (half-pos size)))
 
-  pub divs-fit :
-      (y ≡ 0 → ⊥) → m / n ≤ largestOf t d → m % n ≤ t →
-      halvesOf k (withSign t d (m / n)) (withSign t (leb s x) (m % n)) ≡ divsOf k a b
-  divs-fit f h l = sym (divs-as ∙ chosen-fit k t x y (m / n) (m % n) d (leb s x) p et f h l)
+    pub divs-large : largestOf t d < m / n → keptAs x ≡ divsOf (halfOf size) a b
+    divs-large h = sym (divs-as ∙ chosen-large (halfOf size) t x y (m / n) (m % n) d e (half-pos size) et h)
+
+    pub divs-fit :
+        (y ≡ 0 → ⊥) → m / n ≤ largestOf t d → m % n ≤ t →
+        halvesOf (halfOf size) (withSign t d (m / n)) (withSign t e (m % n)) ≡ divsOf (halfOf size) a b
+    divs-fit f h l = sym (divs-as ∙ chosen-fit (halfOf size) t x y (m / n) (m % n) d e (half-pos size) et f h l)

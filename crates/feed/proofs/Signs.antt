@@ -1,15 +1,15 @@
 -- Numbers with a sign as a sign and how large they are: what the definitions over whole numbers are of these, once over the width.
 use mathlib.Core.Path.{_≡_, refl, sym, ap, ap₂, _∙_}
 use mathlib.Core.Bool.{Bool, true, false, not, cond, _&&_, Bool·beq}
-use Prim.Native.Nat.{ℕ, zero, suc, _+_, _-_, _*_, _/_, _%_, _^_, _≤_, _<_, zero-le}
+use Prim.Native.Nat.{ℕ, zero, suc, _+_, _-_, _*_, _/_, _%_, _^_, _≤_, _<_}
 use native.Mathlib.Nat.{add-zero, zero-add, mul-zero, zero-mul, zero-div, div-zero, zero-mod, mod-lt, mod-eq-of-lt, not-suc-le-zero, le-refl, zero-lt-suc}
 use native.Mathlib.Numerals.{sub-one}
 use native.Mathlib.Omega.{arith}
-use lib.Dec.{leb, ltb, leb·zero, leb·suc-suc}
+use lib.Dec.{leb, leb·zero, leb·suc-suc}
 use lib.IntN.{ℤ, pos, negsuc, negℤ, natAbs, _+ℤ_, _*ℤ_, +ℤ-idl, +ℤ-idr}
 use lib.Signed.{quotZ, remZ, leZ, ltZ, nonNeg}
 use lib.Pow.{pow-pos}
-use borrow.Author.Tests.{lt-ltb, le-ltb, le-leb, lt-leb, leb-true, leb-false}
+use borrow.Author.Tests.{lt-ltb, le-leb, lt-leb, leb-true, leb-false}
 use Rattle.flags.specs.Width.{negative}
 use Rattle.flags.proofs.Widths.{twice}
 use Rattle.flags.proofs.Bools.{and-true}
@@ -34,7 +34,7 @@ abs-sg false m = refl
 abs-sg true zero = refl
 abs-sg true (suc m) = refl
 
-zero-sign : (s : Bool) → sg s 0 ≡ pos 0
+pub zero-sign : (s : Bool) → sg s 0 ≡ pos 0
 zero-sign true = refl
 zero-sign false = refl
 
@@ -81,6 +81,7 @@ signed-is k x p = go (negative k x)
   where
     less : 2 ^ k - x ≡ 2 * 2 ^ (k - 1) - x
     less = omega (arith, twice k p)
+
     go : (b : Bool) → cond b (negℤ (pos (2 ^ k - x))) (pos x) ≡ sg b (cond b (2 * 2 ^ (k - 1) - x) x)
     go true = ap (sg true) less
     go false = refl
@@ -133,6 +134,14 @@ holds k s m = holds-at (2 ^ (k - 1)) s m (pow-pos (k - 1))
 pub largest-le : (t : ℕ) (s : Bool) → largestOf t s ≤ t
 largest-le t true = le-refl t
 largest-le t false = omega arith
+
+-- what is smaller than the weight of the top bit fits with either sign
+pub small-holds : (k : ℕ) {z : ℤ} (s : Bool) (m : ℕ) → z ≡ sg s m → m < 2 ^ (k - 1) → holdsSigned k z ≡ true
+small-holds k s m e h = ap (holdsSigned k) e ∙ holds k s m ∙ le-leb m (largestOf (2 ^ (k - 1)) s) (go s)
+  where
+    go : (s : Bool) → m ≤ largestOf (2 ^ (k - 1)) s
+    go true = omega arith
+    go false = omega arith
 
 -- and back: a number that k bits hold is what its bits stand for
 back-at :

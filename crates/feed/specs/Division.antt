@@ -1,5 +1,5 @@
 -- What products and quotients are, for every width of k bits. Each statement is proved in proofs/Products.antt or proofs/Quotients.antt.
-use Rattle.little.specs.Words.{ℕ, _+_, _*_, _/_, _^_, _<_, _≡_, _↔_, _⊎_, Bool, true, false}
+use Rattle.little.specs.Words.{ℕ, _+_, _*_, _/_, _^_, _<_, _≡_, _↔_, _⊎_, true, false}
 use lib.IntN.{ℤ, pos, natAbs, _+ℤ_, _*ℤ_}
 use lib.Signed.{nonNeg}
 use Rattle.flags.specs.Width.{low}

@@ -1,6 +1,7 @@
 pub mod Scale
-pub mod Division
 pub mod Cycle
+pub mod Division
 pub mod Tables
+pub mod Cases
 pub mod TableCases
 pub mod inner

@@ -156,8 +156,9 @@ fn of_registers(
         Chosen::Register(operand, n) => {
             past_name(&mut *counter, n);
             let r = field(bank, size, operand);
-            let read = registers::read(&code[n..], size);
-            let a = of_register(read, size, r, bank, flags, regs, &mut *counter);
+            let behind = &code[n..];
+            let read = registers::read(behind, size);
+            let a = of_register(read, behind, size, r, bank, flags, regs, &mut *counter);
             back(a, here, counter)
         }
         Chosen::Short => Answer::Refused(Why::NoCode),

@@ -1,6 +1,7 @@
 -- An operand in the registers, by where it begins.
-use Rattle.little.specs.Words.{_+_, _%_, _<_, _≤_, _≡_}
+use Rattle.little.specs.Words.{_+_, _%_, _<_, _≤_, _≡_, Bool, false, eqb}
 use Rattle.little.specs.{declared.Size.Size, Width.bytesOf, Width.bitsOf}
+use Rattle.little.specs.declared.Size.the-variants.{Byte, Word, Long}
 use Rattle.state.specs.declared.{Bank.Bank, named.Field.Field}
 use Rattle.state.specs.{Named.byteNamed, Named.Bits, Named.bits, Named.nowhere, Named.named, Named.codeFor, inner.Field.fieldAt}
 use Rattle.code.specs.declared.{Operand.Operand}
@@ -26,3 +27,9 @@ pub record BeginsAt (bank : Bank) (z : Size) (o : Operand) (f : Field) : Type 0 
   pub there : placed bank z o ≡ bits (f .index) (f .start) (bitsOf z)
   pub known : f .index < 20
   pub within : f .start + bitsOf z ≤ 32
+
+-- whether what begins at a field is the lower half of what is twice as wide
+abbrev pub lowAt : Size → Field → Bool
+lowAt Byte f = eqb (f .start % 16) 0
+lowAt Word f = eqb (f .start % 32) 0
+lowAt Long f = false

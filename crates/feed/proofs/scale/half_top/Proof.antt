@@ -2,30 +2,22 @@ use mathlib.Core.Path.{refl}
 use borrow.Author.Needs.{needs}
 use Rattle.feed.proofs.scale.half_top.Statement.{statement}
 use Rattle.feed.proofs.scale.half_top.Tie as tie
-use Rattle.feed.proofs.scale.half_top.Reads as reads
-use Rattle.feed.proofs.scale.half_top.Lts as lts
 
--- src/scale.rt:53:23
 enum-told : tie.Need-enum-told
 enum-told c = search needs
 
--- src/scale.rt:54:23
 enum-told-2 : tie.Need-enum-told-2
 enum-told-2 c = search needs
 
--- src/scale.rt:55:23
 enum-told-3 : tie.Need-enum-told-3
 enum-told-3 c = search needs
 
--- src/scale.rt:48:1
 returns : tie.Need-returns
 returns c = (rw (c .enum-told .given .1) refl, search needs)
 
--- src/scale.rt:48:1
 returns-2 : tie.Need-returns-2
 returns-2 c = (rw (c .enum-told2 .given .1) refl, search needs)
 
--- src/scale.rt:48:1
 returns-3 : tie.Need-returns-3
 returns-3 c = (rw (c .enum-told3 .given .1) refl, search needs)
 

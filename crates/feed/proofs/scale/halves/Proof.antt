@@ -1,26 +1,20 @@
-use Rattle.feed.proofs.Results.{halves-lt, halves-made}
 use native.Mathlib.Omega.{arith}
+use Rattle.feed.proofs.Results.{halves-lt, halves-made}
 use borrow.Author.Needs.{needs}
 use Rattle.feed.proofs.scale.halves.Statement.{statement}
 use Rattle.feed.proofs.scale.halves.Tie as tie
-use Rattle.feed.proofs.scale.halves.Reads as reads
-use Rattle.feed.proofs.scale.halves.Lts as lts
 
--- src/scale.rt:112:29
 mul-t4 : tie.Need-mul-t4
 mul-t4 c = search needs
 
--- src/scale.rt:112:16
 mul-t5 : tie.Need-mul-t5
-mul-t5 c = 
-    let h = halves-lt (c .args .t) (c .args .quotient) (c .args .remainder) (c .pre .0) (c .pre .1) (c .pre .2) in
+mul-t5 c =
+    let h = halves-lt (c .pre .0) (c .pre .1) (c .pre .2) in
     record { fits = omega arith }
 
--- src/scale.rt:112:16
 add-t6 : tie.Need-add-t6
-add-t6 c = record { fits = halves-lt (c .args .t) (c .args .quotient) (c .args .remainder) (c .pre .0) (c .pre .1) (c .pre .2) }
+add-t6 c = record { fits = halves-lt (c .pre .0) (c .pre .1) (c .pre .2) }
 
--- src/scale.rt:107:1
 returns : tie.Need-returns
 returns c = λ k p e. halves-made k (c .args .t) (c .args .quotient) (c .args .remainder) p e
 

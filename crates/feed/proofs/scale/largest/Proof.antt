@@ -2,18 +2,13 @@ use native.Mathlib.Omega.{arith}
 use borrow.Author.Needs.{needs}
 use Rattle.feed.proofs.scale.largest.Statement.{statement}
 use Rattle.feed.proofs.scale.largest.Tie as tie
-use Rattle.feed.proofs.scale.largest.Reads as reads
-use Rattle.feed.proofs.scale.largest.Lts as lts
 
--- src/scale.rt:138:27
 sub-result : tie.Need-sub-result
 sub-result c = search needs
 
--- src/scale.rt:134:1
 returns : tie.Need-returns
 returns c = search needs
 
--- src/scale.rt:134:1
 returns-2 : tie.Need-returns-2
 returns-2 c = (simp (c .if1 .left), omega arith)
 

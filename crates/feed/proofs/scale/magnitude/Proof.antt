@@ -1,20 +1,15 @@
-use borrow.Author.Tests.{le-leb, lt-leb}
 use native.Mathlib.Omega.{arith}
+use borrow.Author.Tests.{le-leb, lt-leb}
 use borrow.Author.Needs.{needs}
 use Rattle.feed.proofs.scale.magnitude.Statement.{statement}
 use Rattle.feed.proofs.scale.magnitude.Tie as tie
-use Rattle.feed.proofs.scale.magnitude.Reads as reads
-use Rattle.feed.proofs.scale.magnitude.Lts as lts
 
--- src/scale.rt:64:19
 sub-result : tie.Need-sub-result
 sub-result c = search needs
 
--- src/scale.rt:60:1
 returns : tie.Need-returns
 returns c = (simp (le-leb _ _ (c .if1 .taken)) (omega arith), omega arith)
 
--- src/scale.rt:60:1
 returns-2 : tie.Need-returns-2
 returns-2 c = (simp (lt-leb _ _ (c .if1 .left)), omega arith)
 

@@ -1,25 +1,18 @@
-use Rattle.feed.proofs.Results.{product-lt}
 use Rattle.feed.specs.Scale.{mulOf}
+use Rattle.feed.proofs.Results.{product-lt}
 use borrow.Author.Needs.{needs}
 use Rattle.feed.proofs.scale.mul.Statement.{statement}
 use Rattle.feed.proofs.scale.mul.Tie as tie
-use Rattle.feed.proofs.scale.mul.Reads as reads
-use Rattle.feed.proofs.scale.mul.Lts as lts
-use Rattle.feed.proofs.scale.low_half.Reads as low-half-reads
 
--- src/scale.rt:83:5
 low-half-requires : tie.Need-low-half-requires
 low-half-requires c κs = search needs
 
--- src/scale.rt:83:25
 low-half-requires-2 : tie.Need-low-half-requires-2
 low-half-requires-2 c κs = search needs
 
--- src/scale.rt:83:5
 mul-result : tie.Need-mul-result
-mul-result c = record { fits = product-lt (c .before .low-half .result) (c .low-half2 .result) (c .before .low-half .ensures .1) (c .low-half2 .ensures .1) }
+mul-result c = record { fits = product-lt (c .before .low-half .ensures .1) (c .low-half2 .ensures .1) }
 
--- src/scale.rt:80:1
 returns : tie.Need-returns
 unfolding mulOf
 returns c = rw (c .before .low-half .ensures .0, c .low-half2 .ensures .0)

@@ -2,110 +2,76 @@ use mathlib.Core.Path.{refl}
 use borrow.Author.Needs.{needs}
 use Rattle.feed.proofs.scale.scaled.Statement.{statement}
 use Rattle.feed.proofs.scale.scaled.Tie as tie
-use Rattle.feed.proofs.scale.scaled.Reads as reads
-use Rattle.feed.proofs.scale.scaled.Lts as lts
-use Rattle.feed.proofs.scale.div.Reads as div-reads
-use Rattle.feed.proofs.scale.divs.Reads as divs-reads
-use Rattle.feed.proofs.scale.judged.Reads as judged-reads
-use Rattle.feed.proofs.scale.mul.Reads as mul-reads
-use Rattle.feed.proofs.scale.muls.Reads as muls-reads
-use Rattle.flags.proofs.keeping.Reads as keeping-reads
-use Rattle.flags.proofs.settled.Reads as settled-reads
-use Rattle.flags.proofs.unpack.Reads as unpack-reads
 
--- src/scale.rt:177:46
 enum-told : tie.Need-enum-told
 enum-told c = search needs
 
--- src/scale.rt:177:39
 unpack-requires : tie.Need-unpack-requires
 unpack-requires c κs = search needs
 
--- src/scale.rt:177:55
 mul-requires : tie.Need-mul-requires
 mul-requires c κs = search needs
 
--- src/scale.rt:177:31
 keeping-requires : tie.Need-keeping-requires
 keeping-requires c κs = search needs
 
--- src/scale.rt:177:23
 settled-requires : tie.Need-settled-requires
 settled-requires c κs = search needs
 
--- src/scale.rt:178:47
 enum-told-2 : tie.Need-enum-told-2
 enum-told-2 c = search needs
 
--- src/scale.rt:178:40
 unpack-requires-2 : tie.Need-unpack-requires-2
 unpack-requires-2 c κs = search needs
 
--- src/scale.rt:178:56
 muls-requires : tie.Need-muls-requires
 muls-requires c κs = search needs
 
--- src/scale.rt:178:32
 keeping-requires-2 : tie.Need-keeping-requires-2
 keeping-requires-2 c κs = search needs
 
--- src/scale.rt:178:24
 settled-requires-2 : tie.Need-settled-requires-2
 settled-requires-2 c κs = search needs
 
--- src/scale.rt:179:45
 enum-told-3 : tie.Need-enum-told-3
 enum-told-3 c = search needs
 
--- src/scale.rt:179:38
 unpack-requires-3 : tie.Need-unpack-requires-3
 unpack-requires-3 c κs = search needs
 
--- src/scale.rt:179:54
 div-requires : tie.Need-div-requires
 div-requires c κs = search needs
 
--- src/scale.rt:179:31
 judged-requires : tie.Need-judged-requires
 judged-requires c κs = search needs
 
--- src/scale.rt:179:23
 settled-requires-3 : tie.Need-settled-requires-3
 settled-requires-3 c κs = search needs
 
--- src/scale.rt:180:46
 enum-told-4 : tie.Need-enum-told-4
 enum-told-4 c = search needs
 
--- src/scale.rt:180:39
 unpack-requires-4 : tie.Need-unpack-requires-4
 unpack-requires-4 c κs = search needs
 
--- src/scale.rt:180:55
 divs-requires : tie.Need-divs-requires
 divs-requires c κs = search needs
 
--- src/scale.rt:180:32
 judged-requires-2 : tie.Need-judged-requires-2
 judged-requires-2 c κs = search needs
 
--- src/scale.rt:180:24
 settled-requires-4 : tie.Need-settled-requires-4
 settled-requires-4 c κs = search needs
 
--- src/scale.rt:172:1
 returns : tie.Need-returns
 returns c = rw (c .settled .ensures .0, c .settled .ensures .1, c .before .before .keeping .ensures, c .before .before .before .mul .ensures, c .before .before .before .before .unpack .ensures, c .before .before .before .before .before .before .enum-told .given .1) (refl, refl)
 
--- src/scale.rt:172:1
 returns-2 : tie.Need-returns-2
 returns-2 c = rw (c .settled2 .ensures .0, c .settled2 .ensures .1, c .before .before .keeping2 .ensures, c .before .before .before .muls .ensures, c .before .before .before .before .unpack2 .ensures, c .before .before .before .before .before .before .enum-told2 .given .1) (refl, refl)
 
--- src/scale.rt:172:1
 returns-3 : tie.Need-returns-3
 returns-3 c = rw (c .settled3 .ensures .0, c .settled3 .ensures .1, c .before .before .judged .ensures, c .before .before .before .div .ensures, c .before .before .before .before .unpack3 .ensures, c .before .before .before .before .before .before .enum-told3 .given .1) (refl, refl)
 
--- src/scale.rt:172:1
 returns-4 : tie.Need-returns-4
 returns-4 c = rw (c .settled4 .ensures .0, c .settled4 .ensures .1, c .before .before .judged2 .ensures, c .before .before .before .divs .ensures, c .before .before .before .before .unpack4 .ensures, c .before .before .before .before .before .before .enum-told4 .given .1) (refl, refl)
 

@@ -1,28 +1,21 @@
-use borrow.Author.Tests.{lt-ltb, le-ltb}
 use native.Mathlib.Omega.{arith}
+use borrow.Author.Tests.{lt-ltb, le-ltb}
 use borrow.Author.Needs.{needs}
 use Rattle.feed.proofs.scale.with_sign.Statement.{statement}
 use Rattle.feed.proofs.scale.with_sign.Tie as tie
-use Rattle.feed.proofs.scale.with_sign.Reads as reads
-use Rattle.feed.proofs.scale.with_sign.Lts as lts
 
--- src/scale.rt:74:20
 sub-result : tie.Need-sub-result
 sub-result c = search needs
 
--- src/scale.rt:74:20
 add-result : tie.Need-add-result
 add-result c = search needs
 
--- src/scale.rt:74:13
 returns : tie.Need-returns
 returns c = simp (c .before .if1 .taken, lt-ltb _ _ (c .if2 .taken)) (omega arith)
 
--- src/scale.rt:68:1
 returns-2 : tie.Need-returns-2
 returns-2 c = simp (c .before .if1 .taken, le-ltb _ _ (c .if2 .left))
 
--- src/scale.rt:68:1
 returns-3 : tie.Need-returns-3
 returns-3 c = search needs
 
