@@ -56,11 +56,10 @@ module _ (m z : Bool) where
 pub goes-not : (again rest : Bool) → again ≡ false → false ≡ (again && rest)
 goes-not again rest e = rw e refl
 
-pub again-more : (stays left goes : Bool) → goes ≡ true → (stays && left) ≡ (stays && (left && goes))
-again-more stays true goes e = rw e refl
-again-more stays false goes e = refl
+pub again-more : (left goes : Bool) → goes ≡ true → left ≡ (left && goes)
+again-more true goes e = sym e
+again-more false goes e = refl
 
-pub again-not : (stays left goes : Bool) → goes ≡ false → false ≡ (stays && (left && goes))
-again-not true true goes e = rw e refl
-again-not true false goes e = refl
-again-not false left goes e = refl
+pub again-not : (left goes : Bool) → goes ≡ false → false ≡ (left && goes)
+again-not true goes e = sym e
+again-not false goes e = refl

@@ -203,11 +203,11 @@ pub fn in_rom(ram_len: usize, rom_len: usize, at: u32) -> bool
 }
 
 // Whether another round is done in the same call.
-pub fn again(f: Form, stays: bool, left: u32, bank: Bank, flags: u16, regs: &[u32; 20]) -> bool
-    ensures { λ r. ⌜ ((s : State) → r ≡ againOf f stays left (bankedWith s (now (regs .entry)) bank flags)) ⌝ }
+pub fn again(f: Form, left: u32, bank: Bank, flags: u16, regs: &[u32; 20]) -> bool
+    ensures { λ r. ⌜ ((s : State) → r ≡ againOf f left (bankedWith s (now (regs .entry)) bank flags)) ⌝ }
 {
     if goes_on(f, bank, flags, regs) {
-        return stays & (0 < left);
+        return 0 < left;
     }
     false
 }

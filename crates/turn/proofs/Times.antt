@@ -1,8 +1,8 @@
 -- Laws of several steps in one call.
-use Prim.Native.Nat.{ℕ, suc, _+_, _-_, _%_, _^_, _<_}
+use Prim.Native.Nat.{ℕ, suc, _+_, _-_, _%_, _^_, _<_, _≤_}
 use mathlib.Core.Path.{_≡_, refl, ap, sym, _∙_}
 use mathlib.Core.List.{List}
-use mathlib.Core.Bool.{Bool, true, _&&_}
+use mathlib.Core.Bool.{Bool, true, false}
 use native.Mathlib.Omega.{arith}
 use native.Mathlib.Nat.{sub-self, mod-eq-of-lt}
 use lib.ListN.{length}
@@ -32,7 +32,7 @@ use Rattle.operand.specs.Try.{Try, did, no, Outcome, leaves, andThen, after}
 use Rattle.block.specs.Block.{roundOf, goesOn, endsAt}
 use Rattle.exec.specs.Exec.{pastOf, effectOf, executedOf, done}
 use Rattle.turn.specs.Once.{onceOf}
-use Rattle.turn.specs.inner.Times.{timesOf, Fewer, Stands}
+use Rattle.turn.specs.inner.Times.{timesOf, Fewer, roundsOf, Stands}
 use Rattle.block.specs.inner.Again.{inRom, againOf}
 
 -- ---- what was tried, from what a call leaves
@@ -74,11 +74,17 @@ times-more k s ram rom t m e = rw e refl
 pub times-none : (n : ℕ) (s : State) (ram rom : List ℕ) → timesOf (suc (0 - n)) s ram rom ≡ onceOf s ram rom
 times-none n s ram rom = let z : 0 - n ≡ 0 - 0 = omega arith in ap (λ (k : ℕ). timesOf (suc k) s ram rom) z ∙ times-one 0 s ram rom
 
-pub again-says : (f : Form) (stays : Bool) (left : ℕ) (s : State) → againOf f stays left s ≡ true → (stays ≡ true) × (0 < left) × (goesOn f s ≡ true)
-again-says f stays left s e =
-    let a = and-true stays (ltb 0 left && goesOn f s) e in
-    let b = and-true (ltb 0 left) (goesOn f s) (a .1) in
-    (a .0, ltb-true 0 left (b .0), b .1)
+pub again-says : (f : Form) (left : ℕ) (s : State) → againOf f left s ≡ true → (0 < left) × (goesOn f s ≡ true)
+again-says f left s e = let a = and-true (ltb 0 left) (goesOn f s) e in (ltb-true 0 left (a .0), a .1)
+
+-- no more rounds than there are steps for, and none where the form does not stay what it is
+pub rounds-few : (stays : Bool) (more : ℕ) → roundsOf stays more ≤ more
+rounds-few true more = omega arith
+rounds-few false more = omega arith
+
+pub rounds-stay : (stays : Bool) (more : ℕ) → 0 < roundsOf stays more → stays ≡ true
+rounds-stay true more l = refl
+rounds-stay false more l = absurd (omega arith)
 
 pub fewer-same : (a : Answer) (n : ℕ) → Fewer a n n
 fewer-same Done n = omega arith

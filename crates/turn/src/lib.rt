@@ -14,7 +14,7 @@ ghost use Rattle.operand.specs.Operand.{addressIn};
 ghost use Rattle.operand.specs.Try.{andThen};
 ghost use Rattle.operand.specs.inner.Does.{Does};
 ghost use Rattle.block.specs.Block.{roundOf, endsAt};
-ghost use Rattle.turn.specs.inner.Times.{timesOf, Fewer, Stands, pastName};
+ghost use Rattle.turn.specs.inner.Times.{timesOf, Fewer, roundsOf, Stands, pastName};
 ghost use Rattle.turn.specs.Many.{result, stopped, manyOf};
 use answer::Answer;
 use answer::Why;
@@ -39,6 +39,16 @@ use state::State;
 use state::current;
 use state::mask;
 
+// How many rounds more one call can do: only a form that stays what it is goes on in it.
+fn rounds(stays: bool, more: u32) -> u32
+    ensures { λ r. ⌜ r ≡ roundsOf stays more ⌝ }
+{
+    if stays {
+        return more;
+    }
+    0
+}
+
 // A round of the form that stands at an address, and as many more as there are steps for and the form goes on; the counter is
 // past it. In ROM the form stays what it is, so that it is not read again for each round.
 fn block(
@@ -58,24 +68,25 @@ fn block(
         (bankedAtWith s (now (regs .entry)) bank (now (counter .entry)) (now (flags .entry))) (now (ram .entry))
         a (bankedAtWith s (now (regs .exit)) bank (now (counter .exit)) (now (flags .exit))) (now (ram .exit))) ⌝ }
 {
-    let stays = in_rom(ram.len(), rom.len(), at);
-    let mut left = *more;
+    let most = rounds(in_rom(ram.len(), rom.len(), at), *more);
+    let apart = *more - most;
+    let mut left = most;
     loop {
         let a = round(f, bank, &mut *flags, &mut *regs, &mut *ram, rom);
         if let Answer::Refused(_) = a {
-            if left == *more {
+            if left == most {
                 return a;
             }
             // The rounds before it are done; the refused one is for the next call.
-            *more = left + 1;
+            *more = apart + left + 1;
             *counter = at;
             return Answer::Done;
         }
-        if again(f, stays, left, bank, *flags, &*regs) {
+        if again(f, left, bank, *flags, &*regs) {
             left -= 1;
         } else {
             *counter = ended(f, at, bank, *flags, &*regs, *counter);
-            *more = left;
+            *more = apart + left;
             return Answer::Done;
         }
     }

@@ -51,6 +51,17 @@ const KINDS: &str = "
     SLA 1,r       | CA EC 01       | DA EC 01       | EA EC 01
     SLA 4,r       | CA EC 04       | DA EC 04       | EA EC 04
     SLA 16,r      | CA EC 00       | DA EC 00       | EA EC 00
+    MUL R,r       | CA 47          | DA 43          | -
+    MULS R,r      | CA 4F          | DA 4B          | -
+    DIV R,r       | CA 57          | DA 53          | -
+    DIVS R,r      | CA 5F          | DA 5B          | -
+    MUL r,n       | CF 08 5B       | DB 08 5B A5    | -
+    MULS r,n      | CF 09 5B       | DB 09 5B A5    | -
+    DIV r,n       | CF 0A 5B       | DB 0A 5B A5    | -
+    DIVS r,n      | CF 0B B3       | DB 0B 01 A0    | -
+    DIV r,0       | CF 0A 00       | DB 0A 00 00    | -
+    MINC1 8,r     | -              | DA 38 07 00    | -
+    MDEC1 8,r     | -              | DA 3C 07 00    | -
     LD R,r (C7)   | C7 25 8B       | D7 28 8B       | E7 28 8B
     LD R,r' (C7)  | C7 D5 8B       | D7 D8 8B       | E7 D8 8B
     LD r,R (C7)   | C7 25 9B       | D7 28 9B       | E7 28 9B
@@ -97,6 +108,12 @@ const OTHER_BANKS: [u8; 2] = [2, 3];
 const RETI: [u8; 1] = [0x07];
 const RETI_STACK: u32 = 0x1000;
 const XSP: u8 = 7;
+
+/// What XHL holds for DIVS, of bytes and of words: divided by what B and DE hold, it
+/// gives itself as remainder and quotient, so that no step overflows. A quotient
+/// without a sign fits for ever once it does.
+const DIVIDENDS: [u32; 2] = [0x0000_E655, 0xE000_5555];
+const XHL: u8 = 3;
 
 pub struct Kind {
     pub name: &'static str,
@@ -148,7 +165,19 @@ impl Code {
         if self.bytes == RETI {
             lay_returns(&mut scene);
         }
+        if let Some(dividend) = self.dividend() {
+            scene.machine.set(Width::Long, XHL, dividend);
+        }
         scene
+    }
+
+    /// What is divided by DIVS.
+    fn dividend(&self) -> Option<u32> {
+        match self.bytes[..] {
+            [0xCA, 0x5F] | [0xCF, 0x0B, _] => Some(DIVIDENDS[0]),
+            [0xDA, 0x5B] | [0xDB, 0x0B, _, _] => Some(DIVIDENDS[1]),
+            _ => None,
+        }
     }
 
     /// Whether every step of a run does this instruction and no other.

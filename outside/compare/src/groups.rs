@@ -6,6 +6,7 @@ mod blocks;
 mod codes;
 mod ends;
 mod examples;
+mod feed;
 mod flow;
 mod marks;
 mod memories;
@@ -25,6 +26,8 @@ pub struct Bench<'a> {
     pub chance: Chance,
     /// How many times the drawn cases are drawn anew.
     pub rounds: u32,
+    /// Whether a part stands for all where there are tens of millions of steps.
+    pub sparse: bool,
 }
 
 /// A name and what is compared under it.
@@ -40,6 +43,16 @@ pub const GROUPS: &[Group] = &[
     Group("every-register-code", banks::every_code),
     Group("any-register-drawn", banks::drawn),
     Group("register-codes-cut", banks::cut),
+    Group("every-byte-div", feed::every_byte_div),
+    Group("every-byte-divs", feed::every_byte_divs),
+    Group("every-byte-product", feed::every_byte_product),
+    Group("byte-quotients-at-the-ends", feed::byte_quotient_ends),
+    Group("word-products", feed::word_products),
+    Group("word-quotients", feed::word_quotients),
+    Group("modulo-steps", feed::every_word),
+    Group("modulo-numbers", feed::every_number),
+    Group("feed-operand-codes", feed::every_operand),
+    Group("feed-codes-cut", feed::cut_codes),
     Group("all-byte-pairs", arithmetic::all_byte_pairs),
     Group("turning-values", arithmetic::turning_values),
     Group("counts-shifts-extensions", arithmetic::one_operand),

@@ -6,11 +6,12 @@
 //! agree proves nothing, but where they differ one is wrong.
 //!
 //! ```text
-//! compare [--seed N] [--rounds N] [--group NAME] [--case 'TEXT']
+//! compare [--seed N] [--rounds N] [--group NAME] [--sparse] [--case 'TEXT']
 //! ```
 //!
 //! `--rounds` draws the drawn cases that many times over; `--group` does one
-//! group alone; `--case` does one printed case again.
+//! group alone; `--sparse` does a part of what has most steps, for who has to wait
+//! for an emulator; `--case` does one printed case again.
 
 #![forbid(unsafe_code)]
 
@@ -37,6 +38,7 @@ struct Wish {
     seed: u64,
     rounds: u32,
     group: Option<String>,
+    sparse: bool,
     case: Option<String>,
 }
 
@@ -45,10 +47,15 @@ fn wish() -> Result<Wish, String> {
         seed: SEED,
         rounds: 1,
         group: None,
+        sparse: false,
         case: None,
     };
     let mut words = std::env::args().skip(1);
     while let Some(word) = words.next() {
+        if word == "--sparse" {
+            wish.sparse = true;
+            continue;
+        }
         let value = words.next().ok_or(format!("{word} needs a value"))?;
         let bad = |_| format!("{word} takes a number, not {value}");
         match word.as_str() {
@@ -91,7 +98,11 @@ fn replay(text: &str) -> bool {
 }
 
 fn compare(wish: &Wish) -> bool {
-    println!("compare: seed {}, rounds {}", wish.seed, wish.rounds);
+    let sparse = if wish.sparse { ", sparse" } else { "" };
+    println!(
+        "compare: seed {}, rounds {}{sparse}",
+        wish.seed, wish.rounds
+    );
     let wanted = |group: &&Group| match &wish.group {
         Some(name) => name == group.0,
         None => true,
@@ -104,7 +115,7 @@ fn compare(wish: &Wish) -> bool {
     let all = tallies.fold(Tally::default(), Tally::and);
     tell(&all);
     if wish.group.is_none() {
-        let enough = enough(&all);
+        let enough = enough(&all, wish.sparse);
         passed += usize::from(enough);
         failed += usize::from(!enough);
     }
@@ -164,6 +175,7 @@ fn judged(Group(name, work): &Group, wish: &Wish) -> Judge {
         chance: Chance::for_purpose(wish.seed, name),
         judge: &mut judge,
         rounds: wish.rounds,
+        sparse: wish.sparse,
     });
     println!(
         "{:>26}: {:>8} single steps, {:>8} steps in all, {:>7} requests, {:>6} moves, {:>5.1} s, {}",
@@ -185,8 +197,9 @@ fn judged(Group(name, work): &Group, wish: &Wish) -> Judge {
 /// Whether enough was compared for the agreement to say anything: millions
 /// of steps, a million requests, half of them taken, a million moves with each
 /// outcome among them, and every number answered.
-fn enough(all: &Tally) -> bool {
-    let enough = all.done >= 5_000_000
+fn enough(all: &Tally, sparse: bool) -> bool {
+    let steps = if sparse { 15_000_000 } else { 80_000_000 };
+    let enough = all.done >= steps
         && all.single >= 1_000_000
         && all.requests >= 1_000_000
         && 2 * all.taken >= all.requests

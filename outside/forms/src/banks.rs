@@ -1,7 +1,8 @@
 //! Which bytes of a record a register code of K1 names, as data to test with.
 //!
-//! Written from K1, the map that was decided for it, and 003's tables of names
-//! (lines 346 to 386) alone.
+//! Written from K1, the map that was decided for it, 003's tables of names (lines
+//! 346 to 386), and for registers of twice the size from K7 and 000's tables of RR
+//! and rr alone.
 
 use std::ops::Range;
 
@@ -67,6 +68,34 @@ impl Size {
         named.expect("the code of a register")
     }
 
+    /// The bytes of the register of twice this size whose lower half these are;
+    /// `None` if they are an upper half, or a long.
+    pub fn whole(self, lower: Range<usize>) -> Option<Range<usize>> {
+        let bytes = 2 * self.bytes;
+        let begins_one = bytes <= 4 && lower.start % bytes == 0;
+        begins_one.then_some(lower.start..lower.start + bytes)
+    }
+
+    /// What a register form takes r for: itself, or the register whose lower half
+    /// it is. `None` if there is no such register.
+    pub fn taken(self, second: u8, r: Range<usize>) -> Option<Range<usize>> {
+        match written(second) {
+            Written::WholeNamed => self.whole(r),
+            _ => Some(r),
+        }
+    }
+
+    /// The bytes of R of a register form, or of the register whose lower half R is,
+    /// where that is meant. MUL to DIVS by a constant have no R.
+    pub fn beside(self, second: u8, bank: u8) -> Range<usize> {
+        let beside = self.plain(second & 7, bank);
+        match written(second) {
+            Written::WholeNamed => 0..0,
+            Written::WholeBeside => self.whole(beside.clone()).unwrap_or(beside),
+            _ => beside,
+        }
+    }
+
     /// The code of what 01 calls by 0 to 7.
     fn code_of_plain(self, r: u8) -> u8 {
         match self.bytes {
@@ -85,17 +114,51 @@ pub enum Written {
     Named,
     /// R, which the lowest three bits name.
     Beside,
+    /// The register whose lower half r is: MUL to DIVS by a constant.
+    WholeNamed,
+    /// The register whose lower half R is: MUL to DIVS by r.
+    WholeBeside,
+}
+
+/// The bytes that a register form writes; `named` are those of r, and `second` is
+/// the byte behind it. None where nothing is written, or there is no such register.
+pub fn place_written(size: Size, named: &Range<usize>, second: u8, bank: u8) -> Range<usize> {
+    let beside = size.plain(second & 7, bank);
+    let place = match written(second) {
+        Written::Nothing => None,
+        Written::Named => Some(named.clone()),
+        Written::Beside => Some(beside),
+        Written::WholeNamed => size.whole(named.clone()),
+        Written::WholeBeside => size.whole(beside),
+    };
+    place.unwrap_or(0..0)
+}
+
+/// The registers of 01, as their numbers and bytes, that can change places with r of
+/// a register form: those that have nothing in common with R.
+pub fn stand_ins(size: Size, second: u8, bank: u8) -> Vec<(u8, Range<usize>)> {
+    let taken = |r| Some((r, size.taken(second, size.plain(r, bank))?));
+    let beside = size.beside(second, bank);
+    let all = (0..8).filter_map(taken);
+    all.filter(|(_, place)| !overlap(place, &beside)).collect()
+}
+
+/// Whether two registers have a byte in common.
+pub fn overlap(one: &Range<usize>, other: &Range<usize>) -> bool {
+    one.start < other.end && other.start < one.end
 }
 
 /// What a register form with this second byte, the first behind r, writes.
 pub fn written(second: u8) -> Written {
     match second {
         0xCF | 0xF0..=0xF7 => Written::Nothing,
+        0x08..=0x0B => Written::WholeNamed,
+        0x40..=0x5F => Written::WholeBeside,
         // LD r,R; with a constant; shifts
         0x98..=0x9F | 0xC8..=0xCE | 0xEC..=0xEF => Written::Named,
         // LD R,r and what changes R
         0x80..=0xE7 => Written::Beside,
-        // LD r,n; INC, DEC and extensions
+        // LD r,n; INC, DEC and extensions; MINC and MDEC
         _ => Written::Named,
     }
 }

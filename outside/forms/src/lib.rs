@@ -8,6 +8,7 @@
 #![forbid(unsafe_code)]
 
 pub mod banks;
+pub mod feed;
 pub mod marks;
 pub mod records;
 pub mod requests;
@@ -17,7 +18,8 @@ pub mod requests;
 /// of a displacement. Where forms differ only in what they do they may share a
 /// line; the comparison draws equally often from each line. What K1 adds is
 /// called any byte, any word, any long: these have few lines, or there would be
-/// too much of them in what is drawn.
+/// too much of them in what is drawn. MINC and MDEC have two lines for each step:
+/// numbers to 80H, which differ in the low byte, and those from 100H on.
 const LISTED: &str = "
     NOP                 | 00
     INCF                | 0C
@@ -68,17 +70,36 @@ const LISTED: &str = "
     EXTZ r              | D8-DF,E8-EF 12
     EXTS r              | D8-DF,E8-EF 13
 
+    MUL to DIVS R,r8    | C8-CF 41-5F/2
+    MUL to DIVS R,r16   | D8-DF 40-5F
+    MUL to DIVS r,n8    | C9-CF/2 08-0B n
+    MUL to DIVS r,n16   | D8-DF 08-0B n n
+    MINC1 MDEC1 to 80H  | D8-DF 38,3C 01,03,07,0F,1F,3F,7F 00
+    MINC1 MDEC1 beyond  | D8-DF 38,3C FF 00,01,03,07,0F,1F,3F,7F
+    MINC2 MDEC2 to 80H  | D8-DF 39,3D 02,06,0E,1E,3E,7E 00
+    MINC2 MDEC2 beyond  | D8-DF 39,3D FE 00,01,03,07,0F,1F,3F,7F
+    MINC4 MDEC4 to 80H  | D8-DF 3A,3E 04,0C,1C,3C,7C 00
+    MINC4 MDEC4 beyond  | D8-DF 3A,3E FC 00,01,03,07,0F,1F,3F,7F
+
     any byte with n8    | C7 00-3F,D0-FF 03,C8-CF n
     any word with n16   | D7 00-3F/2,D0-FF/2 03,C8-CF n n
     any long with n32   | E7 00-3F/4,D0-FF/4 03,C8-CF n n n n
-    any byte, R or none | C7 00-3F,D0-FF 60-6F,80-9F,A0-A7,B0-B7,C0-C7,D0-D7,E0-E7,F0-F7
-    any word, R or none | D7 00-3F/2,D0-FF/2 60-6F,80-9F,A0-A7,B0-B7,C0-C7,D0-D7,E0-E7,F0-F7
+    any byte, R or none | C7 00-3F,D0-FF 41-5F/2,60-6F,80-9F,A0-A7,B0-B7,C0-C7,D0-D7,E0-E7,F0-F7
+    any word, R or none | D7 00-3F/2,D0-FF/2 40-5F,60-6F,80-9F,A0-A7,B0-B7,C0-C7,D0-D7,E0-E7,F0-F7
     any long, R or none | E7 00-3F/4,D0-FF/4 60-6F,80-9F,A0-A7,B0-B7,C0-C7,D0-D7,E0-E7,F0-F7
     SLA to SRL any byte | C7 00-3F,D0-FF EC-EF 00-0F
     SLA to SRL any word | D7 00-3F/2,D0-FF/2 EC-EF 00-0F
     SLA to SRL any long | E7 00-3F/4,D0-FF/4 EC-EF 00-0F
     EXTZ EXTS any word  | D7 00-3F/2,D0-FF/2 12-13
     EXTZ EXTS any long  | E7 00-3F/4,D0-FF/4 12-13
+    MUL to DIVS any, n8 | C7 00-3F/2,D0-FF/2 08-0B n
+    MUL to DIVS any n16 | D7 00-3F/4,D0-FF/4 08-0B n n
+    MINC1 any, to 80H   | D7 00-3F/2,D0-FF/2 38,3C 01,03,07,0F,1F,3F,7F 00
+    MINC1 any, beyond   | D7 00-3F/2,D0-FF/2 38,3C FF 00,01,03,07,0F,1F,3F,7F
+    MINC2 any, to 80H   | D7 00-3F/2,D0-FF/2 39,3D 02,06,0E,1E,3E,7E 00
+    MINC2 any, beyond   | D7 00-3F/2,D0-FF/2 39,3D FE 00,01,03,07,0F,1F,3F,7F
+    MINC4 any, to 80H   | D7 00-3F/2,D0-FF/2 3A,3E 04,0C,1C,3C,7C 00
+    MINC4 any, beyond   | D7 00-3F/2,D0-FF/2 3A,3E FC 00,01,03,07,0F,1F,3F,7F
 
     LD R,(R)            | 80-87,90-97,A0-A7 20-27
     ADD to CP R,(R)     | 80-87,90-97,A0-A7 80-87,90-97,A0-A7,B0-B7,C0-C7,D0-D7,E0-E7,F0-F7
@@ -134,15 +155,17 @@ pub struct Form {
 /// is another instruction; elsewhere its lowest three bits name a register or a
 /// number.
 const WHOLE_FIRST: [&str; 3] = ["RCF SCF CCF ZCF", "JR cc,d8", "JRL cc,d16"];
-const WHOLE_SECOND: [&str; 6] = [
+const WHOLE_SECOND: [&str; 8] = [
     "ADD to CP r,n8",
     "ADD to CP r,n16",
     "ADD to CP r,n32",
     "SLA SRA SLL SRL n,r",
+    "MUL to DIVS r,n8",
+    "MUL to DIVS r,n16",
     "LDI LDIR LDD LDDR",
     "CPI CPIR CPD CPDR",
 ];
-const WHOLE_THIRD: [&str; 8] = [
+const WHOLE_THIRD: [&str; 10] = [
     "any byte with n8",
     "any word with n16",
     "any long with n32",
@@ -151,6 +174,8 @@ const WHOLE_THIRD: [&str; 8] = [
     "SLA to SRL any long",
     "EXTZ EXTS any word",
     "EXTZ EXTS any long",
+    "MUL to DIVS any, n8",
+    "MUL to DIVS any n16",
 ];
 
 impl Form {
@@ -158,6 +183,11 @@ impl Form {
     pub fn is_of_k1(&self) -> bool {
         let mut firsts = banks::SIZES.iter().map(|size| size.any);
         firsts.any(|first| self.slots[0].takes(first))
+    }
+
+    /// Whether it is of MINC and MDEC: a number stands in its last two bytes.
+    fn has_a_number(&self) -> bool {
+        self.name.starts_with("MINC")
     }
 
     /// The form taken apart: each part does one thing in one size, whatever
@@ -180,6 +210,10 @@ impl Form {
             1 if self.is_of_k1() => 0x00,
             1 if WHOLE_SECOND.contains(&self.name) => 0xFF,
             2 if WHOLE_THIRD.contains(&self.name) => 0xFF,
+            _ if self.has_a_number() => match place + 2 < self.slots.len() {
+                true => 0xFF,
+                false => 0x00,
+            },
             _ => 0xF8,
         }
     }

@@ -1,6 +1,6 @@
 //! What the listed codes do to the marks of K6, as data to test with.
 //!
-//! Written from K1, K6, K8 and the flag lines of 000 alone. Marks stand in the
+//! Written from K1, K6, K7, K8 and the flag lines of 000 alone. Marks stand in the
 //! bits of a record's byte: bit 0 for H of F, bit 1 for V of F, bit 2 for H of F',
 //! bit 3 for V of F'.
 
@@ -22,6 +22,8 @@ enum Fate {
     Defined,
     /// H does; V is kept.
     HDefined,
+    /// V does; H is kept.
+    VDefined,
     /// H is undefined; V is kept.
     HUndefined,
     /// H is undefined; V gets a defined value.
@@ -38,6 +40,7 @@ pub fn after(code: &[u8], marks: u8) -> u8 {
         Fate::Kept => marks,
         Fate::Defined => marks & !BOTH,
         Fate::HDefined => marks & !H,
+        Fate::VDefined => marks & !V,
         Fate::HUndefined => marks | H,
         Fate::HUndefinedVDefined => marks & !V | H,
         Fate::VUndefinedHDefined => marks & !H | V,
@@ -82,6 +85,8 @@ fn fate(code: &[u8]) -> Fate {
 fn of_register_form(first: u8, second: u8) -> Fate {
     let long = first >= 0xE7;
     match second {
+        // DIV and DIVS, by a constant and by a register
+        0x0A..=0x0B | 0x50..=0x5F => Fate::VDefined,
         // INC and DEC
         0x60..=0x6F if first <= 0xCF => Fate::Defined,
         // with a constant

@@ -2,7 +2,8 @@
 //!
 //! Every sum is made twice in numbers too wide to overflow: once of the
 //! operands as unsigned, once as signed. A carry or a borrow is an unsigned
-//! sum that does not fit, an overflow a signed sum that does not fit.
+//! sum that does not fit, an overflow a signed sum that does not fit. Products
+//! and quotients are made in such numbers, too, once as they are asked for.
 
 use crate::flags::Flags;
 use crate::width::Width;
@@ -26,6 +27,13 @@ pub(crate) enum Shift {
     Left,
     RightKeepingSign,
     RightWithZeros,
+}
+
+/// What becomes of a register by something half as wide.
+#[derive(Clone, Copy, Debug, PartialEq, Eq)]
+pub(crate) enum Scale {
+    Multiply,
+    Divide,
 }
 
 /// What `left` becomes by the operation, and the flags afterwards. A compare
@@ -125,16 +133,48 @@ pub(crate) fn shift(kind: Shift, width: Width, value: u32, places: u32) -> (u32,
 /// The lower half of a value, widened to the whole of it. Bytes have no
 /// halves that are registers; the codes for them are not listed.
 pub(crate) fn extend(width: Width, value: u32, keep_sign: bool) -> u32 {
-    let half = match width {
-        Width::Long => Width::Word,
-        Width::Word | Width::Byte => Width::Byte,
-    };
+    let half = width.half();
     let low = half.round(i64::from(value));
     if keep_sign {
         width.round(half.signed(low))
     } else {
         low
     }
+}
+
+/// MUL and MULS: the lower half of a value times something as wide as that
+/// half. The product always fits the whole.
+pub(crate) fn multiply(width: Width, value: u32, by: u32, signed: bool) -> u32 {
+    let half = width.half();
+    let low = half.round(i64::from(value));
+    width.round(half.number(low, signed) * half.number(by, signed))
+}
+
+/// DIV and DIVS: the quotient in the lower half, the remainder in the upper
+/// one, with the dividend's sign. Nothing where the divisor is 0 or the
+/// quotient does not fit its half.
+pub(crate) fn divide(width: Width, value: u32, by: u32, signed: bool) -> Option<u32> {
+    let half = width.half();
+    let (dividend, divisor) = (width.number(value, signed), half.number(by, signed));
+    let quotient = dividend.checked_div(divisor)?;
+    let remainder = dividend - quotient * divisor;
+    let low = i64::from(half.round(quotient));
+    let high = i64::from(half.round(remainder));
+    half.holds(quotient, signed)
+        .then(|| width.round(high * half.modulus() + low))
+}
+
+/// MINC and MDEC: a word goes so much up, or down if `by` is negative, but from
+/// one end of the table to its other end. 000's operation lines are done to the
+/// letter, also for a word that steps over the end and never meets it.
+pub(crate) fn cycle(value: u32, by: i64, table: i64) -> u32 {
+    let value = i64::from(value);
+    let (end, back) = match by > 0 {
+        true => (table - by, -(table - by)),
+        false => (0, table + by),
+    };
+    let moved = if value % table == end { back } else { by };
+    Width::Word.round(value + moved)
 }
 
 /// S and Z of a result, and every other flag 0.
@@ -173,6 +213,8 @@ fn defined(width: Width, flag: bool) -> Option<bool> {
 mod tests {
     //! The wide sums against the other way of seeing it: bit by bit, as
     //! wires would do it, and shifts one place at a time, as 000 writes them.
+    //! Products are summed bit by bit, too; quotients are gone through one by
+    //! one, to see what they are quotients of.
 
     use super::*;
 
@@ -378,6 +420,165 @@ mod tests {
                 };
                 assert_eq!(extend(Width::Long, high | value, false), value);
                 assert_eq!(extend(Width::Long, high | value, true), signed);
+            }
+        }
+    }
+
+    /// A part of the product for every bit that is set; that of the top bit
+    /// counts down where there are signs.
+    fn by_parts(width: Width, value: u32, by: u32, signed: bool) -> u32 {
+        let low = i64::from(extend(width, value, signed));
+        let top = bits(width) / 2 - 1;
+        let parts = (0..=top).filter(|&place| bit(by, place));
+        let product = parts.fold(0, |sum, place| match signed && place == top {
+            true => sum - (low << place),
+            false => sum + (low << place),
+        });
+        width.round(product)
+    }
+
+    fn check_product(width: Width, value: u32, by: u32) {
+        for signed in [false, true] {
+            let product = multiply(width, value, by, signed);
+            let wanted = by_parts(width, value, by, signed);
+            assert_eq!(product, wanted, "{value:X} by {by:X}, signed {signed}");
+        }
+    }
+
+    #[test]
+    fn all_products_of_bytes() {
+        for value in 0..=0xFFFF {
+            // The upper half, which has no part in it, is the other operand.
+            check_product(Width::Word, value, value >> 8);
+        }
+    }
+
+    #[test]
+    fn telling_products_of_words() {
+        for value in telling_values(Width::Long) {
+            for by in telling_values(Width::Word) {
+                check_product(Width::Long, value, by);
+            }
+        }
+    }
+
+    #[test]
+    fn products_at_both_ends() {
+        for (width, low, by, unsigned, signed) in [
+            (Width::Word, 0x80, 0x80, 0x4000, 0x4000),
+            (Width::Word, 0x80, 0x7F, 0x3F80, 0xC080),
+            (Width::Word, 0xFF, 0xFF, 0xFE01, 0x0001),
+            (Width::Long, 0x8000, 0x8000, 0x4000_0000, 0x4000_0000),
+            (Width::Long, 0x8000, 0x7FFF, 0x3FFF_8000, 0xC000_8000),
+            (Width::Long, 0xFFFF, 0xFFFF, 0xFFFE_0001, 0x0000_0001),
+        ] {
+            assert_eq!(multiply(width, low, by, false), unsigned);
+            assert_eq!(multiply(width, low, by, true), signed);
+        }
+    }
+
+    /// For each dividend of a word what it divided by a byte leaves: every
+    /// quotient that fits is gone through, with every remainder that it can have.
+    fn quotients(by: u32, signed: bool) -> Vec<Option<u32>> {
+        let mut found = vec![None; 0x1_0000];
+        let divisor = Width::Byte.number(by, signed);
+        let all = if signed { -0x80..0x80 } else { 0..0x100 };
+        for quotient in all {
+            for remainder in 1 - divisor.abs()..divisor.abs() {
+                let dividend = quotient * divisor + remainder;
+                if remainder * dividend < 0 || !signed && remainder < 0 {
+                    continue;
+                }
+                let result = (remainder & 0xFF) << 8 | quotient & 0xFF;
+                let place = &mut found[(dividend & 0xFFFF) as usize];
+                assert_eq!(*place, None, "{dividend} by {divisor} has two quotients");
+                *place = Some(result as u32);
+            }
+        }
+        found
+    }
+
+    /// Every dividend by every divisor.
+    #[test]
+    fn all_quotients_of_bytes() {
+        for signed in [false, true] {
+            for by in 0..256 {
+                for (value, wanted) in (0..).zip(quotients(by, signed)) {
+                    let result = divide(Width::Word, value, by, signed);
+                    assert_eq!(result, wanted, "{value:X} by {by:X}, signed {signed}");
+                }
+            }
+        }
+    }
+
+    /// A quotient of words and a remainder, as they stand in a long.
+    fn check_quotient(dividend: i64, divisor: i64, quotient: i64, remainder: i64, signed: bool) {
+        let (value, by) = (Width::Long.round(dividend), Width::Word.round(divisor));
+        let (low, high) = (Width::Word.round(quotient), Width::Word.round(remainder));
+        let wanted = Width::Word
+            .holds(quotient, signed)
+            .then_some(high << 16 | low);
+        let result = divide(Width::Long, value, by, signed);
+        assert_eq!(result, wanted, "{dividend} by {divisor}");
+    }
+
+    /// Quotients from just within to just beyond what a word holds, with the least
+    /// remainder and the greatest.
+    #[test]
+    fn telling_quotients_of_words() {
+        for signed in [false, true] {
+            let ends = [0, 1, 0x7FFF, 0x8000, 0x8001, 0xFFFF, 0x1_0000];
+            let ends = ends.into_iter().flat_map(|end| [end, -end]);
+            let quotients = ends.filter(|&quotient| signed || quotient >= 0);
+            for quotient in quotients {
+                for by in telling_values(Width::Word) {
+                    let divisor = Width::Word.number(by, signed);
+                    let greatest = divisor.abs() - 1;
+                    // It goes on from the product, away from zero.
+                    let away = if quotient * divisor < 0 { -1 } else { 1 };
+                    for remainder in [0, away * greatest] {
+                        let dividend = quotient * divisor + remainder;
+                        if divisor != 0 && Width::Long.holds(dividend, signed) {
+                            check_quotient(dividend, divisor, quotient, remainder, signed);
+                        }
+                    }
+                }
+            }
+        }
+    }
+
+    #[test]
+    fn nothing_is_divided_by_zero() {
+        for signed in [false, true] {
+            for value in telling_values(Width::Long) {
+                let word = Width::Word.round(i64::from(value));
+                assert_eq!(divide(Width::Word, word, 0, signed), None);
+                assert_eq!(divide(Width::Long, value, 0, signed), None);
+            }
+        }
+    }
+
+    /// Every table that there is, place after place up and down; and what no step
+    /// of the table comes to.
+    #[test]
+    fn modulo_steps_of_every_word() {
+        for step in [1_u32, 2, 4] {
+            let numbers = (1..=15).map(|n| 1 << n);
+            for number in numbers.filter(|&number: &u32| number > step) {
+                let (by, table) = (i64::from(step), i64::from(number));
+                for first in (0..0x1_0000).step_by(number as usize) {
+                    let places: Vec<u32> = (first..first + number).step_by(step as usize).collect();
+                    let next = places.iter().cycle().skip(1);
+                    for (&place, &next) in places.iter().zip(next) {
+                        assert_eq!(cycle(place, by, table), next);
+                        assert_eq!(cycle(next, -by, table), place);
+                    }
+                }
+                for value in (0..0x1_0000).filter(|value| value % step != 0) {
+                    let up = (value + step) & 0xFFFF;
+                    assert_eq!(cycle(value, by, table), up);
+                    assert_eq!(cycle(up, -by, table), value);
+                }
             }
         }
     }

@@ -6,7 +6,7 @@
 //! a register is another matter ([`Register`]). Bytes are taken one at a time,
 //! so the first byte that is missing or fits nothing decides.
 
-use crate::arithmetic::{Operation, Shift};
+use crate::arithmetic::{Operation, Scale, Shift};
 use crate::number;
 use crate::register::Register;
 use crate::width::{gather, Width};
@@ -63,6 +63,20 @@ pub(crate) enum Instruction {
         width: Width,
         register: Register,
         keep_sign: bool,
+    },
+    /// MUL, MULS, DIV, DIVS: `width` is that of `to`, and `by` has half of it.
+    Scale {
+        kind: Scale,
+        signed: bool,
+        width: Width,
+        to: Register,
+        by: Operand,
+    },
+    /// MINC, MDEC: 1, 2 or 4 up, or down if negative, in a table of so many.
+    Cycle {
+        register: Register,
+        by: i64,
+        table: i64,
     },
     /// LDI, LDIR, LDD, LDDR: one round.
     CopyRound {
@@ -317,6 +331,13 @@ fn on_register(code: &mut Code, width: Width, register: Register) -> Decoded {
     let this = Operand::Register(register);
     Ok(match code.octal()? {
         (0, 0, 3) => load_constant(code, width, register)?,
+        (0, 1, count @ 0..=3) => {
+            // The register is judged before the constant is missed.
+            let whole = whole(width, register)?;
+            scale(count, whole, code.constant(width)?)
+        }
+        (0, 7, count) if width == Width::Word => cycle(code, register, count)?,
+        (1, count @ 0..=3, other) => scale(count, whole(width, Register::Short(other))?, this),
         (0, 2, sign @ 2..=3) if width != Width::Byte => Instruction::Extend {
             width,
             register,
@@ -367,6 +388,56 @@ fn eight_for_zero(count: u8) -> i64 {
         0 => 8,
         _ => i64::from(count),
     }
+}
+
+/// The register that a product or a dividend stands in, by its lower half. The
+/// codes of no other register are allowed.
+fn whole(half: Width, lower: Register) -> Result<(Width, Register), u8> {
+    lower.whole(half).ok_or(number::NOT_LISTED)
+}
+
+/// MUL, MULS, DIV and DIVS, in the order of their codes.
+fn scale(count: u8, (width, to): (Width, Register), by: Operand) -> Instruction {
+    Instruction::Scale {
+        kind: match count {
+            0..=1 => Scale::Multiply,
+            _ => Scale::Divide,
+        },
+        signed: count % 2 == 1,
+        width,
+        to,
+        by,
+    }
+}
+
+/// 38, 39 and 3A for MINC1, MINC2 and MINC4, 3C, 3D and 3E for MDEC1, MDEC2 and
+/// MDEC4; 3B and 3F are none.
+fn cycle(code: &mut Code, register: Register, count: u8) -> Decoded {
+    let step = match count % 4 {
+        0 => 1,
+        1 => 2,
+        2 => 4,
+        _ => return NOT_LISTED,
+    };
+    Ok(Instruction::Cycle {
+        register,
+        by: if count < 4 { step } else { -step },
+        table: table(code, step)?,
+    })
+}
+
+/// The number less the step, as a word. It is a power of two, from twice the
+/// step to 2^15; a low byte that begins no such number is 4 by itself.
+fn table(code: &mut Code, step: i64) -> Result<i64, u8> {
+    let powers = (1..=15).map(|n| 1_i64 << n);
+    let numbers = powers.filter(|&number| number > step);
+    let low = i64::from(code.byte()?);
+    let mut begun = numbers.filter(|number| (number - step) % 0x100 == low);
+    let least = begun.next().ok_or(number::NOT_LISTED)?;
+    let high = i64::from(code.byte()?);
+    let mut begun = std::iter::once(least).chain(begun);
+    let whole = begun.find(|number| (number - step) / 0x100 == high);
+    whole.ok_or(number::NOT_LISTED)
 }
 
 /// The byte after EC to EF: 1 to 15 places as such and 16 as 0.

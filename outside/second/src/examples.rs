@@ -2,9 +2,10 @@
 //! cases P1 to P12 of document 01 ([`cases`]), and more of our own, worked by
 //! hand from document 01 and the requests that have landed, for the codes that
 //! those leave out ([`hand`]); those for the marks of K6, for the interrupts of
-//! K8 and for the bank registers of K1 have tables to themselves ([`marks`],
-//! [`interrupts`], [`banks`]). They stand in six tables of plain text, to be
-//! held beside the books.
+//! K8, for the bank registers of K1 and for the multiply, divide and modulo steps
+//! of K7 have tables to themselves ([`marks`], [`interrupts`], [`banks`],
+//! [`feed`]). They stand in seven tables of plain text, to be held beside the
+//! books.
 //!
 //! They are public so that any implementation that speaks in records and
 //! memories can be run over them: [`Example::start`] gives what to begin
@@ -59,10 +60,16 @@ pub fn banks() -> Vec<Example> {
     table::read("banks.txt", include_str!("examples/banks.txt"))
 }
 
+/// Examples for the multiply, divide and modulo steps of K7, worked by hand.
+pub fn feed() -> Vec<Example> {
+    table::read("feed.txt", include_str!("examples/feed.txt"))
+}
+
 /// Every example: the books', then the cases, then those worked by hand, the
-/// marks, the interrupts and the bank registers last.
+/// marks, the interrupts, the bank registers and what K7 adds last.
 pub fn all() -> Vec<Example> {
-    [book(), cases(), hand(), marks(), interrupts(), banks()].concat()
+    let of_requests = [marks(), interrupts(), banks(), feed()].concat();
+    [book(), cases(), hand(), of_requests].concat()
 }
 
 /// One thing that a state or RAM holds.

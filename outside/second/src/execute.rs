@@ -1,6 +1,8 @@
 //! One step, and many.
 
-use crate::arithmetic::{add, combine, extend, shift, subtract, Operation};
+use crate::arithmetic::{
+    add, combine, cycle, divide, extend, multiply, shift, subtract, Operation, Scale,
+};
 use crate::decode::{decode, Carry, Instruction, Operand, Place, Round, Target};
 use crate::flags::{condition, Flags, Marks};
 use crate::machine::{address, Machine, BC, XSP};
@@ -160,6 +162,28 @@ impl Work<'_> {
                 let result = extend(width, value, keep_sign);
                 self.machine.write(width, register, result);
             }
+            Instruction::Scale {
+                kind,
+                signed,
+                width,
+                to,
+                by,
+            } => {
+                let by = self.value(width.half(), by)?;
+                match kind {
+                    Scale::Multiply => self.multiply(width, to, by, signed),
+                    Scale::Divide => self.divide(width, to, by, signed),
+                }
+            }
+            Instruction::Cycle {
+                register,
+                by,
+                table,
+            } => {
+                let value = self.machine.read(Width::Word, register);
+                let result = cycle(value, by, table);
+                self.machine.write(Width::Word, register, result);
+            }
             Instruction::CopyRound { to, from, round } => self.copy_round(to, from, round)?,
             Instruction::CompareRound { pointer, round } => self.compare_round(pointer, round)?,
         }
@@ -306,6 +330,28 @@ impl Work<'_> {
             let c = self.machine.flags().c;
             self.machine.set_flags(Flags { c, ..flags });
         }
+    }
+
+    /// MUL and MULS leave all flags, and all marks with them.
+    fn multiply(&mut self, width: Width, to: Register, by: u32, signed: bool) {
+        let value = self.machine.read(width, to);
+        let product = multiply(width, value, by, signed);
+        self.machine.write(width, to, product);
+    }
+
+    /// DIV and DIVS. V says whether there was no quotient that fits, and then
+    /// the register stays as it was. The other flags stay, H's mark too.
+    fn divide(&mut self, width: Width, to: Register, by: u32, signed: bool) {
+        let value = self.machine.read(width, to);
+        let result = divide(width, value, by, signed);
+        if let Some(divided) = result {
+            self.machine.write(width, to, divided);
+        }
+        let flags = self.machine.flags();
+        self.machine.set_flags(Flags {
+            v: Some(result.is_none()),
+            ..flags
+        });
     }
 
     /// One element from `from` to `to`; then both pointers move and BC goes

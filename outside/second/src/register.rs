@@ -49,6 +49,25 @@ impl Register {
         begins_one.then_some(Register::Among(sixteen, begin))
     }
 
+    /// The register whose lower half this one of a width is, with its own
+    /// width, if there is one (000's tables of RR and rr). Among 01's bytes it
+    /// is A, C, E and L that are lower halves: 1, 3, 5 and 7.
+    pub fn whole(self, half: Width) -> Option<(Width, Register)> {
+        let width = match half {
+            Width::Byte => Width::Word,
+            Width::Word => Width::Long,
+            Width::Long => return None,
+        };
+        let (is_lower, whole) = match self {
+            Register::Short(code) if half == Width::Byte => {
+                (code % 2 == 1, Register::Short(code / 2))
+            }
+            Register::Short(_) => (true, self),
+            Register::Among(_, begin) => (usize::from(begin) % width.bytes() == 0, self),
+        };
+        is_lower.then_some((width, whole))
+    }
+
     /// Its bytes among those of all registers, while this bank is the current
     /// one.
     pub fn place(self, width: Width, bank: u8) -> Range<usize> {

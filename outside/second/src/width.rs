@@ -21,6 +21,14 @@ impl Width {
         }
     }
 
+    /// Half the width. A byte has none, and nothing asks for it.
+    pub(crate) fn half(self) -> Width {
+        match self {
+            Width::Long => Width::Word,
+            Width::Word | Width::Byte => Width::Byte,
+        }
+    }
+
     /// One more than the greatest unsigned value.
     pub(crate) fn modulus(self) -> i64 {
         match self {
@@ -47,6 +55,15 @@ impl Width {
         }
     }
 
+    /// The value read as a number, with a sign or without.
+    pub(crate) fn number(self, value: u32, signed: bool) -> i64 {
+        if signed {
+            self.signed(value)
+        } else {
+            i64::from(value)
+        }
+    }
+
     /// Whether a signed number can be held without overflow.
     pub(crate) fn holds_signed(self, number: i64) -> bool {
         let half = self.modulus() / 2;
@@ -56,6 +73,15 @@ impl Width {
     /// Whether an unsigned number can be held without carry or borrow.
     pub(crate) fn holds_unsigned(self, number: i64) -> bool {
         (0..self.modulus()).contains(&number)
+    }
+
+    /// Whether a number can be held, with a sign or without.
+    pub(crate) fn holds(self, number: i64, signed: bool) -> bool {
+        if signed {
+            self.holds_signed(number)
+        } else {
+            self.holds_unsigned(number)
+        }
     }
 }
 

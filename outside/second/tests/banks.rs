@@ -4,7 +4,8 @@
 mod common;
 
 use common::{memory, rom_start, step_once, Chance};
-use forms::banks::{written, Size, Written, SIZES};
+use forms::banks::{overlap, place_written, stand_ins, Size, SIZES};
+use forms::feed;
 use second::record::{BANK, COUNTER, F, F_PRIME, LENGTH, MARKS, NESTING};
 use second::{run, show, Machine, Marks, Width};
 use std::collections::BTreeSet;
@@ -199,7 +200,13 @@ fn the_list_has_the_same_map() {
     each_code(|size, code, bank, named| {
         let of_size = forms.iter().filter(|form| form.slots[0].takes(size.any));
         for form in of_size {
-            assert_eq!(form.slots[1].takes(code), named.is_some(), "{}", form.name);
+            // MUL to DIVS by a constant write a register of twice the size.
+            let whole = form.slots[2].takes(0x08);
+            let taken = match &named {
+                Some(lower) if whole => size.whole(lower.clone()).is_some(),
+                named => named.is_some(),
+            };
+            assert_eq!(form.slots[1].takes(code), taken, "{}", form.name);
         }
         assert_eq!(size.named(code, bank), named, "{code:02X} in bank {bank}");
     });
@@ -347,10 +354,18 @@ fn seven_bytes_at_the_end_of_a_memory() {
     assert_eq!(machine.counter, 0);
 }
 
-/// Code of a register form behind its first bytes. Shift counts may be too great.
+/// Code of a register form behind its first bytes. Shift counts may be too great,
+/// and MINC and MDEC may have a number that is none.
 fn rest(chance: &mut Chance, second: u8) -> [u8; 5] {
-    let [a, b, c, d] = chance.next().to_le_bytes();
-    let a = if second >= 0xEC { a & 0x1F } else { a };
+    let [mut a, mut b, c, d] = chance.next().to_le_bytes();
+    if second >= 0xEC {
+        a &= 0x1F;
+    }
+    if let Some(step) = feed::step(second) {
+        let numbers: Vec<u16> = step.numbers().collect();
+        let number = numbers[chance.below(numbers.len() as u32) as usize];
+        [a, b] = step.coded(number ^ u16::from(c % 8 == 0));
+    }
     [second, a, b, c, d]
 }
 
@@ -389,11 +404,12 @@ fn exchange(record: &mut [u8; LENGTH], one: &Range<usize>, other: &Range<usize>)
 }
 
 /// A register that 01 has no code for does what one of 01's does: if they change
-/// places before and after, nothing differs but the counter.
+/// places before and after, nothing differs but the counter. One that is a half of
+/// what the form writes beside it cannot change places.
 #[test]
 fn every_register_is_as_good_as_one_of_01() {
     let mut chance = Chance(4);
-    let mut done = 0;
+    let (mut done, mut halves) = (0, 0);
     each_code(|size, code, bank, named| {
         let Some(named) = named else { return };
         if (0..8).any(|r| size.plain(r, bank) == named) {
@@ -403,12 +419,19 @@ fn every_register_is_as_good_as_one_of_01() {
             let mut record = telling_record(&mut chance, bank);
             let rest = rest(&mut chance, second);
             let (number, mut got) = step_from(record, &[&[size.any, code], &rest[..]].concat());
-            // Another than R.
-            let r = (second & 7) ^ (1 + chance.below(7) as u8);
-            let plain = size.plain(r, bank);
-            exchange(&mut record, &named, &plain);
+            let Some(place) = size.taken(second, named.clone()) else {
+                assert_eq!(number, 4, "{code:02X} {rest:02X?}");
+                continue;
+            };
+            if overlap(&place, &size.beside(second, bank)) {
+                halves += 1;
+                continue;
+            }
+            let stand_ins = stand_ins(size, second, bank);
+            let (r, plain) = &stand_ins[chance.below(stand_ins.len() as u32) as usize];
+            exchange(&mut record, &place, plain);
             let by_01 = step_from(record, &[&[size.plain + r], &rest[..]].concat());
-            exchange(&mut got, &named, &plain);
+            exchange(&mut got, &place, plain);
             if number == 0 {
                 got[COUNTER] -= 1;
                 done += 1;
@@ -417,6 +440,8 @@ fn every_register_is_as_good_as_one_of_01() {
         }
     });
     assert!(done > 50_000, "only {done} were done");
+    // In each bank: four upper halves by two codes, four by one; MUL to DIVS.
+    assert_eq!(halves, 4 * (4 * 2 + 4) * 4);
 }
 
 /// What the list in `forms` says is written is all that is.
@@ -429,11 +454,7 @@ fn nothing_else_is_written() {
             let before = telling_record(&mut chance, bank);
             let rest = rest(&mut chance, second);
             let (_, after) = step_from(before, &[&[size.any, code], &rest[..]].concat());
-            let may_change = match written(second) {
-                Written::Nothing => 0..0,
-                Written::Named => named.clone(),
-                Written::Beside => size.plain(second & 7, bank),
-            };
+            let may_change = place_written(size, &named, second, bank);
             for place in (0..COUNTER).filter(|place| !may_change.contains(place)) {
                 assert_eq!(after[place], before[place], "{code:02X} {second:02X}");
             }

@@ -1,6 +1,6 @@
 //! Runs every worked example through records and memories alone.
 
-use second::examples::{all, banks, book, cases, hand, interrupts, marks, Example};
+use second::examples::{all, banks, book, cases, feed, hand, interrupts, marks, Example};
 use second::{request, run, show, step, Machine};
 
 /// Whether the example is of a state that is not valid.
@@ -36,7 +36,7 @@ fn check(example: &Example) {
 
 #[test]
 fn the_books_examples() {
-    assert_eq!(book().len(), 43);
+    assert_eq!(book().len(), 59);
     book().iter().for_each(check);
 }
 
@@ -76,6 +76,12 @@ fn the_bank_registers() {
     banks().iter().for_each(check);
 }
 
+#[test]
+fn the_multiply_divide_and_modulo_steps() {
+    assert_eq!(feed().len(), 248);
+    feed().iter().for_each(check);
+}
+
 /// How often each number is what the examples end with.
 fn refused_in(examples: &[Example]) -> [u32; 10] {
     let mut met = [0; 10];
@@ -94,6 +100,7 @@ fn what_is_refused() {
     assert_eq!(refused_in(&marks()), [0, 0, 9, 2, 1, 2, 2, 0, 33, 0]);
     assert_eq!(refused_in(&interrupts()), [0, 0, 0, 2, 5, 45, 5, 0, 10, 15]);
     assert_eq!(refused_in(&banks()), [0, 0, 0, 6, 20, 0, 0, 0, 1, 0]);
+    assert_eq!(refused_in(&feed()), [0, 0, 0, 9, 52, 0, 0, 0, 2, 0]);
 }
 
 /// Of the requests so many are taken; the others are refused, or are not taken.

@@ -12,6 +12,6 @@ inRom (Ram o) = false
 inRom (Rom o) = true
 inRom (Missing x) = false
 
--- a form goes on, its code stays as it is, and there are steps left for it
-abbrev pub againOf : Form → Bool → ℕ → State → Bool
-againOf f stays left s = stays && (ltb 0 left && goesOn f s)
+-- a form goes on, and there are rounds left for it
+abbrev pub againOf : Form → ℕ → State → Bool
+againOf f left s = ltb 0 left && goesOn f s

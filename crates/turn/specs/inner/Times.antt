@@ -1,5 +1,5 @@
 -- Several steps in one call.
-use Rattle.little.specs.Words.{ℕ, zero, suc, _+_, _%_, _^_, _≤_, _≡_, List, cond, eqb}
+use Rattle.little.specs.Words.{ℕ, Bool, zero, suc, _+_, _%_, _^_, _≤_, _≡_, List, cond, eqb}
 use Rattle.answer.specs.declared.{Answer.Answer, Answer.the-variants.Done, Answer.the-variants.Refused}
 use Rattle.memory.specs.Access.{codeAt}
 use Rattle.state.specs.{declared.State.State, inner.Lent.standingAt}
@@ -21,6 +21,10 @@ timesOf (suc k) s ram rom = onward (timesOf k s ram rom) (λ t m. onceOf t m rom
 abbrev pub Fewer : Answer → ℕ → ℕ → Type 0
 Fewer Done m n = n ≤ m
 Fewer (Refused w) m n = n ≡ m
+
+-- how many rounds more one call can do: only a form that stays what it is goes on in it
+abbrev pub roundsOf : Bool → ℕ → ℕ
+roundsOf stays more = cond stays more 0
 
 -- What stands at the address `at`, and will while the bytes there are the same, does this to a state whose counter is past it.
 abbrev pub Stands : ℕ → ℕ → List ℕ → List ℕ → (State → List ℕ → Try) → Type 0

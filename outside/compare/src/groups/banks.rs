@@ -9,8 +9,8 @@ use crate::case::{Call, Case};
 use crate::chance::Chance;
 use crate::image::Image;
 use crate::judge::Answer;
-use forms::banks::{written, Size, Written, SIZES};
-use forms::{marks, Form};
+use forms::banks::{overlap, place_written, stand_ins, Size, SIZES};
+use forms::{feed, marks, Form};
 use second::record::{BANK, COUNTER, F, MARKS};
 use std::ops::Range;
 
@@ -68,8 +68,9 @@ fn good_code(chance: &mut Chance, size: Size) -> u8 {
 /// whose register bytes all differ. With a code that names nothing, each second
 /// byte is tried in one of the banks.
 pub fn every_code(bench: &mut Bench) {
-    // In each bank: the good codes of a size, with its good second bytes.
-    const DONE: u32 = 4 * (112 * 109 + 56 * 111 + 28 * 111);
+    // In each bank: the good codes of a size, with its good second bytes. MUL to
+    // DIVS by a constant are good with every other code of bytes and of words.
+    const DONE: u32 = 4 * (112 * 125 + 56 * 4 + 56 * 149 + 28 * 4 + 28 * 111);
     let forms = forms_of_k1();
     let mut done = 0;
     for _ in 0..bench.rounds {
@@ -89,6 +90,12 @@ pub fn every_code(bench: &mut Bench) {
     });
 }
 
+/// A number that MINC and MDEC may have, as it stands in the code.
+pub fn coded_number(chance: &mut Chance, step: feed::Step) -> [u8; 2] {
+    let numbers: Vec<u16> = step.numbers().collect();
+    step.coded(chance.pick(&numbers))
+}
+
 /// How many of them were done.
 fn every_second_byte(bench: &mut Bench, forms: &[Form], (size, code): (Size, u8), bank: u8) -> u32 {
     let record = telling(&mut bench.chance, bank);
@@ -97,10 +104,13 @@ fn every_second_byte(bench: &mut Bench, forms: &[Form], (size, code): (Size, u8)
     let mut done = 0;
     for second in (first..=255).step_by(step) {
         aim::draw_flags(&mut bench.chance, &mut case.record);
-        let [mut a, b, c, d] = bench.chance.long().to_le_bytes();
+        let [mut a, mut b, c, d] = bench.chance.long().to_le_bytes();
         if second >= 0xEC {
             // Shifts among them: so many places are listed.
             a &= 0x0F;
+        }
+        if let Some(step) = feed::step(second) {
+            [a, b] = coded_number(&mut bench.chance, step);
         }
         let bytes = [size.any, code, second, a, b, c, d];
         done += u32::from(hold(bench, forms, &mut case, &bytes));
@@ -175,12 +185,9 @@ fn operand(record: &[u8], bytes: &[u8]) -> (Size, Range<usize>) {
 /// that it does not just load, is taken as it was left.
 fn left(before: &[u8], after: &[u8], bytes: &[u8]) -> Vec<u8> {
     let (size, named) = operand(before, bytes);
-    let beside = size.plain(bytes[2] & 7, before[BANK] & 3);
-    let place = match written(bytes[2]) {
-        Written::Nothing => 0..0,
-        Written::Named => named.clone(),
-        Written::Beside => beside.clone(),
-    };
+    let bank = before[BANK] & 3;
+    let beside = size.plain(bytes[2] & 7, bank);
+    let place = place_written(size, &named, bytes[2], bank);
     let put = match bytes[2] {
         0x03 => &bytes[3..],
         0x88..=0x8F => &before[named],
@@ -196,16 +203,38 @@ fn left(before: &[u8], after: &[u8], bytes: &[u8]) -> Vec<u8> {
     wanted
 }
 
+/// What can stand for r in 01's form: its number and its bytes, and the bytes of r;
+/// of a register of twice the size, where that is meant. `None` if there is nothing,
+/// since r is a half of what is written for R.
+fn in_place_of_r(
+    chance: &mut Chance,
+    record: &[u8],
+    bytes: &[u8],
+) -> Option<(u8, Range<usize>, Range<usize>)> {
+    let (size, named) = operand(record, bytes);
+    let (second, bank) = (bytes[2], record[BANK] & 3);
+    let taken = |r| size.taken(second, r);
+    let named = taken(named).expect("a register that the form can have");
+    let itself = (0..8).find(|&r| taken(size.plain(r, bank)) == Some(named.clone()));
+    if let Some(r) = itself {
+        return Some((r, named.clone(), named));
+    }
+    if overlap(&named, &size.beside(second, bank)) {
+        return None;
+    }
+    let others = stand_ins(size, second, bank);
+    let (r, plain) = others[chance.below(others.len() as u32) as usize].clone();
+    Some((r, plain, named))
+}
+
 /// The same by 01's form, a byte shorter. The register changes places with one of
 /// 01's before it, and back behind it; one that is of 01 stays where it is.
 fn hold_to_01(bench: &mut Bench, case: &mut Case, after: &[u8], bytes: &[u8]) {
-    let (size, named) = operand(&case.record, bytes);
-    let bank = case.record[BANK] & 3;
-    let itself = (0..8).find(|&r| size.plain(r, bank) == named);
-    // Any but R.
-    let another = (bytes[2] & 7) ^ (1 + bench.chance.below(7) as u8);
-    let r = itself.unwrap_or(another);
-    let plain = size.plain(r, bank);
+    let stand_in = in_place_of_r(&mut bench.chance, &case.record, bytes);
+    let Some((r, plain, named)) = stand_in else {
+        return;
+    };
+    let (size, _) = operand(&case.record, bytes);
 
     let short = [&[size.plain + r], &bytes[2..]].concat();
     put_code(case, &short);
@@ -258,21 +287,26 @@ pub fn cut(bench: &mut Bench) {
 /// Every beginning of a code, where a memory ends behind it. It must get the number
 /// that the list says, judged byte by byte.
 fn cut_code(bench: &mut Bench, forms: &[Form], bytes: &[u8]) {
-    for there in (1..=bytes.len()).map(|there| &bytes[..there]) {
-        let (number, length) = forms::judged(forms, there);
-        for in_ram in [true, false] {
-            let (mut case, at) = at_an_end(&mut bench.chance, there, in_ram);
-            let shown = Answer::counted((length as u32, number));
-            for (call, wanted) in [
-                (Call::Step, Answer::number(number)),
-                (Call::Show(at), shown),
-            ] {
-                case.call = call;
-                let answer = bench.judge.hold(&case);
-                bench.judge.expect(answer == wanted, || {
-                    format!("{answer:?}, to be {wanted:?}: --case '{}'", case.text())
-                });
-            }
+    for there in 1..=bytes.len() {
+        cut_there(bench, forms, &bytes[..there]);
+    }
+}
+
+/// Code at the end of each memory, stepped and shown.
+pub fn cut_there(bench: &mut Bench, forms: &[Form], there: &[u8]) {
+    let (number, length) = forms::judged(forms, there);
+    for in_ram in [true, false] {
+        let (mut case, at) = at_an_end(&mut bench.chance, there, in_ram);
+        let shown = Answer::counted((length as u32, number));
+        for (call, wanted) in [
+            (Call::Step, Answer::number(number)),
+            (Call::Show(at), shown),
+        ] {
+            case.call = call;
+            let answer = bench.judge.hold(&case);
+            bench.judge.expect(answer == wanted, || {
+                format!("{answer:?}, to be {wanted:?}: --case '{}'", case.text())
+            });
         }
     }
 }
