@@ -1,6 +1,6 @@
 -- The rows after a register say the same of two operands that are both the lower half of a wider register, or both not: both codes are
 -- short, or both unlisted, or both are whole and differ in the operand alone.
-use Prim.Native.Nat.{ℕ, _+_, _*_, _/_, _%_}
+use Prim.Native.Nat.{ℕ, _+_, _*_, _/_, _%_, _≤_}
 use mathlib.Core.Path.{_≡_, refl}
 use mathlib.Core.Bool.{Bool, true, false, cond}
 use mathlib.Core.List.{List, [], _∷_}
@@ -26,6 +26,7 @@ use Rattle.code.specs.declared.Decoded.{Decoded}
 use Rattle.code.specs.declared.Decoded.the-variants.{Short, Unlisted}
 use Rattle.code.specs.Said.{Said, whole, unlisted, next, number, judge, numberAt, withFound, wholeOf}
 use Rattle.code.specs.Rows.{Bytes, run, Row, _⇒_, has, lookup, byRows, only, noByte, onlyWord}
+use Rattle.code.proofs.Prefix.{grows, after-next}
 use Rattle.code.specs.Registers.{registerRows, placesRows, isLow, scaleKind, strideKind, lastRows, tableRows, feedRows}
 
 module _ (z : Size) (o p : Operand) where
@@ -120,3 +121,14 @@ module _ (z : Size) (o p : Operand) where
 
   pub alike : isLow z o ≡ isLow z p → (s : List ℕ) (i : ℕ) → Alike (judge (byRows (registerRows z o)) s i) (judge (byRows (registerRows z p)) s i)
   alike e = same-next _ _ (same-registers e)
+
+-- of the feed calculation's rows alone: what they say is a use of the operand, or nothing
+pub feed-forms : (z : Size) (o : Operand) (s : List ℕ) → ((how : Use) × (n : ℕ) × (judge (byRows (feedRows z o)) s 1 ≡ wholeOf (Puts how) z o n)) ⊎ ((judge (byRows (feedRows z o)) s 1 ≡ Short) ⊎ (judge (byRows (feedRows z o)) s 1 ≡ Unlisted))
+feed-forms z o s = elim (same-next z o o _ _ (same-feed z o o refl) s 1) [
+    inl w ↦ inl (w .0, w .1, w .2)
+  | inr w ↦ elim w [ inl x ↦ inr (inl (x .0)) | inr x ↦ inr (inr (x .0)) ]
+  ]
+
+-- it has two bytes or more
+pub feed-bytes : (z : Size) (o : Operand) (s : List ℕ) (how : Use) (n : ℕ) → judge (byRows (feedRows z o)) s 1 ≡ wholeOf (Puts how) z o n → 2 ≤ n
+feed-bytes z o s how n e = grows (lookup (feedRows z o) (getD s 1 0)) s 2 _ (after-next (lookup (feedRows z o)) s 1 _ tt e .1)

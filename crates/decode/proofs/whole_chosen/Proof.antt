@@ -28,26 +28,23 @@ in-code c = rw (c .before .operand .given .1) at (c .before .before .before .beg
 abbrev says : tie.After-known-told → ℕ → Said
 says c = lookup (registerRows (c .before .before .before .before .size-by .result) (c .before .operand .given .0 .0))
 
-sub-read : tie.Need-sub-read
-sub-read c = in-code c
+sub-whole-behind : tie.Need-sub-whole-behind
+sub-whole-behind c = in-code c
 
-part-read-start : tie.Need-part-read-start
-part-read-start c = in-code c
+part-whole-behind-start : tie.Need-part-whole-behind-start
+part-whole-behind-start c = in-code c
 
-part-read-end : tie.Need-part-read-end
-part-read-end c = search needs
+part-whole-behind-end : tie.Need-part-whole-behind-end
+part-whole-behind-end c = search needs
 
-read-requires : tie.Need-read-requires
-read-requires c κs = search needs
-
-whole-of-register-requires : tie.Need-whole-of-register-requires
-whole-of-register-requires c κs = search needs
+whole-behind-requires : tie.Need-whole-behind-requires
+whole-behind-requires c κs = search needs
 
 behind-requires : tie.Need-behind-requires
 behind-requires c κs i e =
-    let k = c .before .before .before in
+    let k = c .before .before in
     let s = k .before .before .before .before .before .before .args .code .now in
-    omega (arith, part-within _ s (in-code k) (says k) i (sym (c .before .read .ensures _) ∙ (sym (c .whole-of-register .ensures) ∙ e)))
+    omega (arith, part-within _ s (in-code k) (says k) i (sym (c .whole-behind .ensures) ∙ e))
 
 enum-told : tie.Need-enum-told
 enum-told c = search needs
@@ -57,12 +54,12 @@ enum-told-2 c = search needs
 
 returns : tie.Need-returns
 returns c =
-    let k = c .before .before .before .before in
+    let k = c .before .before .before in
     let s = k .before .before .before .before .before .before .args .code .now in
     let begun = rw (k .before .operand .given .1) at (k .before .before .before .begin .ensures .0) in
     rw (← k .before .before .before .before .size-by .ensures)
     (c .behind .ensures
-    ∙ (ap (longer _) (c .before .whole-of-register .ensures ∙ c .before .before .read .ensures _)
+    ∙ (ap (longer _) (c .before .whole-behind .ensures)
     ∙ (part-later _ s (in-code k) (says k) ∙ begun)))
 
 returns-2 : tie.Need-returns-2
@@ -78,11 +75,10 @@ whole-chosen-spec =
     size-by-requires
     begin-requires
     enum-known-operand
-    sub-read
-    part-read-start
-    part-read-end
-    read-requires
-    whole-of-register-requires
+    sub-whole-behind
+    part-whole-behind-start
+    part-whole-behind-end
+    whole-behind-requires
     behind-requires
     enum-told
     enum-told-2

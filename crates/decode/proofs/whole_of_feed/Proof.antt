@@ -1,59 +1,43 @@
 use borrow.Author.Needs.{needs}
 use Rattle.decode.proofs.whole_of_feed.Statement.{statement}
 use Rattle.decode.proofs.whole_of_feed.Tie as tie
-use Rattle.decode.proofs.whole_of_feed.Reads as reads
-use Rattle.decode.proofs.whole_of_feed.Lts as lts
-use Rattle.decode.proofs.puts.Reads as puts-reads
 
--- src/lib.rt:71:24
 enum-known-read : tie.Need-enum-known-read
 enum-known-read c = search needs
 
--- src/lib.rt:71:38
 puts-requires : tie.Need-puts-requires
 puts-requires c κs = search needs
 
--- src/lib.rt:72:28
 enum-known-read-2 : tie.Need-enum-known-read-2
 enum-known-read-2 c = search needs
 
--- src/lib.rt:72:42
 puts-requires-2 : tie.Need-puts-requires-2
 puts-requires-2 c κs = search needs
 
--- src/lib.rt:73:24
 enum-known-read-3 : tie.Need-enum-known-read-3
 enum-known-read-3 c = search needs
 
--- src/lib.rt:73:35
 puts-requires-3 : tie.Need-puts-requires-3
 puts-requires-3 c κs = search needs
 
--- src/lib.rt:74:26
 enum-told : tie.Need-enum-told
 enum-told c = search needs
 
--- src/lib.rt:75:29
 enum-told-2 : tie.Need-enum-told-2
 enum-told-2 c = search needs
 
--- src/lib.rt:67:1
 returns : tie.Need-returns
-returns c = ?
+returns c = rw (c .before .before .read .given .1) (c .puts .ensures)
 
--- src/lib.rt:67:1
 returns-2 : tie.Need-returns-2
-returns-2 c = ?
+returns-2 c = rw (c .before .before .read2 .given .1) (c .puts2 .ensures)
 
--- src/lib.rt:67:1
 returns-3 : tie.Need-returns-3
-returns-3 c = ?
+returns-3 c = rw (c .before .before .read3 .given .1) (c .puts3 .ensures)
 
--- src/lib.rt:67:1
 returns-4 : tie.Need-returns-4
 returns-4 c = search needs
 
--- src/lib.rt:67:1
 returns-5 : tie.Need-returns-5
 returns-5 c = search needs
 

@@ -41,8 +41,14 @@ puts-requires-6 c κs = search needs
 enum-told : tie.Need-enum-told
 enum-told c = search needs
 
+whole-rest-requires : tie.Need-whole-rest-requires
+whole-rest-requires c κs = search needs
+
 enum-told-2 : tie.Need-enum-told-2
 enum-told-2 c = search needs
+
+enum-told-3 : tie.Need-enum-told-3
+enum-told-3 c = search needs
 
 returns : tie.Need-returns
 returns c = rw (c .before .before .read .given .1) (c .puts .ensures)
@@ -63,10 +69,13 @@ returns-6 : tie.Need-returns-6
 returns-6 c = rw (c .before .before .read6 .given .1) (c .puts6 .ensures)
 
 returns-7 : tie.Need-returns-7
-returns-7 c = search needs
+returns-7 c = rw (c .before .enum-told .given .1) (c .whole-rest .ensures)
 
 returns-8 : tie.Need-returns-8
 returns-8 c = search needs
+
+returns-9 : tie.Need-returns-9
+returns-9 c = search needs
 
 pub whole-of-register-spec : {M : Type 1} → statement M
 whole-of-register-spec =
@@ -85,7 +94,9 @@ whole-of-register-spec =
     enum-known-read-6
     puts-requires-6
     enum-told
+    whole-rest-requires
     enum-told-2
+    enum-told-3
     returns
     returns-2
     returns-3
@@ -93,4 +104,5 @@ whole-of-register-spec =
     returns-5
     returns-6
     returns-7
-    returns-8)
+    returns-8
+    returns-9)

@@ -4,7 +4,9 @@ use Rattle.code.specs.declared.Use.the-variants.{Number, From, Load, Compute, C
 use Rattle.code.specs.declared.Side.the-variants.{First, With}
 use Rattle.state.specs.inner.Lent.{standingAt}
 use Rattle.compute.proofs.Registers.{number-there, from-there, load-there}
+use Rattle.little.specs.declared.Size.the-variants.{Byte, Word, Long}
 use Rattle.exec.proofs.Laws.{put-on}
+use Rattle.exec.proofs.Feeding.{fed-on}
 use borrow.Author.Needs.{needs}
 use Rattle.exec.proofs.of_register.Statement.{statement}
 use Rattle.exec.proofs.of_register.Tie as tie
@@ -75,9 +77,48 @@ enum-told c = search needs
 enum-told-2 : tie.Need-enum-told-2
 enum-told-2 c = search needs
 
+anew-requires : tie.Need-anew-requires
+anew-requires c κs = search needs
+
+feed-requires : tie.Need-feed-requires
+feed-requires c κs = search needs
+
+told-requires : tie.Need-told-requires
+told-requires c κs = search needs
+
+enum-told-3 : tie.Need-enum-told-3
+enum-told-3 c = search needs
+
+anew-requires-2 : tie.Need-anew-requires-2
+anew-requires-2 c κs = search needs
+
+feed-requires-2 : tie.Need-feed-requires-2
+feed-requires-2 c κs = search needs
+
+told-requires-2 : tie.Need-told-requires-2
+told-requires-2 c κs = search needs
+
+enum-told-4 : tie.Need-enum-told-4
+enum-told-4 c = search needs
+
+anew-requires-3 : tie.Need-anew-requires-3
+anew-requires-3 c κs = search needs
+
+feed-requires-3 : tie.Need-feed-requires-3
+feed-requires-3 c κs = search needs
+
+told-requires-3 : tie.Need-told-requires-3
+told-requires-3 c κs = search needs
+
+enum-told-5 : tie.Need-enum-told-5
+enum-told-5 c = search needs
+
+enum-told-6 : tie.Need-enum-told-6
+enum-told-6 c = search needs
+
 returns : tie.Need-returns
 returns c o there rest ram rom =
-    let a = c .before .before .before .before .before .before .before .args in
+    let a = c .before .before .before .before .before .before .before .before .args in
     let read = c .before .before .before .before .before .read .given in
     let p = standingAt rest ((a .counter .now + read .0 .1 .0) % 2 ^ 24) in
     rw (c .on .ensures .0, c .on .ensures .1, read .1)
@@ -86,7 +127,7 @@ returns c o there rest ram rom =
 
 returns-2 : tie.Need-returns-2
 returns-2 c o there rest ram rom =
-    let a = c .before .before .before .before .before .before .before .before .args in
+    let a = c .before .before .before .before .before .before .before .before .before .args in
     let read = c .before .before .before .before .before .before .read2 .given in
     let p = standingAt rest ((a .counter .now + read .0 .1 .0) % 2 ^ 24) in
     rw (c .on2 .ensures .0, c .on2 .ensures .1, read .1)
@@ -95,7 +136,7 @@ returns-2 c o there rest ram rom =
 
 returns-3 : tie.Need-returns-3
 returns-3 c o there rest ram rom =
-    let a = c .before .before .before .before .before .before .before .before .args in
+    let a = c .before .before .before .before .before .before .before .before .before .args in
     let read = c .before .before .before .before .before .before .read3 .given in
     let p = standingAt rest ((a .counter .now + read .0 .1 .0) % 2 ^ 24) in
     rw (c .on3 .ensures .0, c .on3 .ensures .1, read .1)
@@ -104,7 +145,7 @@ returns-3 c o there rest ram rom =
 
 returns-4 : tie.Need-returns-4
 returns-4 c o there rest ram rom =
-    let a = c .before .before .before .before .before .before .before .before .args in
+    let a = c .before .before .before .before .before .before .before .before .before .args in
     let read = c .before .before .before .before .before .before .read4 .given in
     let p = standingAt rest ((a .counter .now + read .0 .1 .1 .0) % 2 ^ 24) in
     rw (c .on4 .ensures .0, c .on4 .ensures .1, read .1)
@@ -113,7 +154,7 @@ returns-4 c o there rest ram rom =
 
 returns-5 : tie.Need-returns-5
 returns-5 c o there rest ram rom =
-    let a = c .before .before .before .before .before .before .before .before .args in
+    let a = c .before .before .before .before .before .before .before .before .before .args in
     let read = c .before .before .before .before .before .before .read5 .given in
     let p = standingAt rest ((a .counter .now + read .0 .1 .1 .0) % 2 ^ 24) in
     rw (c .on5 .ensures .0, c .on5 .ensures .1, read .1)
@@ -122,7 +163,7 @@ returns-5 c o there rest ram rom =
 
 returns-6 : tie.Need-returns-6
 returns-6 c o there rest ram rom =
-    let a = c .before .before .before .before .before .before .before .before .args in
+    let a = c .before .before .before .before .before .before .before .before .before .args in
     let read = c .before .before .before .before .before .before .read6 .given in
     let p = standingAt rest ((a .counter .now + read .0 .1 .0) % 2 ^ 24) in
     rw (c .on6 .ensures .0, c .on6 .ensures .1, read .1)
@@ -130,10 +171,34 @@ returns-6 c o there rest ram rom =
     (c .before .before .change .ensures o (a .bank) there p ram rom))
 
 returns-7 : tie.Need-returns-7
-returns-7 c o there rest ram rom = rw (c .enum-told .given .1) refl
+returns-7 c o there rest ram rom =
+    let a = c .before .before .before .before .before .before .before .before .before .before .before .args in
+    let q = c .before .before .before .before .before .before .enum-told2 .given .1 in
+    rw (c .told .ensures .0, c .told .ensures .1, c .before .before .before .before .before .before .before .before .enum-told .given .1, q)
+    (fed-on Byte o rest (a .bank) (a .regs .now) _ (a .flags .now) _ (a .counter .now) ram rom (a .code .now) (c .before .before .feed .result)
+    (λ s. c .before .before .feed .ensures o (rw (q, ← c .before .before .before .before .before .anew .ensures) at there) s ram rom))
 
 returns-8 : tie.Need-returns-8
-returns-8 c o there rest ram rom = rw (c .enum-told2 .given .1) refl
+returns-8 c o there rest ram rom =
+    let a = c .before .before .before .before .before .before .before .before .before .before .before .args in
+    let q = c .before .before .before .before .before .before .enum-told3 .given .1 in
+    rw (c .told2 .ensures .0, c .told2 .ensures .1, c .before .before .before .before .before .before .before .before .enum-told .given .1, q)
+    (fed-on Word o rest (a .bank) (a .regs .now) _ (a .flags .now) _ (a .counter .now) ram rom (a .code .now) (c .before .before .feed2 .result)
+    (λ s. c .before .before .feed2 .ensures o (rw (q, ← c .before .before .before .before .before .anew2 .ensures) at there) s ram rom))
+
+returns-9 : tie.Need-returns-9
+returns-9 c o there rest ram rom =
+    let a = c .before .before .before .before .before .before .before .before .before .before .before .args in
+    let q = c .before .before .before .before .before .before .enum-told4 .given .1 in
+    rw (c .told3 .ensures .0, c .told3 .ensures .1, c .before .before .before .before .before .before .before .before .enum-told .given .1, q)
+    (fed-on Long o rest (a .bank) (a .regs .now) _ (a .flags .now) _ (a .counter .now) ram rom (a .code .now) (c .before .before .feed3 .result)
+    (λ s. c .before .before .feed3 .ensures o (rw (q, ← c .before .before .before .before .before .anew3 .ensures) at there) s ram rom))
+
+returns-10 : tie.Need-returns-10
+returns-10 c o there rest ram rom = rw (c .enum-told5 .given .1) refl
+
+returns-11 : tie.Need-returns-11
+returns-11 c o there rest ram rom = rw (c .enum-told6 .given .1) refl
 
 pub of-register-spec : {M : Type 1} → statement M
 of-register-spec =
@@ -161,6 +226,19 @@ of-register-spec =
     on-requires-6
     enum-told
     enum-told-2
+    anew-requires
+    feed-requires
+    told-requires
+    enum-told-3
+    anew-requires-2
+    feed-requires-2
+    told-requires-2
+    enum-told-4
+    anew-requires-3
+    feed-requires-3
+    told-requires-3
+    enum-told-5
+    enum-told-6
     returns
     returns-2
     returns-3
@@ -168,4 +246,7 @@ of-register-spec =
     returns-5
     returns-6
     returns-7
-    returns-8)
+    returns-8
+    returns-9
+    returns-10
+    returns-11)
