@@ -37,14 +37,14 @@ there c =
     let chosen = rw (c .before .before .before .before .operand .given .1) at (c .before .before .before .before .before .before .begin .ensures .1 .0) in
     rw (c .field .ensures) (chosen-at _ _ _ chosen)
 
-sub-read : tie.Need-sub-read
-sub-read c = in-code (c .before .before .before)
+sub-behind : tie.Need-sub-behind
+sub-behind c = in-code (c .before .before .before)
 
-part-read-start : tie.Need-part-read-start
-part-read-start c = in-code (c .before .before .before)
+part-behind-start : tie.Need-part-behind-start
+part-behind-start c = in-code (c .before .before .before)
 
-part-read-end : tie.Need-part-read-end
-part-read-end c = search needs
+part-behind-end : tie.Need-part-behind-end
+part-behind-end c = search needs
 
 read-requires : tie.Need-read-requires
 read-requires c κs = search needs
@@ -73,7 +73,7 @@ returns c rest ram rom =
     let says = lookup (registerRows z o) in
     let work = c .before .before .of-register in
     rw (c .back .ensures .0, c .back .ensures .1, ← c .before .before .before .before .before .before .before .before .before .before .before .before .before .before .before .before .size-by .ensures)
-    (form-done rest (a .regs .now) (a .bank) (a .counter .now) (a .flags .now) ram rom z o n (read .result) _ (work .result) _
+    (form-done rest (a .regs .now) (a .bank) (a .counter .now) (a .flags .now) ram rom z o n (read .result) _ _ (work .result) _
     (sym begun ∙ (sym (part-later n (a .code .now) (in-code k) says) ∙ ap (longer n) (sym (read .ensures o))))
     (rw (c .before .before .before .before .before .before .before .before .before .past-name .ensures) at (work .ensures o (there (c .before .before .before .before .before .before .before .before)) rest ram rom)))
 
@@ -92,9 +92,9 @@ of-registers-spec =
     enum-known-operand
     past-name-requires
     field-requires
-    sub-read
-    part-read-start
-    part-read-end
+    sub-behind
+    part-behind-start
+    part-behind-end
     read-requires
     of-register-requires
     back-requires
