@@ -1,5 +1,5 @@
 -- One walk over what each instruction does: what it keeps of the state, the bytes that it spares, and its answer.
-use Prim.Native.Nat.{ℕ, _+_, _<_, _≤_, _%_}
+use Prim.Native.Nat.{ℕ, _+_, _<_, _≤_, _/_, _%_}
 use mathlib.Core.Path.{_≡_, refl, ap, sym, _∙_, subst}
 use mathlib.Core.List.{List}
 use mathlib.Core.Bool.{Bool, true, false, cond, _&&_}
@@ -13,7 +13,7 @@ use Rattle.answer.specs.declared.Answer.the-variants.{Done, Refused}
 use Rattle.answer.specs.declared.Why.the-variants.{Undefined}
 use Rattle.little.specs.declared.Size.{Size}
 use Rattle.little.specs.declared.Size.the-variants.{Byte, Word, Long}
-use Rattle.little.specs.Width.{bitsOf, bytesOf}
+use Rattle.little.specs.Width.{bitsOf, bytesOf, twiceOf}
 use Rattle.little.specs.Bytes.{valueOf}
 use Rattle.flags.specs.Flag.{byteOf, packedOf, flagsOf, anyMarked, carried}
 use Rattle.flags.specs.declared.Flags.{Flags}
@@ -42,23 +42,26 @@ use Rattle.code.specs.declared.Stack.the-variants.{PushF, PopF, Push, Pop, Call
 use Rattle.code.specs.declared.Interrupt.{Interrupt}
 use Rattle.code.specs.declared.Interrupt.the-variants.{PushSr, PopSr, Reti}
 use Rattle.code.specs.declared.Use.{Use}
-use Rattle.code.specs.declared.Use.the-variants.{Number, From, Load, Compute, Changed}
+use Rattle.code.specs.declared.Use.the-variants.{Number, From, Load, Compute, Changed, Scaled, ScaledWith, Cycled}
 use Rattle.code.specs.declared.Side.the-variants.{First, Second, With}
 use Rattle.flags.specs.Condition.{holdsOf, readsV, readsMarked}
 use Rattle.flags.proofs.Fits.{Fits, difference-fits, carried-fits, copied-fits, compared-fits}
 use Rattle.alu.proofs.Fits.{operated-fits, changed-fits}
+use Rattle.feed.specs.declared.scale.Scale.{Scale}
+use Rattle.feed.specs.Scale.{scaled}
+use Rattle.feed.proofs.Fits.{scaled-fits}
 use Rattle.operand.specs.Try.{Try, did, no, andThen, withLoaded}
-use Rattle.operand.specs.Operand.{pointerOf, valueAt, valueIn, storing, storingBytes, storedBy, putAt}
+use Rattle.operand.specs.Operand.{pointerOf, valueAt, valueIn, storing, storingBytes, storedBy, putAt, wideOf}
 use Rattle.operand.specs.Round.{plus}
 use Rattle.stack.specs.Stack.{pushBytes, pushOf, pushFOf, popBytes, popOf, stackOf}
 use Rattle.interrupt.specs.Interrupt.{withSr, pushSrOf, returned, interruptOf}
 use Rattle.operand.specs.Flag.{flagsIn, flagged, exchanged}
 use Rattle.control.specs.Control.{jumpOf, controlOf}
-use Rattle.compute.specs.Compute.{computed, resultIn, storesOf, answerIn, putsOf}
+use Rattle.compute.specs.Compute.{computed, resultIn, storesOf, answerIn, scaledAt, putsOf}
 use Rattle.flags.specs.Sums.{differenceOf}
 use Rattle.block.specs.Block.{moreIn, counted, moved, accumulator, copied, compared, roundOf, goesOn, endsAt}
 use Rattle.exec.specs.Exec.{pastOf, effectOf}
-use Rattle.facts.specs.Touched.{Span, none, bytes, operandSpan, onStack, belowStack, stackRead, stackStored, interruptRead, interruptStored, useRead, useStored, readOf, storedOf, loadTo, readAnswer, storeAnswer, operandsAnswer, answerBy, conditionIn, storesF, storesSr, usesMarked, KeepsRest}
+use Rattle.facts.specs.Touched.{Span, none, bytes, operandSpan, onStack, belowStack, stackRead, stackStored, interruptRead, interruptStored, useSpan, useRead, useStored, readOf, storedOf, loadTo, readAnswer, storeAnswer, operandsAnswer, answerBy, conditionIn, storesF, storesSr, usesMarked, KeepsRest}
 
 -- F alone is the flags with no mark
 unmarked : Flags → Flags
@@ -345,7 +348,32 @@ module _ (P : State → Type 0) (ram rom : List ℕ) where
   fair-interrupt PopSr s k c ok = fair-pop s Word _ (λ t v h. sr-kept P k t v h) k ok
   fair-interrupt Reti s k c ok = fair-pop-bytes s 6 _ (λ t v h. returned-kept P k c t v h) k ok
 
-  fair-puts : (how : Use) (z : Size) (o : Operand) (s : State) → Kept P → P s → Fair (useRead how (operandSpan s z o)) (useStored how (operandSpan s z o)) (putsOf how z o s ram rom)
+  -- MUL to DIVS of an operand
+  fair-scaled : (how : Scale) (z : Size) (w : Operand) (v : ℕ) (s : State) → Kept P → P s → Fair (operandSpan s (twiceOf z) w) (operandSpan s (twiceOf z) w) (scaledAt how z w v s ram rom)
+  unfolding scaledAt
+  fair-scaled how z w v s k ok =
+      fair-value s (twiceOf z) w _ _
+      (λ x. fair-result s (twiceOf z) w (scaled how (bitsOf (twiceOf z) / 2) x v (flagsIn s)) (scaled-fits how (bitsOf (twiceOf z) / 2) x v (flagsIn s) (k .fitting s ok)) k ok)
+
+  -- the wider operand has its bytes where the operand has them, or none
+  wide-span : (s : State) (z y : Size) (o : Operand) → operandSpan s y (wideOf z o) ≡ operandSpan s y o
+  wide-span s Byte y (Register r) = refl
+  wide-span s Word y (Register r) = refl
+  wide-span s Long y (Register r) = refl
+  wide-span s Byte y (Named c) = refl
+  wide-span s Word y (Named c) = refl
+  wide-span s Long y (Named c) = refl
+  wide-span s Byte y (Constant n) = refl
+  wide-span s Word y (Constant n) = refl
+  wide-span s Long y (Constant n) = refl
+  wide-span s Byte y (Memory m) = refl
+  wide-span s Word y (Memory m) = refl
+  wide-span s Long y (Memory m) = refl
+
+  fair-wide : (how : Scale) (z : Size) (o : Operand) (v : ℕ) (s : State) → Kept P → P s → Fair (operandSpan s (twiceOf z) o) (operandSpan s (twiceOf z) o) (scaledAt how z (wideOf z o) v s ram rom)
+  fair-wide how z o v s k ok = subst (λ (g : Span). Fair g g (scaledAt how z (wideOf z o) v s ram rom)) (wide-span s z (twiceOf z) o) (fair-scaled how z (wideOf z o) v s k ok)
+
+  fair-puts : (how : Use) (z : Size) (o : Operand) (s : State) → Kept P → P s → Fair (useRead how (useSpan s how z o)) (useStored how (useSpan s how z o)) (putsOf how z o s ram rom)
   unfolding putsOf
   fair-puts (Number n) z o s k ok = fair-put s z o n k ok
   fair-puts (From r) z o s k ok = fair-put s z o _ k ok
@@ -354,6 +382,9 @@ module _ (P : State → Type 0) (ram rom : List ℕ) where
   fair-puts (Compute op (Second r)) z o s k ok = fair-value s z o _ _ (λ v. fair-answer op s z o (computed s op z v (getRegister s z r)) (operated-fits op _ _ _ _) k ok)
   fair-puts (Compute op (With n)) z o s k ok = fair-value s z o _ _ (λ v. fair-answer op s z o (computed s op z v n) (operated-fits op _ _ _ _) k ok)
   fair-puts (Changed how) z o s k ok = fair-value s z o _ _ (λ v. fair-result s z o (changed how (bitsOf z) v (flagsIn s)) (changed-fits how (bitsOf z) v (flagsIn s) (k .fitting s ok)) k ok)
+  fair-puts (Scaled how r) z o s k ok = fair-value s z o _ _ (λ v. fair-wide how z (Register r) v s k ok)
+  fair-puts (ScaledWith how n) z o s k ok = fair-wide how z o n s k ok
+  fair-puts (Cycled how) z o s k ok = fair-value s z o _ _ (λ v. fair-put s z o _ k ok)
 
   pub fair-effect :
       (op : Op) (z : Size) (o : Operand) (at : ℕ) (s : State) → Kept P → Recounted P op → P s

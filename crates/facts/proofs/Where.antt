@@ -36,7 +36,7 @@ use Rattle.code.specs.declared.Interrupt.{Interrupt}
 use Rattle.code.specs.declared.Interrupt.the-variants.{PushSr, PopSr, Reti}
 use Rattle.code.specs.declared.Stack.the-variants.{PushF, PopF, Push, Pop, Call16, Call24, Calr, Ret}
 use Rattle.code.specs.declared.Use.{Use}
-use Rattle.code.specs.declared.Use.the-variants.{Number, From, Load, Compute, Changed}
+use Rattle.code.specs.declared.Use.the-variants.{Number, From, Load, Compute, Changed, Scaled, ScaledWith, Cycled}
 use Rattle.code.specs.declared.Side.the-variants.{First as FirstSide, Second, With}
 use Rattle.code.specs.declared.Instruction.{Instruction}
 use Rattle.code.specs.declared.Decoded.the-variants.{Whole}
@@ -45,7 +45,7 @@ use Rattle.operand.specs.Operand.{addressFrom, addressIn}
 use Rattle.compute.specs.Compute.{storesOf}
 use Rattle.exec.specs.Exec.{pastOf}
 use Rattle.step.specs.Step.{stepOf}
-use Rattle.facts.specs.Touched.{Span, none, bytes, operandSpan, onStack, belowStack, stackRead, stackStored, interruptRead, interruptStored, useRead, useStored, readOf, storedOf, loadTo, readAnswer, storeAnswer, operandsAnswer, answerBy, usesMarked}
+use Rattle.facts.specs.Touched.{Span, none, bytes, operandSpan, onStack, belowStack, stackRead, stackStored, interruptRead, interruptStored, takenSize, useRead, useStored, readOf, storedOf, loadTo, readAnswer, storeAnswer, operandsAnswer, answerBy, usesMarked}
 use Rattle.facts.specs.Statements.{Within, Passed}
 use Rattle.facts.specs.Where.{InRom, FirstApart, OneApart, Reads, Stores, FiveTells, SixTells}
 use Rattle.facts.proofs.Statements.{operated, refused-when}
@@ -185,6 +185,9 @@ use-read-fits (From r) x h = fits-none
 use-read-fits (Load r) x h = h
 use-read-fits (Compute op other) x h = h
 use-read-fits (Changed how) x h = h
+use-read-fits (Scaled how r) x h = h
+use-read-fits (ScaledWith how n) x h = h
+use-read-fits (Cycled how) x h = h
 
 use-stored-fits : (how : Use) (x : Span) → Fits x → Fits (useStored how x)
 use-stored-fits (Number n) x h = h
@@ -194,12 +197,15 @@ use-stored-fits (Compute op (FirstSide r)) x h = fits-none
 use-stored-fits (Compute op (Second r)) x h = either-fits (storesOf op) x h
 use-stored-fits (Compute op (With n)) x h = either-fits (storesOf op) x h
 use-stored-fits (Changed how) x h = h
+use-stored-fits (Scaled how r) x h = fits-none
+use-stored-fits (ScaledWith how n) x h = h
+use-stored-fits (Cycled how) x h = h
 
 read-fits : (op : Op) (z : Size) (o : Operand) (s : State) → Fits (readOf op z o s)
 unfolding readOf
 read-fits (Controls what) z o s = fits-none
 read-fits (Stacks what) z o s = stack-read-fits what z s
-read-fits (Puts how) z o s = use-read-fits how _ (operand-fits s z o)
+read-fits (Puts how) z o s = use-read-fits how _ (operand-fits s (takenSize how z) o)
 read-fits (Sets r) z o s = fits-none
 read-fits (Blocks f) z o s = fits-bytes (round _) (size-some (f .size))
 read-fits (Interrupts what) z o s = interrupt-read-fits what s
@@ -208,7 +214,7 @@ stored-fits : (op : Op) (z : Size) (o : Operand) (s : State) → Fits (storedOf 
 unfolding storedOf
 stored-fits (Controls what) z o s = fits-none
 stored-fits (Stacks what) z o s = stack-stored-fits what z s
-stored-fits (Puts how) z o s = use-stored-fits how _ (operand-fits s z o)
+stored-fits (Puts how) z o s = use-stored-fits how _ (operand-fits s (takenSize how z) o)
 stored-fits (Sets r) z o s = fits-none
 stored-fits (Blocks f) z o s = either-fits (f .copies) _ (fits-bytes (round _) (size-some (f .size)))
 stored-fits (Interrupts what) z o s = interrupt-stored-fits what s

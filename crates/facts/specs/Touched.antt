@@ -1,7 +1,7 @@
 -- The flags that an instruction decides by or stores, the bytes that it reads and those that it stores to, and what it answers by them.
 use Rattle.little.specs.Words.{ℕ, _+_, _<_, _≤_, _%_, _^_, _≡_, List, Bool, true, false, cond, _&&_, _⊎_, length, getD}
 use Rattle.answer.specs.{declared.Answer.Answer, declared.Answer.the-variants.Done, declared.Answer.the-variants.Refused, Number.firstRefusal}
-use Rattle.little.specs.{declared.Size.Size, declared.Size.the-variants.Long, Width.bytesOf}
+use Rattle.little.specs.{declared.Size.Size, declared.Size.the-variants.Long, Width.bytesOf, Width.twiceOf}
 use Rattle.memory.specs.{declared.Place.Place, Access.storeTo, Place.placeOf}
 use Rattle.memory.specs.declared.Place.the-variants.{Ram, Rom, Missing}
 use Rattle.state.specs.{declared.State.State, Register.getRegister}
@@ -12,7 +12,7 @@ use Rattle.code.specs.declared.Op.the-variants.{Controls, Stacks, Puts, Sets, B
 use Rattle.code.specs.declared.Control.the-variants.{Nop, Incf, Decf, Ldf, Rcf, Scf, Ccf, Zcf, Exf, Jp16, Jp24, Jr, Jrl, Ei}
 use Rattle.code.specs.declared.Stack.the-variants.{PushF, PopF, Push, Pop, Call16, Call24, Calr, Ret}
 use Rattle.code.specs.declared.Interrupt.the-variants.{PushSr, PopSr, Reti}
-use Rattle.code.specs.declared.Use.the-variants.{Number, From, Load, Compute, Changed}
+use Rattle.code.specs.declared.Use.the-variants.{Number, From, Load, Compute, Changed, Scaled, ScaledWith, Cycled}
 use Rattle.code.specs.declared.Side.the-variants.{First, Second, With}
 use Rattle.operand.specs.{Operand.pointerOf, Operand.addressOf, Round.less, Flag.flagsIn}
 use Rattle.compute.specs.Compute.{storesOf}
@@ -100,17 +100,34 @@ interruptRead PushSr s = none
 interruptRead PopSr s = onStack s 2
 interruptRead Reti s = onStack s 6
 
+-- MUL to DIVS with a number take twice as much of their operand as its size says
+abbrev pub takenSize : Use → Size → Size
+takenSize (Number n) z = z
+takenSize (From r) z = z
+takenSize (Load r) z = z
+takenSize (Compute op other) z = z
+takenSize (Changed how) z = z
+takenSize (Scaled how r) z = z
+takenSize (ScaledWith how n) z = twiceOf z
+takenSize (Cycled how) z = z
+
+abbrev pub useSpan : State → Use → Size → Operand → Span
+useSpan s how z o = operandSpan s (takenSize how z) o
+
 abbrev pub useRead : Use → Span → Span
 useRead (Number n) operand = none
 useRead (From r) operand = none
 useRead (Load r) operand = operand
 useRead (Compute op other) operand = operand
 useRead (Changed how) operand = operand
+useRead (Scaled how r) operand = operand
+useRead (ScaledWith how n) operand = operand
+useRead (Cycled how) operand = operand
 
 unfoldable pub readOf : Op → Size → Operand → State → Span
 readOf (Controls what) z o s = none
 readOf (Stacks what) z o s = stackRead what z s
-readOf (Puts how) z o s = useRead how (operandSpan s z o)
+readOf (Puts how) z o s = useRead how (useSpan s how z o)
 readOf (Sets r) z o s = none
 readOf (Blocks f) z o s = bytes (pointerOf s (f .from)) (bytesOf (f .size))
 readOf (Interrupts what) z o s = interruptRead what s
@@ -139,11 +156,14 @@ useStored (Compute op (First r)) operand = none
 useStored (Compute op (Second r)) operand = cond (storesOf op) operand none
 useStored (Compute op (With n)) operand = cond (storesOf op) operand none
 useStored (Changed how) operand = operand
+useStored (Scaled how r) operand = none
+useStored (ScaledWith how n) operand = operand
+useStored (Cycled how) operand = operand
 
 unfoldable pub storedOf : Op → Size → Operand → State → Span
 storedOf (Controls what) z o s = none
 storedOf (Stacks what) z o s = stackStored what z s
-storedOf (Puts how) z o s = useStored how (operandSpan s z o)
+storedOf (Puts how) z o s = useStored how (useSpan s how z o)
 storedOf (Sets r) z o s = none
 storedOf (Blocks f) z o s = cond (f .copies) (bytes (pointerOf s (f .to)) (bytesOf (f .size))) none
 storedOf (Interrupts what) z o s = interruptStored what s

@@ -3,6 +3,7 @@ pub mod Results
 pub mod Once
 pub mod Products
 pub mod Quotients
+pub mod Fits
 pub mod Cases
 pub mod Wraps
 pub mod Powers

@@ -1,10 +1,13 @@
--- What products and quotients are, for every width of k bits. Each statement is proved in proofs/Products.antt or proofs/Quotients.antt.
+-- What products and quotients are, for every width of k bits, and what they leave of the flags. Each statement is proved in
+-- proofs/Products.antt, proofs/Quotients.antt or proofs/Fits.antt.
 use Rattle.little.specs.Words.{ℕ, _+_, _*_, _/_, _^_, _<_, _≡_, _↔_, _⊎_, true, false}
 use lib.IntN.{ℤ, pos, natAbs, _+ℤ_, _*ℤ_}
 use lib.Signed.{nonNeg}
-use Rattle.flags.specs.Width.{low}
+use Rattle.flags.specs.{declared.Flags.Flags, Width.low, Undefined.marksH, Undefined.marksV}
 use Rattle.feed.specs.declared.scale.Divided.{Divided}
-use Rattle.feed.specs.Scale.{signed, holdsSigned, mulOf, mulsOf, divOf, divsOf}
+use Rattle.feed.specs.declared.scale.Scale.{Scale}
+use Rattle.feed.specs.declared.scale.Scale.the-variants.{Div, Divs}
+use Rattle.feed.specs.Scale.{signed, holdsSigned, mulOf, mulsOf, divOf, divsOf, scaled}
 
 -- the 2 k bits hold every product: nothing is lost
 abbrev pub ProductFits : Type 0
@@ -62,3 +65,16 @@ DivsFits =
 -- where V is 1, the operand is as it was
 abbrev pub DivKeeps : Type 0
 DivKeeps = (k a b : ℕ) → (divOf k a b .over ≡ true → divOf k a b .value ≡ low (2 * k) a) × (divsOf k a b .over ≡ true → divsOf k a b .value ≡ low (2 * k) a)
+
+-- no flag but V is touched, nor the mark of H
+abbrev pub OthersKept : Type 0
+OthersKept =
+    (how : Scale) (k a b : ℕ) (old : Flags) →
+    let f = scaled how k a b old .flags in
+    (f .s ≡ old .s) × (f .z ≡ old .z) × (f .h ≡ old .h) × (f .n ≡ old .n) × (f .c ≡ old .c) × (marksH (f .marks) ≡ marksH (old .marks))
+
+-- DIV and DIVS give V a value: its mark goes
+abbrev pub DivDefinesV : Type 0
+DivDefinesV =
+    (k a b : ℕ) (old : Flags) →
+    (marksV (scaled Div k a b old .flags .marks) ≡ false) × (marksV (scaled Divs k a b old .flags .marks) ≡ false)
