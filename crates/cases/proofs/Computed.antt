@@ -17,9 +17,11 @@ use Rattle.alu.specs.Operation.{operated}
 use Rattle.alu.specs.Shift.{placesOf, shiftBy, shiftOf}
 use Rattle.alu.specs.Count.{incOf, decOf}
 use Rattle.alu.specs.Extend.{extzOf, extsOf}
+use Rattle.feed.specs.Scale.{mulOf, mulsOf, divOf, divsOf}
+use Rattle.feed.specs.Cycle.{mincOf, mdecOf, isPower, isTable}
 use Rattle.code.specs.Said.{numberAt, judge}
 use Rattle.code.specs.Rows.{lookup}
-use Rattle.code.specs.Registers.{placesRows, registerRows}
+use Rattle.code.specs.Registers.{placesRows, lastRows, tableRows, feedRows, registerRows}
 use Rattle.code.specs.Memory.{memoryRows, storeRows, copies, compares, blocks, indirectRows}
 use Rattle.code.specs.Listed.{upToSevenRows, bankRows, flagRows, constantRows, stackRows, jumpRows, relativeRows, interruptRows, registerFormRows, absoluteRows, memoryFormRows, memoryAtRows, storeFormRows, namedFormRows, codeByteRows, aloneRows, memoryFirstRows, firstRows, decodeOf}
 use Rattle.operand.specs.Operand.{addressIn, valueIn, storing}
@@ -28,7 +30,7 @@ use Rattle.interrupt.specs.Interrupt.{withSr, pushSrOf, returned, interruptOf}
 use Rattle.operand.specs.Flag.{flagged}
 use Rattle.control.specs.Control.{jumpOf, controlOf}
 use Rattle.block.specs.Block.{counted, moved, copied, compared, roundOf, goesOn, endsAt}
-use Rattle.compute.specs.Compute.{putsOf}
+use Rattle.compute.specs.Compute.{scaledAt, putsOf}
 use Rattle.exec.specs.Exec.{pastOf, effectOf, executedOf}
 use Rattle.turn.specs.Once.{onceOf}
 use Rattle.step.specs.Step.{guarded, tryOf}
@@ -41,7 +43,7 @@ use Rattle.cases.specs.Table.{Case, ComesOut, Tale, TaleHolds, OfEach, b
 
 -- what the run of a row leaves, and what the row says of it
 unfoldable pub left : Case → Result
-unfolding begin valueOf bytesFrom replaced firstWithout missingOf placeOf loadOf storeOf ramAfter codeAt zeroState resetState validOf longOf withLong withCounter withBank withLevel withNesting withBothFlags withFlags getBits setBits slotIn setSlot slotOf registerAt setRegister byteNamed named heldIn withHeld byteOf packedOf flagsOf basic holdsOf readsV readsMarked onesOf evenOnes resultOf sumOf differenceOf plain andOf orOf xorOf operated placesOf shiftBy shiftOf incOf decOf extzOf extsOf numberAt judge lookup placesRows registerRows memoryRows storeRows copies compares blocks indirectRows upToSevenRows bankRows flagRows constantRows stackRows jumpRows relativeRows interruptRows registerFormRows absoluteRows memoryFormRows memoryAtRows storeFormRows namedFormRows codeByteRows aloneRows memoryFirstRows firstRows decodeOf addressIn valueIn storing pushOf pushFOf popOf flagged jumpOf counted moved copied compared roundOf goesOn endsAt pastOf controlOf stackOf withSr pushSrOf returned interruptOf putsOf effectOf executedOf guarded onceOf tryOf manyOf runOf
+unfolding begin valueOf bytesFrom replaced firstWithout missingOf placeOf loadOf storeOf ramAfter codeAt zeroState resetState validOf longOf withLong withCounter withBank withLevel withNesting withBothFlags withFlags getBits setBits slotIn setSlot slotOf registerAt setRegister byteNamed named heldIn withHeld byteOf packedOf flagsOf basic holdsOf readsV readsMarked onesOf evenOnes resultOf sumOf differenceOf plain andOf orOf xorOf operated placesOf shiftBy shiftOf incOf decOf extzOf extsOf mulOf mulsOf divOf divsOf mincOf mdecOf isPower isTable numberAt judge lookup placesRows lastRows tableRows feedRows registerRows memoryRows storeRows copies compares blocks indirectRows upToSevenRows bankRows flagRows constantRows stackRows jumpRows relativeRows interruptRows registerFormRows absoluteRows memoryFormRows memoryAtRows storeFormRows namedFormRows codeByteRows aloneRows memoryFirstRows firstRows decodeOf addressIn valueIn storing pushOf pushFOf popOf flagged jumpOf counted moved copied compared roundOf goesOn endsAt pastOf controlOf stackOf withSr pushSrOf returned interruptOf scaledAt putsOf effectOf executedOf guarded onceOf tryOf manyOf runOf
 left c = runOf (c .steps) (c .start .state) (c .start .ram) (c .rom)
 
 unfoldable pub said : Case → Result

@@ -28,7 +28,7 @@ use Rattle.operand.specs.Try.{did, no, Outcome, leaves, after}
 use Rattle.operand.specs.inner.Does.{Does}
 use Rattle.exec.specs.Exec.{effectOf, done}
 use Rattle.exec.specs.inner.Counter.{onOf}
-use Rattle.exec.specs.inner.Fed.{toldOf, answerOf, fedOf, Feeds}
+use Rattle.exec.specs.inner.Fed.{bytesTold, answerOf, fedOf, Feeds}
 use Rattle.exec.proofs.Laws.{put-on}
 
 -- an instruction of two bytes or more is answered as done
@@ -78,16 +78,16 @@ module _ (z : Size) (o : Operand) (rest : State) (bank : Bank) (regs next : List
       (d : Decoded) (n : ℕ) → ((how : Use) × (m : ℕ) × (d ≡ wholeOf (Puts how) z o m)) ⊎ ((d ≡ Short) ⊎ (d ≡ Unlisted)) →
       ((how : Use) (m : ℕ) → d ≡ wholeOf (Puts how) z o m → 2 ≤ m) → Fed d n → On d n
   goes-on d n (inl (how, m, e)) b f =
-      let q : m ≡ n = sym (f rest .0 ∙ ap toldOf e) in
+      let q : m ≡ n = sym (f rest .0 ∙ ap bytesTold e) in
       let w : d ≡ wholeOf (Puts how) z o n = e ∙ ap (wholeOf (Puts how) z o) q in
       let k : 2 ≤ n = b how n w in
       subst (λ (x : Decoded). On x n) (sym w) (put-goes-on how n k (subst (λ (x : Decoded). Fed x n) w f))
   goes-on d n (inr (inl e)) b f =
-      let q : n ≡ 1 = f rest .0 ∙ ap toldOf e in
+      let q : n ≡ 1 = f rest .0 ∙ ap bytesTold e in
       let h : Fed Short 1 = subst (λ (x : ℕ). Fed Short x) q (subst (λ (x : Decoded). Fed x n) e f) in
       subst (λ (x : ℕ). On d x) (sym q) (subst (λ (x : Decoded). On x 1) (sym e) (short-stays h))
   goes-on d n (inr (inr e)) b f =
-      let q : n ≡ 0 = f rest .0 ∙ ap toldOf e in
+      let q : n ≡ 0 = f rest .0 ∙ ap bytesTold e in
       let h : Fed Unlisted 0 = subst (λ (x : ℕ). Fed Unlisted x) q (subst (λ (x : Decoded). Fed x n) e f) in
       subst (λ (x : ℕ). On d x) (sym q) (subst (λ (x : Decoded). On x 0) (sym e) (none-stays h))
 

@@ -7,9 +7,9 @@ use Rattle.feed.specs.declared.scale.Scale.{Scale}
 use Rattle.feed.specs.declared.scale.Scale.the-variants.{Mul, Muls, Div, Divs}
 
 -- all rows of a table are right
-unfoldable pub every : List Bool → Bool
-every [] = true
-every (row ∷ rows) = row && every rows
+unfoldable pub allHold : List Bool → Bool
+allHold [] = true
+allHold (row ∷ rows) = row && allHold rows
 
 -- a row of the table: of a, b and the F before come this value and this F, with its marks above it: 1xx marks H, 2xx V
 abbrev is : Scale → ℕ → ℕ → ℕ → ℕ → ℕ → ℕ → Bool

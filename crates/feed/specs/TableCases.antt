@@ -1,13 +1,8 @@
 -- Worked cases of MINC and MDEC at width 16, as one table: what is computed, and the pointer that it must be. All numbers are in hex.
-use Rattle.little.specs.Words.{Bool, true, not, _&&_, List, [], _∷_, ℕ, eqb}
+use Rattle.little.specs.Words.{Bool, not, List, [], _∷_, ℕ, eqb}
 use Rattle.feed.specs.declared.cycle.Stride.the-variants.{One, Two, Four}
 use Rattle.feed.specs.declared.cycle.Cycle.{Cycle, the-variants.Minc, the-variants.Mdec}
 use Rattle.feed.specs.Cycle.{cycled, isTable}
-
--- all rows of a table are right
-unfoldable pub allRight : List Bool → Bool
-allRight [] = true
-allRight (row ∷ rows) = row && allRight rows
 
 -- a row of the table: a step from one pointer leads to the other
 abbrev leads : Cycle → ℕ → ℕ → Bool

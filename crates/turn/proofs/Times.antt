@@ -32,7 +32,7 @@ use Rattle.operand.specs.Try.{Try, did, no, Outcome, leaves, andThen, after}
 use Rattle.block.specs.Block.{roundOf, goesOn, endsAt}
 use Rattle.exec.specs.Exec.{pastOf, effectOf, executedOf, done}
 use Rattle.turn.specs.Once.{onceOf}
-use Rattle.turn.specs.inner.Times.{timesOf, Fewer, roundsOf, Stands}
+use Rattle.turn.specs.inner.Times.{timesOf, Fewer, mostRounds, Stands}
 use Rattle.block.specs.inner.Again.{inRom, againOf}
 
 -- ---- what was tried, from what a call leaves
@@ -78,11 +78,11 @@ pub again-says : (f : Form) (left : ℕ) (s : State) → againOf f left s ≡ tr
 again-says f left s e = let a = and-true (ltb 0 left) (goesOn f s) e in (ltb-true 0 left (a .0), a .1)
 
 -- no more rounds than there are steps for, and none where the form does not stay what it is
-pub rounds-few : (stays : Bool) (more : ℕ) → roundsOf stays more ≤ more
+pub rounds-few : (stays : Bool) (more : ℕ) → mostRounds stays more ≤ more
 rounds-few true more = omega arith
 rounds-few false more = omega arith
 
-pub rounds-stay : (stays : Bool) (more : ℕ) → 0 < roundsOf stays more → stays ≡ true
+pub rounds-stay : (stays : Bool) (more : ℕ) → 0 < mostRounds stays more → stays ≡ true
 rounds-stay true more l = refl
 rounds-stay false more l = absurd (omega arith)
 

@@ -14,7 +14,7 @@ ghost use Rattle.operand.specs.Operand.{addressIn};
 ghost use Rattle.operand.specs.Try.{andThen};
 ghost use Rattle.operand.specs.inner.Does.{Does};
 ghost use Rattle.block.specs.Block.{roundOf, endsAt};
-ghost use Rattle.turn.specs.inner.Times.{timesOf, Fewer, roundsOf, Stands, pastName};
+ghost use Rattle.turn.specs.inner.Times.{timesOf, Fewer, mostRounds, Stands, pastName};
 ghost use Rattle.turn.specs.Many.{result, stopped, manyOf};
 use answer::Answer;
 use answer::Why;
@@ -41,7 +41,7 @@ use state::mask;
 
 // How many rounds more one call can do: only a form that stays what it is goes on in it.
 fn rounds(stays: bool, more: u32) -> u32
-    ensures { λ r. ⌜ r ≡ roundsOf stays more ⌝ }
+    ensures { λ r. ⌜ r ≡ mostRounds stays more ⌝ }
 {
     if stays {
         return more;

@@ -9,10 +9,10 @@ use Rattle.exec.specs.Exec.{effectOf}
 use Rattle.code.specs.declared.Decoded.the-variants as decoded
 
 -- what was read, as one number: how many bytes, or 1 where they are too few, or 0 where they begin nothing that is listed
-abbrev pub toldOf : Decoded → ℕ
-toldOf (decoded.Whole i) = i .length
-toldOf decoded.Short = 1
-toldOf decoded.Unlisted = 0
+abbrev pub bytesTold : Decoded → ℕ
+bytesTold (decoded.Whole i) = i .length
+bytesTold decoded.Short = 1
+bytesTold decoded.Unlisted = 0
 
 -- and the answer to it
 abbrev pub answerOf : ℕ → Answer
@@ -26,4 +26,4 @@ fedOf decoded.Unlisted s ram rom = no Unlisted
 
 -- it is told, and done
 abbrev pub Feeds : Decoded → ℕ → State → List ℕ → List ℕ → State → Type 0
-Feeds d n s ram rom after = (n ≡ toldOf d) × Does (λ t m. fedOf d t m rom) s ram (answerOf n) after ram
+Feeds d n s ram rom after = (n ≡ bytesTold d) × Does (λ t m. fedOf d t m rom) s ram (answerOf n) after ram

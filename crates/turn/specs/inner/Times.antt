@@ -23,8 +23,8 @@ Fewer Done m n = n ≤ m
 Fewer (Refused w) m n = n ≡ m
 
 -- how many rounds more one call can do: only a form that stays what it is goes on in it
-abbrev pub roundsOf : Bool → ℕ → ℕ
-roundsOf stays more = cond stays more 0
+abbrev pub mostRounds : Bool → ℕ → ℕ
+mostRounds stays more = cond stays more 0
 
 -- What stands at the address `at`, and will while the bytes there are the same, does this to a state whose counter is past it.
 abbrev pub Stands : ℕ → ℕ → List ℕ → List ℕ → (State → List ℕ → Try) → Type 0
