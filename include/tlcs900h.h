@@ -50,6 +50,29 @@
  * A word needs an even code, a long a multiple of 4. 40H to CFH name no register. A code byte that names none is refused
  * with 4.
  *
+ * Multiply, divide, modulo steps: r is a byte or a word, by C8+r or D8+r or by C7 or D7 and a code byte. Then comes
+ *   40+R MUL, 48+R MULS, 50+R DIV, 58+R DIVS   of a destination, by r. The destination is twice as wide as r and of the bank in
+ *                                              use: for bytes R is 1 WA, 3 BC, 5 DE, 7 HL; for words 0 XWA, 1 XBC .. 7 XSP
+ *   08 MUL, 09 MULS, 0A DIV, 0B DIVS           and a constant of r's size: of the destination whose lower half r is, by it. So
+ *                                              for bytes r is 1 WA, 3 BC, 5 DE or 7 HL, or has an even code byte (F0H is IX);
+ *                                              for words it is any r, or has a code byte that is a multiple of 4
+ *   38 MINC1, 39 MINC2, 3A MINC4               of a word r, and as a word num less the step of 1, 2 or 4. num is 2^n: at most
+ *   3C MDEC1, 3D MDEC2, 3E MDEC4               32,768, and at least 2, 4 or 8 with the step 1, 2 or 4
+ * What is not named here is refused with 4: another R, r, code byte or num, a long, 3BH and 3FH, and any of these with an
+ * operand in memory.
+ *   MUL, MULS   multiply the destination's lower half. The product fills the destination. No flag and no mark changes
+ *   DIV, DIVS   divide the whole destination: the quotient goes into its lower half and the remainder into its upper half. With
+ *               signs (DIVS) the quotient is rounded toward zero, and a remainder that is not 0 has the dividend's sign. V is
+ *               then 0. V is 1, and the destination stays as it was, where the divisor is 0 or the quotient does not fit: for
+ *               bytes DIV has room for 0 to 255 and DIVS for -128 to 127, for words 0 to 65,535 and -32,768 to 32,767. V has a
+ *               value either way, so that its mark goes and a jump behind it that reads V is not refused with 8. The other
+ *               flags stay, and so does H's mark
+ *   MINC, MDEC  move a pointer by the step in a table of num bytes, which begins at a multiple of num: MINC up, and from the
+ *               last entry to the first, MDEC down, and from the first entry to the last. No flag and no mark changes, and
+ *               no part of the register but the word. A pointer that is no multiple of the step is at no entry: it is moved
+ *               too, but does not turn round, and so leaves its table. With num 8 MINC2 goes from 1237H to 1239H
+ * Both operands are read before the result is written, so that one may be a part of the other.
+ *
  * The caller's part
  *   Every pointer is the caller's memory, lent for the length of the call. Each must be good for the length that follows
  *   it, and for writing where it is not const. A null pointer with length 0 is an empty memory, or a record of no bytes.
@@ -99,9 +122,11 @@ extern "C" {
  *   3.2  tlcs900h_widen makes an old record of 88 bytes a new one; tlcs900h_narrow goes back, and has the number 10
  *   3.3  C7, D7 and E7, each with a code byte that names a register of any bank, are done in place of C8 to CF, D8 to DF and
  *        E8 to EF, where they were refused with 4. An instruction has 1 to 7 bytes, where it had 1 to 6: see tlcs900h_show
+ *   3.4  MUL, MULS, DIV and DIVS of bytes and words, by a register or a constant, and MINC1, MINC2, MINC4, MDEC1, MDEC2 and MDEC4
+ *        are done, where they were refused with 4
  */
 #define TLCS900H_VERSION_MAJOR 3
-#define TLCS900H_VERSION_MINOR 3
+#define TLCS900H_VERSION_MINOR 4
 
 #define TLCS900H_RECORD 92          /* the bytes of a record */
 #define TLCS900H_OLD_RECORD 88      /* the bytes of an old record, as it was before 3.0 */

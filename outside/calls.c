@@ -150,7 +150,7 @@ static void same_number(unsigned long is, unsigned long expected) {
 
 static void constants(void) {
     same_number(TLCS900H_VERSION_MAJOR, 3);
-    same_number(TLCS900H_VERSION_MINOR, 3);
+    same_number(TLCS900H_VERSION_MINOR, 4);
     same_number(TLCS900H_RECORD, 92);
     same_number(TLCS900H_OLD_RECORD, 88);
     same_number(TLCS900H_MEMORY, 65536);
@@ -381,7 +381,18 @@ static const struct code listed[] = {{1, {0x00}},
                                      {4, {0xC7, 0x3F, 0xC8, 0x5A}},
                                      {4, {0xE7, 0xFC, 0xEC, 0x0F}},
                                      {5, {0xD7, 0xEE, 0xCF, 0x34, 0x12}},
-                                     {7, {0xE7, 0x20, 0xC8, 0x78, 0x56, 0x34, 0x12}}};
+                                     {7, {0xE7, 0x20, 0xC8, 0x78, 0x56, 0x34, 0x12}},
+                                     {2, {0xC8, 0x41}},
+                                     {2, {0xDF, 0x5F}},
+                                     {3, {0xC9, 0x08, 0x5A}},
+                                     {4, {0xDF, 0x0B, 0x34, 0x12}},
+                                     {4, {0xD8, 0x38, 0x01, 0x00}},
+                                     {4, {0xDF, 0x3E, 0xFC, 0x7F}},
+                                     {3, {0xC7, 0x21, 0x47}},
+                                     {3, {0xD7, 0x22, 0x50}},
+                                     {4, {0xC7, 0xF0, 0x0A, 0x5A}},
+                                     {5, {0xD7, 0x3C, 0x09, 0x34, 0x12}},
+                                     {5, {0xD7, 0x22, 0x3D, 0x06, 0x00}}};
 static const struct code unlisted[] = {{1, {0x01}},
                                        {1, {0x04}},
                                        {1, {0x05}},
@@ -395,7 +406,21 @@ static const struct code unlisted[] = {{1, {0x01}},
                                        {2, {0xE7, 0x22}},
                                        {3, {0xC7, 0x20, 0x12}},
                                        {3, {0xE7, 0x20, 0x20}},
-                                       {4, {0xD7, 0x20, 0xEC, 0x10}}};
+                                       {4, {0xD7, 0x20, 0xEC, 0x10}},
+                                       {2, {0xC8, 0x08}},
+                                       {2, {0xC9, 0x40}},
+                                       {2, {0xE8, 0x40}},
+                                       {2, {0xE8, 0x0B}},
+                                       {2, {0xC9, 0x38}},
+                                       {2, {0xD8, 0x3B}},
+                                       {2, {0xE8, 0x3C}},
+                                       {3, {0xC7, 0x21, 0x08}},
+                                       {3, {0xD7, 0x22, 0x0A}},
+                                       {3, {0xD8, 0x39, 0x00}},
+                                       {4, {0xD8, 0x3A, 0x0C, 0x01}},
+                                       {5, {0xD7, 0x22, 0x3D, 0x06, 0x01}},
+                                       {2, {0x80, 0x41}},
+                                       {3, {0xD0, 0x10, 0x50}}};
 
 static void lengths(void) {
     size_t i;
@@ -645,6 +670,242 @@ static void named_work(void) {
     for (i = 0; i < COUNT(list); i++) {
         work_held(&list[i], 0);
         work_held(&list[i], 1);
+    }
+}
+
+/* ---- MUL, MULS, DIV and DIVS: the destination, of so many bytes, and the register of half as many that it is multiplied or divided by */
+enum { KEPT = -1, NO_REGISTER = 255 }; /* V is as it was; the operand is a constant, in the code */
+
+struct scale {
+    struct code code;
+    uint8_t to, bytes, from;
+    uint32_t before, by, after;
+    int v;
+};
+
+/* In bank 2, with some marks; all flags are 1 that are not marked, but V is not where it is to become 1. */
+static void scale_held(const struct scale *s, uint8_t marks, int by_run) {
+    uint8_t f = (uint8_t)(0xD7 & ~(marks & 1 ? 0x10 : 0) & ~(marks & 2 || s->v == 1 ? 0x04 : 0));
+    uint8_t spare = (uint8_t)(0xD7 & ~(marks & 4 ? 0x10 : 0) & ~(marks & 8 ? 0x04 : 0));
+    lend_end(s->code.bytes, s->code.length, 2);
+    put(record.bytes + GUARD + s->to, s->bytes, s->before);
+    if (s->from != NO_REGISTER) put(record.bytes + GUARD + s->from, s->bytes / 2, s->by);
+    record.bytes[GUARD + TLCS900H_F] = f;
+    record.bytes[GUARD + TLCS900H_F_PRIME] = spare;
+    record.bytes[GUARD + TLCS900H_MARKS] = marks;
+    keep();
+    put(kept(&record) + s->to, s->bytes, s->after);
+    put(kept(&record) + 80, 4, 256);
+    if (s->v != KEPT) {
+        kept(&record)[TLCS900H_F] = (uint8_t)((f & ~0x04) | (s->v ? 0x04 : 0));
+        kept(&record)[TLCS900H_MARKS] = marks & 13;
+    }
+    if (by_run) kept_word = 1;
+    held(by_run ? "run" : "step", by_run ? run(1) : step(), 0);
+}
+
+static void scales(void) {
+    static const struct scale list[] = {
+        /* the book's examples: MUL, MULS, DIV and DIVS of XIX by IY */
+        {{2, {0xDD, 0x44}}, TLCS900H_XIX, 4, TLCS900H_XIY, 0x55661234, 0x89AB, 0x09C9FCBC, KEPT},
+        {{2, {0xDD, 0x4C}}, TLCS900H_XIX, 4, TLCS900H_XIY, 0x55661234, 0x89AB, 0xF795FCBC, KEPT},
+        {{2, {0xDD, 0x54}}, TLCS900H_XIX, 4, TLCS900H_XIY, 0x12345678, 0x89AB, 0x0FDA21DA, 0},
+        {{2, {0xDD, 0x5C}}, TLCS900H_XIX, 4, TLCS900H_XIY, 0x12345678, 0x89AB, 0x16EED89E, 0},
+        /* bytes: WA BC DE HL of bank 2, by a register and by a constant */
+        {{2, {0xCA, 0x41}}, 32, 2, 37, 0x55FF, 0xFF, 0xFE01, KEPT},
+        {{2, {0xC9, 0x4B}}, 36, 2, 32, 0x5580, 0x7F, 0xC080, KEPT},
+        {{2, {0xCF, 0x55}}, 40, 2, 44, 0x1234, 0x56, 0x1036, 0},
+        {{2, {0xCC, 0x5F}}, 44, 2, 41, 0xFFF9, 0x02, 0xFFFD, 0}, /* -7 by 2 is -3, and -1 is left */
+        {{3, {0xC9, 0x08, 0x00}}, 32, 2, NO_REGISTER, 0x55FF, 0, 0x0000, KEPT},
+        {{3, {0xCB, 0x09, 0x80}}, 36, 2, NO_REGISTER, 0x5580, 0, 0x4000, KEPT},
+        {{3, {0xCD, 0x0A, 0xFF}}, 40, 2, NO_REGISTER, 0xFEFF, 0, 0xFEFF, 0}, /* FFH, and FEH is left */
+        {{3, {0xCF, 0x0B, 0xFE}}, 44, 2, NO_REGISTER, 0x0007, 0, 0x01FD, 0}, /* 7 by -2 is -3, and 1 is left */
+        /* signed quotients at the ends of their range, and one past them */
+        {{3, {0xC9, 0x0B, 0xFF}}, 32, 2, NO_REGISTER, 0xFF81, 0, 0x007F, 0},
+        {{3, {0xC9, 0x0B, 0xFF}}, 32, 2, NO_REGISTER, 0xFF80, 0, 0xFF80, 1},
+        {{3, {0xC9, 0x0B, 0xFF}}, 32, 2, NO_REGISTER, 0x0080, 0, 0x0080, 0},
+        {{3, {0xC9, 0x0B, 0xFF}}, 32, 2, NO_REGISTER, 0x0081, 0, 0x0081, 1},
+        {{3, {0xC9, 0x0B, 0x80}}, 32, 2, NO_REGISTER, 0x407F, 0, 0x7F80, 0}, /* 407FH by -80H is -80H, and 7FH is left */
+        {{3, {0xC9, 0x0B, 0x80}}, 32, 2, NO_REGISTER, 0x4080, 0, 0x4080, 1},
+        {{3, {0xC9, 0x0B, 0x80}}, 32, 2, NO_REGISTER, 0xC001, 0, 0x817F, 0}, /* -3FFFH by -80H is 7FH, and -7FH is left */
+        {{3, {0xC9, 0x0B, 0x80}}, 32, 2, NO_REGISTER, 0xC000, 0, 0xC000, 1},
+        {{4, {0xDE, 0x0B, 0xFF, 0xFF}}, TLCS900H_XIZ, 4, NO_REGISTER, 0xFFFF8001, 0, 0x00007FFF, 0},
+        {{4, {0xDE, 0x0B, 0xFF, 0xFF}}, TLCS900H_XIZ, 4, NO_REGISTER, 0xFFFF8000, 0, 0xFFFF8000, 1},
+        {{4, {0xDE, 0x0B, 0xFF, 0xFF}}, TLCS900H_XIZ, 4, NO_REGISTER, 0x80000000, 0, 0x80000000, 1},
+        {{4, {0xDE, 0x0B, 0x00, 0x80}}, TLCS900H_XIZ, 4, NO_REGISTER, 0x40007FFF, 0, 0x7FFF8000, 0},
+        {{4, {0xDE, 0x0B, 0x00, 0x80}}, TLCS900H_XIZ, 4, NO_REGISTER, 0x40008000, 0, 0x40008000, 1},
+        /* quotients without a sign, the same; and a divisor of 0 */
+        {{2, {0xD9, 0x50}}, 32, 4, 36, 0xFFFEFFFF, 0xFFFF, 0xFFFEFFFF, 0},
+        {{2, {0xD9, 0x50}}, 32, 4, 36, 0xFFFF0000, 0xFFFF, 0xFFFF0000, 1},
+        {{3, {0xC9, 0x0A, 0x01}}, 32, 2, NO_REGISTER, 0x00FF, 0, 0x00FF, 0},
+        {{3, {0xC9, 0x0A, 0x01}}, 32, 2, NO_REGISTER, 0x0100, 0, 0x0100, 1},
+        {{3, {0xC9, 0x0A, 0x00}}, 32, 2, NO_REGISTER, 0x0000, 0, 0x0000, 1},
+        {{2, {0xD9, 0x58}}, 32, 4, 36, 0x12345678, 0x0000, 0x12345678, 1},
+        {{2, {0xDC, 0x57}}, TLCS900H_XSP, 4, TLCS900H_XIX, 0x00000100, 0x0000, 0x00000100, 1},
+        /* a register by itself or by a part of itself: both are read first */
+        {{2, {0xC9, 0x41}}, 32, 2, NO_REGISTER, 0xFF0C, 0, 0x0090, KEPT},
+        {{2, {0xCE, 0x47}}, 44, 2, NO_REGISTER, 0x0203, 0, 0x0006, KEPT},
+        {{2, {0xCF, 0x57}}, 44, 2, NO_REGISTER, 0x0110, 0, 0x0011, 0},
+        {{2, {0xC8, 0x59}}, 32, 2, NO_REGISTER, 0xFF81, 0, 0x007F, 0},
+        {{3, {0xD7, 0xE2, 0x58}}, 32, 4, NO_REGISTER, 0xFFFF8001, 0, 0x00007FFF, 0}, /* DIVS XWA,QWA */
+        /* registers by a code byte: by RW0; by QIX; IX, XDE3, HL' and XBC' by a constant. The bank before is bank 1 */
+        {{3, {0xC7, 0x01, 0x43}}, 36, 2, 1, 0x5512, 0x10, 0x0120, KEPT},
+        {{3, {0xD7, 0xF2, 0x5D}}, TLCS900H_XIY, 4, 66, 0xFFFFFFF9, 0xFFFE, 0xFFFF0003, 0},
+        {{4, {0xC7, 0xF0, 0x08, 0x02}}, TLCS900H_XIX, 2, NO_REGISTER, 0x55FF, 0, 0x01FE, KEPT},
+        {{5, {0xD7, 0x38, 0x0A, 0x00, 0x01}}, 56, 4, NO_REGISTER, 0x00123456, 0, 0x00561234, 0},
+        {{4, {0xC7, 0xDC, 0x09, 0xFF}}, 28, 2, NO_REGISTER, 0x5580, 0, 0x0080, KEPT},
+        {{5, {0xD7, 0xD4, 0x0B, 0x00, 0x00}}, 20, 4, NO_REGISTER, 0x00000000, 0, 0x00000000, 1}};
+    uint8_t marks;
+    size_t i;
+    for (i = 0; i < COUNT(list); i++)
+        for (marks = 0; marks < 16; marks++) scale_held(&list[i], marks, marks % 2);
+}
+
+/* ---- which operand codes MUL to DIVS, MINC and MDEC have: each is done, or refused with 4 at the byte that forces it */
+
+/* An instruction of so many bytes, whole and cut off; or one whose byte `bad`, from 1 on, is 4, and which is not looked at further. */
+static void taken_as(const uint8_t *bytes, int length, int bad) {
+    int there, most = bad > 0 ? bad : length;
+    for (there = 1; there <= most; there++) {
+        uint8_t number = there == bad ? 4 : there < length ? 3 : 0;
+        lend_end(bytes, there, 2);
+        keep();
+        kept_word = number == 0 ? (uint32_t)length : 0;
+        held("show", show((uint32_t)(256 - there)), number);
+        if (number != 0) held("step", step(), number);
+    }
+}
+
+/* Behind C8, D8, E8 and r, or C7, D7, E7 and a code byte: `low` says whether the operand is the lower half of a wider one. */
+static void operand_taken(const uint8_t *start, int length, int bytes, int low) {
+    uint8_t code[7];
+    int second;
+    memcpy(code, start, (size_t)length);
+    for (second = 0x08; second < 0x60; second++) {
+        int number = second >= 0x38 && second < 0x40, by_register = second >= 0x40;
+        if (second > 0x0B && !number && !by_register) continue;
+        code[length] = (uint8_t)second;
+        put(code + length + 1, 2, number ? 0x80u - (1u << second % 4) : 0); /* a table of 80H, less the step */
+        if (number)
+            taken_as(code, length + 3, bytes == 2 && second % 4 != 3 ? 0 : length + 1);
+        else if (by_register)
+            taken_as(code, length + 1, bytes == 2 || (bytes == 1 && second % 2 == 1) ? 0 : length + 1);
+        else
+            taken_as(code, length + 1 + bytes, low ? 0 : length + 1);
+    }
+}
+
+static void operands_taken(void) {
+    static const uint8_t codes[] = {0x00, 0x01, 0x02, 0x3F, 0xD3, 0xE4, 0xE6, 0xF0, 0xFC, 0xFD, 0xFE};
+    uint8_t start[2];
+    int bytes;
+    size_t i;
+    for (bytes = 1; bytes <= 4; bytes *= 2) {
+        for (i = 0; i < 8; i++) {
+            start[0] = (uint8_t)((bytes == 1 ? 0xC8 : bytes == 2 ? 0xD8 : 0xE8) + i);
+            operand_taken(start, 1, bytes, bytes == 2 || (bytes == 1 && i % 2 == 1));
+        }
+        for (i = 0; i < COUNT(codes); i++) {
+            name(start, bytes, codes[i]);
+            if (named_at(codes[i], bytes, 2) < 0) continue;
+            operand_taken(start, 2, bytes, bytes < 4 && named_at(codes[i], 2 * bytes, 2) >= 0);
+        }
+    }
+}
+
+/* Whether num is one that the header names for a step. */
+static int is_number(long num, int stride) { return num >= 2 * stride && num <= 32768 && (num & (num - 1)) == 0; }
+
+/* Numbers of MINC and MDEC of IX: 2^n less the step, and those beside it. n is at least 1, 2 or 3, and at most 15. */
+static void numbers_taken(void) {
+    uint8_t code[4] = {0xDC};
+    int n, beside, kind;
+    for (kind = 0; kind < 6; kind++)
+        for (n = 0; n <= 16; n++)
+            for (beside = -1; beside <= 1; beside++) {
+                int from = kind % 3, stride = 1 << from;
+                long last = (1L << n) - stride + beside;
+                if (last < 0 || last > 0xFFFF) continue;
+                code[1] = (uint8_t)((kind < 3 ? 0x38 : 0x3C) + from);
+                put(code + 2, 2, (uint32_t)last);
+                lend_end(code, 4, 2);
+                keep();
+                if (is_number(last + stride, stride)) {
+                    kept_word = 4;
+                    held("show", show(252), 0);
+                } else {
+                    kept_word = 0;
+                    held("show", show(252), 4);
+                    held("step", step(), 4);
+                }
+            }
+}
+
+static void feed_codes(void) {
+    operands_taken();
+    numbers_taken();
+}
+
+/* ---- MINC and MDEC: a pointer before and after */
+static void cycle_held(const uint8_t *bytes, int length, size_t to, uint16_t before, uint16_t after, uint8_t marks) {
+    lend_end(bytes, length, 2);
+    record.bytes[GUARD + TLCS900H_F] = 0xC3;
+    record.bytes[GUARD + TLCS900H_F_PRIME] = 0x81;
+    record.bytes[GUARD + TLCS900H_MARKS] = marks;
+    put(record.bytes + GUARD + to, 2, before);
+    keep();
+    put(kept(&record) + to, 2, after);
+    put(kept(&record) + 80, 4, 256);
+    held("step", step(), 0);
+}
+
+struct cycle {
+    uint8_t second;
+    uint16_t last, before, after;
+};
+
+/* The book's examples, both steps of each; ends of the largest table and of the words; and pointers between entries. */
+static const struct cycle cycles[] = {
+    {0x38, 0x0007, 0x1206, 0x1207}, {0x38, 0x0007, 0x1207, 0x1200}, {0x39, 0x0006, 0x1234, 0x1236}, {0x39, 0x0006, 0x1236, 0x1230},
+    {0x3A, 0x003C, 0x1278, 0x127C}, {0x3A, 0x003C, 0x127C, 0x1240}, {0x3C, 0x0007, 0x1231, 0x1230}, {0x3C, 0x0007, 0x1230, 0x1237},
+    {0x3D, 0x0006, 0x123A, 0x1238}, {0x3D, 0x0006, 0x1238, 0x123E}, {0x3E, 0x007C, 0x1284, 0x1280}, {0x3E, 0x007C, 0x1280, 0x12FC},
+    {0x38, 0x7FFF, 0x7FFF, 0x0000}, {0x38, 0x7FFF, 0xFFFF, 0x8000}, {0x3C, 0x7FFF, 0x0000, 0x7FFF}, {0x3C, 0x7FFF, 0x8000, 0xFFFF},
+    {0x3A, 0x7FFC, 0x7FFC, 0x0000}, {0x3E, 0x7FFC, 0x8000, 0xFFFC}, {0x38, 0x0001, 0xFFFF, 0xFFFE}, {0x3C, 0x0001, 0xFFFE, 0xFFFF},
+    {0x39, 0x0006, 0x1237, 0x1239}, {0x39, 0x0006, 0xFFFF, 0x0001}, {0x3A, 0x003C, 0x127D, 0x1281}, {0x3D, 0x0006, 0x1231, 0x122F},
+    {0x3D, 0x0006, 0x0001, 0xFFFF}, {0x3E, 0x0004, 0x0003, 0xFFFF}};
+
+/* So many entries up, or down, come back to the first one; XIX's upper half and all else stay. JR leads back to the step. */
+static void goes_round(uint8_t second, uint16_t last, uint32_t entries) {
+    uint8_t loop[6] = {0xDC, 0, 0, 0, 0x68, 0xFA};
+    loop[1] = second;
+    put(loop + 2, 2, last);
+    lend_code(0, loop, 6);
+    put(record.bytes + GUARD + TLCS900H_XIX, 4, 0x56788000);
+    keep();
+    kept_word = 2 * entries;
+    held("run", run(2 * entries), 0);
+}
+
+static void cycles_held(void) {
+    uint8_t marks;
+    size_t i;
+    for (i = 0; i < COUNT(cycles); i++)
+        for (marks = 0; marks < 16; marks++) {
+            uint8_t plain[4] = {0xDC}, named[5] = {0xD7, 0x22}; /* IX; QWA2 */
+            plain[1] = named[2] = cycles[i].second;
+            put(plain + 2, 2, cycles[i].last);
+            put(named + 3, 2, cycles[i].last);
+            cycle_held(plain, 4, TLCS900H_XIX, cycles[i].before, cycles[i].after, marks);
+            cycle_held(named, 5, 34, cycles[i].before, cycles[i].after, marks);
+        }
+    for (i = 1; i <= 15; i++) {
+        uint32_t num = 1u << i;
+        goes_round(0x38, (uint16_t)(num - 1), num);
+        goes_round(0x3C, (uint16_t)(num - 1), num);
+        if (num >= 4) goes_round(0x39, (uint16_t)(num - 2), num / 2);
+        if (num >= 4) goes_round(0x3D, (uint16_t)(num - 2), num / 2);
+        if (num >= 8) goes_round(0x3A, (uint16_t)(num - 4), num / 4);
+        if (num >= 8) goes_round(0x3E, (uint16_t)(num - 4), num / 4);
     }
 }
 
@@ -1262,6 +1523,9 @@ int main(void) {
     group("a store, F and F' exchanged, LDF 0 to 7", changes);
     group("every code byte behind C7, D7 and E7, in every bank", named_registers);
     group("work on registers of every bank", named_work);
+    group("products and quotients, and V, with every mark", scales);
+    group("which operand codes multiply, divide and modulo steps have", feed_codes);
+    group("modulo steps, once and all the way round", cycles_held);
     group("a run that stops, and the longest", stops);
     group("what sets, clears, keeps and exchanges the marks", mark_changes);
     group("jumps, PUSH F and PUSH SR that read a marked flag", mark_refusals);

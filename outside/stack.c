@@ -2,10 +2,10 @@
  * How much stack each call takes: it is called on a painted stack, and what is no longer paint was used. Every first byte of an
  * instruction is tried with every byte behind it, and with every byte behind one, two and three others, which are 0; behind C7,
  * D7 and E7 the first of these is also the code of a register of bank 2, of the bank before, of the bank in use and of all
- * banks; from RAM and from ROM; with registers that point to RAM, to ROM and to neither; with H and V of F and F' marked, and
- * with no mark. Requests of every level have their vector in RAM, in ROM and in neither. Records that are moved are good ones,
- * of which the old form holds some, and such as are cut short. The header names a bound; the last line counts the calls that
- * keep below it.
+ * banks, and behind a register it is also DIVS with a constant and MINC2 with a number; from RAM and from ROM; with registers
+ * that point to RAM, to ROM and to neither; with H and V of F and F' marked, and with no mark. Requests of every level have
+ * their vector in RAM, in ROM and in neither. Records that are moved are good ones, of which the old form holds some, and such
+ * as are cut short. The header names a bound; the last line counts the calls that keep below it.
  * Stack that is set aside and never written is not seen. For x86-64.
  */
 #define _XOPEN_SOURCE 700
@@ -126,11 +126,13 @@ static size_t most_of(void (*call)(void), int first, int second) {
 /* The most that it takes for every kind of instruction. */
 static size_t most(void (*call)(void)) {
     static const uint8_t codes[] = {0x00, 0x2C, 0xD8, 0xE4, 0xF0}; /* of longs, so that they name a word and a byte too */
+    static const uint8_t feeds[] = {0x00, 0x0B, 0x39};             /* DIVS and MINC2, with every byte of what they are given */
     size_t deepest = 0;
     for (int first = 0; first < 256; first++) {
         int named = first == 0xC7 || first == 0xD7 || first == 0xE7;
-        for (size_t i = 0; i < (named ? sizeof codes : 1); i++) {
-            size_t bytes = most_of(call, first, codes[i]);
+        int of_register = first >= 0xC8 && first < 0xF0 && first & 8;
+        for (size_t i = 0; i < (named ? sizeof codes : of_register ? sizeof feeds : 1); i++) {
+            size_t bytes = most_of(call, first, named ? codes[i] : feeds[i]);
             if (bytes > deepest) deepest = bytes;
         }
     }

@@ -125,9 +125,9 @@ module _ (z : Size) (o p : Operand) where
 -- of the feed calculation's rows alone: what they say is a use of the operand, or nothing
 pub feed-forms : (z : Size) (o : Operand) (s : List ℕ) → ((how : Use) × (n : ℕ) × (judge (byRows (feedRows z o)) s 1 ≡ wholeOf (Puts how) z o n)) ⊎ ((judge (byRows (feedRows z o)) s 1 ≡ Short) ⊎ (judge (byRows (feedRows z o)) s 1 ≡ Unlisted))
 feed-forms z o s = elim (same-next z o o _ _ (same-feed z o o refl) s 1) [
-    inl w ↦ inl (w .0, w .1, w .2)
+  | inl w ↦ inl (w .0, w .1, w .2)
   | inr w ↦ elim w [ inl x ↦ inr (inl (x .0)) | inr x ↦ inr (inr (x .0)) ]
-  ]
+]
 
 -- it has two bytes or more
 pub feed-bytes : (z : Size) (o : Operand) (s : List ℕ) (how : Use) (n : ℕ) → judge (byRows (feedRows z o)) s 1 ≡ wholeOf (Puts how) z o n → 2 ≤ n

@@ -42,9 +42,9 @@ power-is : (n num : ℕ) → isPower n num ≡ true → (j : ℕ) × (j ≤ n) �
 unfolding isPower
 power-is zero num e = let z : _≡_ {A = ℕ} 0 1 = cc in let y : ⊥ = omega arith in absurd y
 power-is (suc n) num e = elim (either-true (eqb num (2 ^ suc n)) (isPower n num) e) [
-    inl h ↦ (suc n, omega arith, eqb-true num (2 ^ suc n) h)
+  | inl h ↦ (suc n, omega arith, eqb-true num (2 ^ suc n) h)
   | inr h ↦ let p = power-is n num h in (p .0, (let l = p .1 in omega (arith, l)), p .2)
-  ]
+]
 
 -- what is computed of each of them
 lasts : (s : Stride) (j : ℕ) → j < 16 → cond (leb (2 * strideOf s) (2 ^ j)) (isTable s ((2 ^ j - strideOf s) % 256)) true ≡ true
@@ -147,7 +147,7 @@ module _ (Y : Type 0) (z : Size) (o : Operand) (i : ℕ) (p : List ℕ) (l : i �
             only-walk _ _ _ (isTable s (lo + 256 * hi)) (λ t. (
               omega arith,
               append-assoc (p ++ (b ∷ [])) (lo ∷ []) (hi ∷ []) ∙ (more b c (lo ∷ hi ∷ []) g
-              ∙ ap (λ (x : List ℕ). placeCode (sizeStep z) o ++ x) (sym (k (lo + 256 * hi) ∙ ap (λ (x : List ℕ). c ∷ x) (two-bytes lo hi a (x .1))))),
+                  ∙ ap (λ (x : List ℕ). placeCode (sizeStep z) o ++ x) (sym (k (lo + 256 * hi) ∙ ap (λ (x : List ℕ). c ∷ x) (two-bytes lo hi a (x .1))))),
               λ y. (m (lo + 256 * hi) t, q y),
             )),
         tt,
