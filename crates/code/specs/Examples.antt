@@ -5,9 +5,13 @@ use Rattle.little.specs.declared.Size.the-variants.{Byte, Word, Long}
 use Rattle.alu.specs.declared.Shift.the-variants.{Sla, Sra, Srl}
 use Rattle.alu.specs.declared.Arith.the-variants.{Add, Adc, Sub, And, Xor, Or, Cp}
 use Rattle.alu.specs.declared.change.Change.the-variants.{Inc, Dec, ShiftBy, Extz, Exts}
+use Rattle.feed.specs.declared.scale.Scale.the-variants.{Mul, Muls, Div, Divs}
+use Rattle.feed.specs.declared.cycle.Stride.the-variants.{One, Two, Four}
+use Rattle.feed.specs.declared.cycle.Cycle.the-variants.{Minc, Mdec}
+use Rattle.feed.specs.Cycle.{isPower, isTable}
 use Rattle.code.specs.{declared.Operand.the-variants.Register, declared.Operand.the-variants.Named, declared.Operand.the-variants.Constant, declared.Decoded.Decoded}
 use Rattle.code.specs.{declared.Decoded.the-variants.Short, declared.Decoded.the-variants.Unlisted, Said.judge, Said.numberAt, Said.wholeOf}
-use Rattle.code.specs.{Rows.lookup, Registers.registerRows, Registers.placesRows, Memory.form, Memory.memoryRows, Memory.storeRows}
+use Rattle.code.specs.{Rows.lookup, Registers.registerRows, Registers.feedRows, Registers.tableRows, Registers.lastRows, Registers.placesRows, Memory.form, Memory.memoryRows, Memory.storeRows}
 use Rattle.code.specs.{Memory.copies, Memory.compares, Memory.blocks, Memory.indirectRows, Listed.absoluteRows, Listed.upToSevenRows}
 use Rattle.code.specs.{Listed.bankRows, Listed.flagRows, Listed.constantRows, Listed.stackRows, Listed.jumpRows, Listed.relativeRows}
 use Rattle.code.specs.{Listed.interruptRows, Listed.registerFormRows, Listed.memoryFormRows, Listed.memoryAtRows, Listed.storeFormRows, Listed.aloneRows}
@@ -16,7 +20,7 @@ use Rattle.code.specs.declared.Op.the-variants.{Controls, Stacks, Puts, 
 use Rattle.code.specs.declared.Control.the-variants.{Nop, Incf, Decf, Ldf, Zcf, Exf, Jp24, Jr, Jrl, Ei}
 use Rattle.code.specs.declared.Stack.the-variants.{PopF, Push, Pop, Call16, Calr, Ret}
 use Rattle.code.specs.declared.Interrupt.the-variants.{PushSr, PopSr, Reti}
-use Rattle.code.specs.declared.Use.the-variants.{Number, From, Load, Compute, Changed}
+use Rattle.code.specs.declared.Use.the-variants.{Number, From, Load, Compute, Changed, Scaled, ScaledWith, Cycled}
 use Rattle.code.specs.declared.Side.the-variants.{First, Second, With}
 use Rattle.code.specs.declared.Base.the-variants.{Indirect, Displaced, Absolute8, Absolute16, Absolute24}
 
@@ -79,6 +83,19 @@ examples =
     ((0xE7 ∷ 0x34 ∷ 0xCA ∷ 0x78 ∷ 0x56 ∷ 0x34 ∷ 0x12 ∷ []) is wholeOf (Puts (Compute Sub (With 0x12345678))) Long (Named 0x34) 7) ∷
     ((0xC7 ∷ 0xF0 ∷ 0x99 ∷ []) is wholeOf (Puts (From 1)) Byte (Named 0xF0) 3) ∷ ((0xC7 ∷ 0xF1 ∷ 0x88 ∷ []) is wholeOf (Puts (Load 0)) Byte (Named 0xF1) 3) ∷
     ((0xD7 ∷ 0xE0 ∷ 0xEF ∷ 0x00 ∷ []) is wholeOf (Puts (Changed (ShiftBy Srl 0))) Word (Named 0xE0) 4) ∷
+    -- MUL XWA,BC; MULS BC,W; DIV XSP,BC; DIVS DE,RW2; MUL WA,5; DIVS XWA,1234H; MULS IX,5; DIV XBC2,1
+    ((0xD9 ∷ 0x40 ∷ []) is wholeOf (Puts (Scaled Mul 0)) Word (Register 1) 2) ∷
+    ((0xC8 ∷ 0x4B ∷ []) is wholeOf (Puts (Scaled Muls 3)) Byte (Register 0) 2) ∷
+    ((0xD9 ∷ 0x57 ∷ []) is wholeOf (Puts (Scaled Div 7)) Word (Register 1) 2) ∷
+    ((0xC7 ∷ 0x21 ∷ 0x5D ∷ []) is wholeOf (Puts (Scaled Divs 5)) Byte (Named 0x21) 3) ∷
+    ((0xC9 ∷ 0x08 ∷ 0x05 ∷ []) is wholeOf (Puts (ScaledWith Mul 5)) Byte (Register 1) 3) ∷
+    ((0xD8 ∷ 0x0B ∷ 0x34 ∷ 0x12 ∷ []) is wholeOf (Puts (ScaledWith Divs 0x1234)) Word (Register 0) 4) ∷
+    ((0xC7 ∷ 0xF0 ∷ 0x09 ∷ 0x05 ∷ []) is wholeOf (Puts (ScaledWith Muls 5)) Byte (Named 0xF0) 4) ∷
+    ((0xD7 ∷ 0x24 ∷ 0x0A ∷ 0x01 ∷ 0x00 ∷ []) is wholeOf (Puts (ScaledWith Div 1)) Word (Named 0x24) 5) ∷
+    -- MINC1 8,IX; MINC2 8000H,QWA2; MDEC4 80H,IX
+    ((0xDC ∷ 0x38 ∷ 0x07 ∷ 0x00 ∷ []) is wholeOf (Puts (Cycled (Minc One 7))) Word (Register 4) 4) ∷
+    ((0xD7 ∷ 0x22 ∷ 0x39 ∷ 0xFE ∷ 0x7F ∷ []) is wholeOf (Puts (Cycled (Minc Two 0x7FFE))) Word (Named 0x22) 5) ∷
+    ((0xDC ∷ 0x3E ∷ 0x7C ∷ 0x00 ∷ []) is wholeOf (Puts (Cycled (Mdec Four 0x7C))) Word (Register 4) 4) ∷
     -- memory forms
     ((0x84 ∷ 0x25 ∷ []) is wholeOf (Puts (Load 5)) Byte (form (Indirect 4) 0) 2) ∷
     ((0x9D ∷ 0xFF ∷ 0x25 ∷ []) is wholeOf (Puts (Load 5)) Word (form (Displaced 5) 0xFF) 3) ∷
@@ -98,16 +115,20 @@ examples =
     (([]) is Short) ∷ ((0x17 ∷ []) is Short) ∷ ((0x42 ∷ 0x01 ∷ 0x02 ∷ 0x03 ∷ []) is Short) ∷ ((0xDB ∷ 0xEC ∷ []) is Short) ∷
     ((0xC9 ∷ 0xC8 ∷ []) is Short) ∷ ((0xC1 ∷ 0x34 ∷ []) is Short) ∷ ((0xC1 ∷ 0x34 ∷ 0x12 ∷ []) is Short) ∷ ((0x83 ∷ []) is Short) ∷
     ((0xF2 ∷ []) is Short) ∷ ((0x06 ∷ []) is Short) ∷ ((0xC7 ∷ []) is Short) ∷ ((0xD7 ∷ 0x22 ∷ []) is Short) ∷
-    ((0xE7 ∷ 0x34 ∷ 0xCA ∷ 0x78 ∷ 0x56 ∷ 0x34 ∷ []) is Short) ∷
+    ((0xE7 ∷ 0x34 ∷ 0xCA ∷ 0x78 ∷ 0x56 ∷ 0x34 ∷ []) is Short) ∷ ((0xC9 ∷ 0x08 ∷ []) is Short) ∷ ((0xD8 ∷ 0x38 ∷ []) is Short) ∷
+    ((0xD8 ∷ 0x38 ∷ 0xFF ∷ []) is Short) ∷
     -- unlisted
     ((0x2F ∷ []) is Unlisted) ∷ ((0x3F ∷ []) is Unlisted) ∷ ((0x4F ∷ []) is Unlisted) ∷ ((0x5F ∷ []) is Unlisted) ∷ ((0x01 ∷ []) is Unlisted) ∷
     ((0x17 ∷ 0x08 ∷ []) is Unlisted) ∷ ((0xDB ∷ 0xEC ∷ 0x10 ∷ []) is Unlisted) ∷ ((0xC8 ∷ 0x12 ∷ []) is Unlisted) ∷ ((0x84 ∷ 0x10 ∷ []) is Unlisted) ∷
     ((0x80 ∷ 0x14 ∷ []) is Unlisted) ∷ ((0x93 ∷ 0x18 ∷ []) is Unlisted) ∷ ((0xA3 ∷ 0x11 ∷ []) is Unlisted) ∷ ((0xFF ∷ []) is Unlisted) ∷
     ((0xB3 ∷ 0x20 ∷ []) is Unlisted) ∷ ((0xC3 ∷ []) is Unlisted) ∷ ((0x06 ∷ 0x08 ∷ []) is Unlisted) ∷ ((0x04 ∷ []) is Unlisted) ∷
     ((0x05 ∷ []) is Unlisted) ∷ ((0x08 ∷ []) is Unlisted) ∷ ((0xC7 ∷ 0x40 ∷ []) is Unlisted) ∷ ((0xC7 ∷ 0xCF ∷ []) is Unlisted) ∷
-    ((0xD7 ∷ 0x21 ∷ []) is Unlisted) ∷ ((0xE7 ∷ 0x22 ∷ []) is Unlisted) ∷ ((0xC7 ∷ 0x20 ∷ 0x12 ∷ []) is Unlisted) ∷ ((0xF7 ∷ []) is Unlisted) ∷ []
+    ((0xD7 ∷ 0x21 ∷ []) is Unlisted) ∷ ((0xE7 ∷ 0x22 ∷ []) is Unlisted) ∷ ((0xC7 ∷ 0x20 ∷ 0x12 ∷ []) is Unlisted) ∷ ((0xF7 ∷ []) is Unlisted) ∷
+    ((0xC9 ∷ 0x40 ∷ []) is Unlisted) ∷ ((0xC8 ∷ 0x08 ∷ []) is Unlisted) ∷ ((0xC7 ∷ 0x21 ∷ 0x08 ∷ []) is Unlisted) ∷
+    ((0xD7 ∷ 0x22 ∷ 0x08 ∷ []) is Unlisted) ∷ ((0xE8 ∷ 0x41 ∷ []) is Unlisted) ∷ ((0xC9 ∷ 0x38 ∷ []) is Unlisted) ∷
+    ((0xD8 ∷ 0x3B ∷ []) is Unlisted) ∷ ((0xD8 ∷ 0x38 ∷ 0x02 ∷ []) is Unlisted) ∷ ((0xD8 ∷ 0x38 ∷ 0xFF ∷ 0xFF ∷ []) is Unlisted) ∷ []
 
 -- all of them are so, by computation
 pub decoded : map (λ e. decodeOf (e .code)) examples ≡ map (λ e. e .means) examples
-unfolding decodeOf firstRows aloneRows memoryFirstRows namedFormRows codeByteRows bankRows upToSevenRows flagRows constantRows stackRows jumpRows relativeRows interruptRows registerFormRows memoryFormRows memoryAtRows storeFormRows absoluteRows registerRows placesRows memoryRows storeRows copies compares blocks indirectRows judge numberAt lookup valueOf
+unfolding decodeOf isTable isPower feedRows tableRows lastRows firstRows aloneRows memoryFirstRows namedFormRows codeByteRows bankRows upToSevenRows flagRows constantRows stackRows jumpRows relativeRows interruptRows registerFormRows memoryFormRows memoryAtRows storeFormRows absoluteRows registerRows placesRows memoryRows storeRows copies compares blocks indirectRows judge numberAt lookup valueOf
 decoded = refl
