@@ -53,17 +53,17 @@
  * Multiply, divide, modulo steps: r is a byte or a word, by C8+r or D8+r or by C7 or D7 and a code byte. Then comes
  *   40+R MUL, 48+R MULS, 50+R DIV, 58+R DIVS   of a destination, by r. The destination is twice as wide as r and of the bank in
  *                                              use: for bytes R is 1 WA, 3 BC, 5 DE, 7 HL; for words 0 XWA, 1 XBC .. 7 XSP
- *   08 MUL, 09 MULS, 0A DIV, 0B DIVS           and a constant of r's size: of the destination whose lower half r is, by it. So
- *                                              for bytes r is 1 WA, 3 BC, 5 DE or 7 HL, or has an even code byte (F0H is IX);
+ *   08 MUL, 09 MULS, 0A DIV, 0B DIVS           of the destination whose lower half r is, by a constant of r's size. So for
+ *                                              bytes r is 1 WA, 3 BC, 5 DE or 7 HL, or has an even code byte (F0H is IX);
  *                                              for words it is any r, or has a code byte that is a multiple of 4
  *   38 MINC1, 39 MINC2, 3A MINC4               of a word r, and as a word num less the step of 1, 2 or 4. num is 2^n: at most
  *   3C MDEC1, 3D MDEC2, 3E MDEC4               32,768, and at least 2, 4 or 8 with the step 1, 2 or 4
- * What is not named here is refused with 4: another R, r, code byte or num, a long, 3BH and 3FH, and any of these with an
- * operand in memory.
+ * Other operand codes of these are refused with 4: another R, r, code byte or num, a long, and an operand in memory; so are
+ * 3BH and 3FH.
  *   MUL, MULS   multiply the destination's lower half. The product fills the destination. No flag and no mark changes
- *   DIV, DIVS   divide the whole destination: the quotient goes into its lower half and the remainder into its upper half. With
- *               signs (DIVS) the quotient is rounded toward zero, and a remainder that is not 0 has the dividend's sign. V is
- *               then 0. V is 1, and the destination stays as it was, where the divisor is 0 or the quotient does not fit: for
+ *   DIV, DIVS   divide the whole destination: the quotient goes into its lower half and the remainder into its upper half, and
+ *               V is 0. With signs (DIVS) the quotient is rounded toward zero, and a remainder that is not 0 has the dividend's
+ *               sign. V is 1, and the destination stays as it was, where the divisor is 0 or the quotient does not fit: for
  *               bytes DIV has room for 0 to 255 and DIVS for -128 to 127, for words 0 to 65,535 and -32,768 to 32,767. V has a
  *               value either way, so that its mark goes and a jump behind it that reads V is not refused with 8. The other
  *               flags stay, and so does H's mark

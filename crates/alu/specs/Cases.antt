@@ -8,11 +8,6 @@ use Rattle.alu.specs.declared.Arith.the-variants.{Add, Adc, Sub, Sbc, An
 use Rattle.alu.specs.declared.Shift.the-variants.{Sla, Sra, Sll, Srl}
 use Rattle.alu.specs.declared.change.Change.{the-variants.Extz, the-variants.Exts}
 
--- all rows of a table are right
-unfoldable pub every : {A : Type 0} → (A → Bool) → List A → Bool
-every test [] = true
-every test (x ∷ xs) = test x && every test xs
-
 -- a row of the table: what was computed has this value and this F, with its marks above it: 1xx marks H, 2xx V
 abbrev is : Computed → ℕ → ℕ → Bool
 is got value f = eqb (got .value) value && eqb (packedOf (got .flags)) f

@@ -37,7 +37,7 @@ quotients =
     ∷ does 1 (begin 0x00 (0xD8 ∷ 0x0B ∷ 0x00 ∷ 0x80 ∷ []) ▹ Nth 0 0x40000000) (Nth 0 0x00008000 & Counter 4)
     ∷ []
 
--- operand codes that 000 does not allow are 4, judged byte by byte; 3 where a byte lacks that could still make it whole
+-- operand codes that 000 does not allow are 4, judged byte by byte; 3 where a byte is missing that could still make it whole
 unfoldable pub disallowed : List Case
 disallowed =
     -- R even; r even; a code byte that names no word, and no long; longs
@@ -49,7 +49,7 @@ disallowed =
     ∷ halts Unlisted (0xE7 ∷ 0x20 ∷ 0x0A ∷ [])
     ∷ halts NoCode (0xC9 ∷ 0x08 ∷ [])
     ∷ halts NoCode (0xD7 ∷ 0x20 ∷ 0x0B ∷ 0x01 ∷ [])
-    -- MINC of a byte and of a long; 3B; a low byte that begins no number; 0 and FFFFH; a step of 2 by a table of 2
+    -- MINC1 of a byte, MDEC1 of a long; 3B; a low byte that begins no number; 0 and FFFFH; a step of 2 by a table of 2
     ∷ halts Unlisted (0xC9 ∷ 0x38 ∷ [])
     ∷ halts Unlisted (0xE8 ∷ 0x3C ∷ [])
     ∷ halts Unlisted (0xD8 ∷ 0x3B ∷ [])
@@ -61,9 +61,9 @@ disallowed =
     ∷ halts NoCode (0xD8 ∷ 0x38 ∷ 0x07 ∷ [])
     ∷ []
 
--- a pointer goes round: MINC2 with a table of 8000H at both ends of the addresses, by a code byte too; between two entries it leaves the table
-unfoldable pub rounds : List Case
-rounds =
+-- a pointer goes round: MINC2 and MDEC2 with a table of 8000H at the ends of the words, by a code byte too; between two entries it leaves
+unfoldable pub turns : List Case
+turns =
     does 1 (begin 0xD7 (0xDC ∷ 0x39 ∷ 0xFE ∷ 0x7F ∷ []) ▹ IX 0xFFFE) (IX 0x8000 & Counter 4)
     ∷ does 1 (begin 0xD7 (0xD7 ∷ 0x22 ∷ 0x3D ∷ 0xFE ∷ 0x7F ∷ []) ▹ Nth 8 0x00001234) (Nth 8 0x7FFE1234 & Counter 5)
     ∷ does 1 (begin 0xD7 (0xDC ∷ 0x39 ∷ 0x06 ∷ 0x00 ∷ []) ▹ IX 0x1237) (IX 0x1239 & Counter 4)
@@ -71,4 +71,4 @@ rounds =
     ∷ []
 
 abbrev pub FeedHolds : Type 0
-FeedHolds = OfEach ComesOut scaledRegisters × OfEach ComesOut quotients × OfEach ComesOut disallowed × OfEach ComesOut rounds
+FeedHolds = OfEach ComesOut scaledRegisters × OfEach ComesOut quotients × OfEach ComesOut disallowed × OfEach ComesOut turns

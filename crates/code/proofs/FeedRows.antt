@@ -18,7 +18,7 @@ use Rattle.feed.specs.declared.cycle.Stride.{Stride}
 use Rattle.feed.specs.declared.cycle.Stride.the-variants.{One, Two, Four}
 use Rattle.feed.specs.declared.cycle.Cycle.{Cycle}
 use Rattle.feed.specs.declared.cycle.Cycle.the-variants.{Minc, Mdec}
-use Rattle.feed.specs.Cycle.{strideOf, isPower, isTable}
+use Rattle.feed.specs.Cycle.{strideStep, isPower, isTable}
 use Rattle.code.specs.declared.Op.the-variants.{Puts}
 use Rattle.code.specs.declared.Use.the-variants.{Scaled, ScaledWith, Cycled}
 use Rattle.code.specs.declared.Operand.{Operand}
@@ -47,13 +47,13 @@ power-is (suc n) num e = elim (either-true (eqb num (2 ^ suc n)) (isPower n num)
 ]
 
 -- what is computed of each of them
-lasts : (s : Stride) (j : ℕ) → j < 16 → cond (leb (2 * strideOf s) (2 ^ j)) (isTable s ((2 ^ j - strideOf s) % 256)) true ≡ true
+lasts : (s : Stride) (j : ℕ) → j < 16 → cond (leb (2 * strideStep s) (2 ^ j)) (isTable s ((2 ^ j - strideStep s) % 256)) true ≡ true
 unfolding isTable isPower
 lasts One = table _ _ 16 refl
 lasts Two = table _ _ 16 refl
 lasts Four = table _ _ 16 refl
 
-below : (s : Stride) (j : ℕ) → j < 16 → ltb (2 ^ j - strideOf s) 0x8000 ≡ true
+below : (s : Stride) (j : ℕ) → j < 16 → ltb (2 ^ j - strideStep s) 0x8000 ≡ true
 below One = table _ _ 16 refl
 below Two = table _ _ 16 refl
 below Four = table _ _ 16 refl
@@ -62,17 +62,17 @@ below Four = table _ _ 16 refl
 pub table-last : (s : Stride) (last : ℕ) → isTable s last ≡ true → (last < 0x8000) × (isTable s (last % 256) ≡ true)
 unfolding isTable
 table-last s last e =
-    let t = both-true (isPower 15 (last + strideOf s)) (leb (2 * strideOf s) (last + strideOf s)) e in
-    let p = power-is 15 (last + strideOf s) (t .0) in
+    let t = both-true (isPower 15 (last + strideStep s)) (leb (2 * strideStep s) (last + strideStep s)) e in
+    let p = power-is 15 (last + strideStep s) (t .0) in
     let l : p .0 < 16 = let h = p .1 in omega (arith, h) in
-    let w : 2 ^ p .0 - strideOf s ≡ last = let h = p .2 in omega (arith, h) in
-    let g : leb (2 * strideOf s) (2 ^ p .0) ≡ true = subst (λ (x : ℕ). leb (2 * strideOf s) x ≡ true) (p .2) (t .1) in
-    let f : isTable s ((2 ^ p .0 - strideOf s) % 256) ≡ true = rw g at (lasts s (p .0) l) in
-    let b : ltb (2 ^ p .0 - strideOf s) 0x8000 ≡ true = below s (p .0) l in
+    let w : 2 ^ p .0 - strideStep s ≡ last = let h = p .2 in omega (arith, h) in
+    let g : leb (2 * strideStep s) (2 ^ p .0) ≡ true = subst (λ (x : ℕ). leb (2 * strideStep s) x ≡ true) (p .2) (t .1) in
+    let f : isTable s ((2 ^ p .0 - strideStep s) % 256) ≡ true = rw g at (lasts s (p .0) l) in
+    let b : ltb (2 ^ p .0 - strideStep s) 0x8000 ≡ true = below s (p .0) l in
     (ltb-true last 0x8000 (subst (λ (x : ℕ). ltb x 0x8000 ≡ true) w b), subst (λ (x : ℕ). isTable s (x % 256) ≡ true) w f)
 
 -- the least number of each step
-least : (s : Stride) → isTable s (strideOf s) ≡ true
+least : (s : Stride) → isTable s (strideStep s) ≡ true
 unfolding isTable isPower
 least One = refl
 least Two = refl
@@ -107,9 +107,9 @@ module _ (z : Size) (o : Operand) (s : Stride) (how : ℕ → Cycle) where
   can-low lo l e = (lo, omega arith, rw (le-leb lo 0xFF l, le-leb 0 lo (omega arith)) (can-only (isTable s lo) _ e (can-last lo e)))
 
   can-table : Can (byRows (tableRows z o s how))
-  can-table = can-low (strideOf s) (small s) (least s)
+  can-table = can-low (strideStep s) (small s) (least s)
     where
-      small : (s : Stride) → strideOf s ≤ 0xFF
+      small : (s : Stride) → strideStep s ≤ 0xFF
       small One = omega arith
       small Two = omega arith
       small Four = omega arith

@@ -63,7 +63,7 @@ isLow Long (Named c) = false
 isLow z (Constant n) = false
 isLow z (Memory m) = false
 
--- a number less the step, low byte first: the low byte of each is one too
+-- a number less its step, low byte first. The low byte of an allowed one is itself allowed, so that it is judged at once
 unfoldable pub lastRows : Size → Operand → Stride → (ℕ → Cycle) → ℕ → List Row
 lastRows z o s how lo = (run 0x00 0xFF ⇒ λ hi. only (isTable s (lo + 256 * hi)) (whole (Puts (Cycled (how (lo + 256 * hi)))) z o)) ∷ []
 

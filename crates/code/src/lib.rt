@@ -89,8 +89,8 @@ pub enum Use {
     Load(u8), // the operand's value, into the register of a code
     Compute(Arith, Side),
     Changed(Change), // what is made of the operand's value alone
-    Scaled(Scale, u8), // the register of a code, twice as wide as the operand, by the operand
-    ScaledWith(Scale, u32), // the register that the operand is the lower half of, by a number
+    Scaled(Scale, u8), // the register whose lower half is the register of a code, by the operand
+    ScaledWith(Scale, u32), // the register whose lower half is the operand, by a number
     Cycled(Cycle), // a pointer that goes round in a table
 }
 

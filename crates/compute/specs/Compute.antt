@@ -1,4 +1,5 @@
--- Loads, stores, operations on two operands and changes of one (alu/Change): what is put, and where.
+-- Loads, stores, operations on two operands, changes of one (alu/Change), products and quotients (feed/Scale) and modulo steps (feed/Cycle):
+-- what is put, and where.
 use Rattle.little.specs.Words.{ℕ, _/_, List, Bool, true, false, cond}
 use Rattle.little.specs.{declared.Size.Size, Width.bitsOf, Width.twiceOf}
 use Rattle.flags.specs.{declared.Computed.Computed}
@@ -34,7 +35,7 @@ storesOf Cp = false
 abbrev pub answerIn : Arith → State → List ℕ → List ℕ → Size → Operand → Computed → Try
 answerIn op s ram rom z o r = cond (storesOf op) (resultIn s ram rom z o r) (did (flagged s (r .flags)) ram)
 
--- MUL to DIVS of an operand w, which has twice the bytes of a size, by v: k is half of its bits
+-- MUL to DIVS of an operand w, which has twice the bytes of a size, by v. k is half of its bits: of a byte and a word their own
 unfoldable pub scaledAt : Scale → Size → Operand → ℕ → State → List ℕ → List ℕ → Try
 scaledAt how z w v s ram rom =
     let k = bitsOf (twiceOf z) / 2 in

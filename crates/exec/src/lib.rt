@@ -126,7 +126,7 @@ fn anew(f: Field) -> Field
 }
 
 // Whether what begins at a field is the lower half of what is twice as wide.
-fn is_low(size: Size, f: Field) -> bool
+fn low_at(size: Size, f: Field) -> bool
     ensures { λ r. ⌜ r ≡ lowAt size f ⌝ }
 {
     match size {
@@ -151,7 +151,7 @@ fn feed(
         (bankedWith s (now (regs .entry)) bank (now (flags .entry))) ram rom
         (bankedWith s (now (regs .exit)) bank (now (flags .exit)))) ⌝ }
 {
-    match rest::read(code, size, is_low(size, r)) {
+    match rest::read(code, size, low_at(size, r)) {
         OfFeed::Scaled(how, first, n) => {
             scale(how, first, size, r, bank, flags, regs);
             n
@@ -169,7 +169,7 @@ fn feed(
     }
 }
 
-// What it told, as an answer; the counter goes past it where it is done.
+// What `feed` told, as an answer; the counter goes past the form where it is done.
 fn told(n: usize, counter: &mut u32) -> Answer
     ensures { λ a. ⌜ (a ≡ answerOf n) × (now (counter .exit) ≡ onOf (answerOf n) n (now (counter .entry))) ⌝ }
 {

@@ -7,3 +7,4 @@ pub mod Where
 pub mod Marks
 pub mod Levels
 pub mod ByCode
+pub mod Halves

@@ -5,3 +5,4 @@ pub mod Where
 pub mod Marks
 pub mod Levels
 pub mod ByCode
+pub mod Halves

@@ -2,8 +2,9 @@
 use lib.Dec.{T}
 use Rattle.flags.specs.Flag.{byteOf, packedOf, flagsOf}
 use Rattle.feed.specs.Scale.{mulOf, mulsOf, divOf, divsOf}
-use Rattle.feed.specs.Cases.{allHold, feedCases}
+use Rattle.feed.specs.Cases.{feedCases}
+use Rattle.little.specs.Every.{every}
 
-pub cases-hold : T (allHold feedCases)
-unfolding feedCases allHold byteOf packedOf flagsOf mulOf mulsOf divOf divsOf
+pub cases-hold : T (every (λ b. b) feedCases)
+unfolding feedCases every byteOf packedOf flagsOf mulOf mulsOf divOf divsOf
 cases-hold = tt

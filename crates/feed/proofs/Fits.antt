@@ -6,12 +6,12 @@ use native.Mathlib.Omega.{arith}
 use lib.Dec.{eqb}
 use Rattle.flags.specs.declared.Flags.{Flags}
 use Rattle.flags.specs.Flag.{dividing}
-use Rattle.flags.specs.Undefined.{marksH, marksV}
+use Rattle.flags.specs.Undefined.{marksH}
 use Rattle.flags.proofs.Fits.{Fits}
 use Rattle.feed.specs.declared.scale.Scale.{Scale}
 use Rattle.feed.specs.declared.scale.Scale.the-variants.{Mul, Muls, Div, Divs}
 use Rattle.feed.specs.Scale.{divOf, divsOf, scaled}
-use Rattle.feed.specs.Division.{OthersKept, DivDefinesV}
+use Rattle.feed.specs.Division.{ProductsKeepFlags, VTells, DivTells}
 
 h-stays : (m : ℕ) → marksH (m % 2) ≡ marksH m
 h-stays m = let t : m % 2 % 2 ≡ m % 2 = omega arith in ap (λ (n : ℕ). eqb n 1) t
@@ -34,11 +34,21 @@ scaled-fits Muls k a b old x = x
 scaled-fits Div k a b old x = dividing-fits old (divOf k a b .over) x
 scaled-fits Divs k a b old x = dividing-fits old (divsOf k a b .over) x
 
-pub others-kept : OthersKept
-others-kept Mul k a b old = (refl, refl, refl, refl, refl, refl)
-others-kept Muls k a b old = (refl, refl, refl, refl, refl, refl)
-others-kept Div k a b old = (refl, refl, refl, refl, refl, h-stays (old .marks))
-others-kept Divs k a b old = (refl, refl, refl, refl, refl, h-stays (old .marks))
+pub products-keep-flags : ProductsKeepFlags
+products-keep-flags k a b old = (refl, refl)
 
-pub div-defines-v : DivDefinesV
-div-defines-v k a b old = (ap (λ (n : ℕ). eqb n 1) (v-goes (old .marks)), ap (λ (n : ℕ). eqb n 1) (v-goes (old .marks)))
+tells : (old : Flags) (over : Bool) → VTells old (dividing old over) over
+tells old over =
+    record {
+      v = refl;
+      known = ap (λ (n : ℕ). eqb n 1) (v-goes (old .marks));
+      h = refl;
+      mark = h-stays (old .marks);
+      s = refl;
+      z = refl;
+      n = refl;
+      c = refl;
+    }
+
+pub div-tells : DivTells
+div-tells k a b old = (tells old (divOf k a b .over), tells old (divsOf k a b .over))

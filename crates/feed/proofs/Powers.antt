@@ -11,7 +11,7 @@ use mir.Val.{hasKey}
 use types.Run.{OneOf, hit}
 use Rattle.feed.specs.declared.cycle.Stride.{Stride}
 use Rattle.feed.specs.declared.cycle.Stride.the-variants.{One, Two, Four}
-use Rattle.feed.specs.Cycle.{strideOf, isPower, isTable}
+use Rattle.feed.specs.Cycle.{strideStep, isPower, isTable}
 
 -- ---- the exponent of a power
 pub record Power (n num : ℕ) : Type 0 where
@@ -73,22 +73,22 @@ agree f g (k ∷ k′ ∷ ks) e x (inr h) = let t : map f (k′ ∷ ks) ≡ map 
 
 -- what the definition says of a number, by its stride
 allows : Stride → ℕ → Bool
-allows s num = isPower 15 num && leb (2 * strideOf s) num
+allows s num = isPower 15 num && leb (2 * strideStep s) num
 
-rows : (s : Stride) → map (ltb (strideOf s)) keys ≡ map (allows s) keys
+rows : (s : Stride) → map (ltb (strideStep s)) keys ≡ map (allows s) keys
 unfolding allows isPower
 rows One = refl
 rows Two = refl
 rows Four = refl
 
-pub in-table : (s : Stride) (last step : ℕ) → step ≡ strideOf s → OneOf keys (last + step) → ltb step (last + step) ≡ isTable s last
+pub in-table : (s : Stride) (last step : ℕ) → step ≡ strideStep s → OneOf keys (last + step) → ltb step (last + step) ≡ isTable s last
 unfolding isTable allows
-in-table s last step e h = rw e (agree (ltb (strideOf s)) (allows s) keys (rows s) (last + strideOf s) (rw e at h))
+in-table s last step e h = rw e (agree (ltb (strideStep s)) (allows s) keys (rows s) (last + strideStep s) (rw e at h))
 
 none : (num : ℕ) (a b : Bool) → isPower 15 num ≡ a → (OneOf keys num → ⊥) → false ≡ a && b
 none num true b e d = absurd (d (is-key num e))
 none num false b e d = refl
 
-pub no-table : (s : Stride) (last step : ℕ) → step ≡ strideOf s → (OneOf keys (last + step) → ⊥) → false ≡ isTable s last
+pub no-table : (s : Stride) (last step : ℕ) → step ≡ strideStep s → (OneOf keys (last + step) → ⊥) → false ≡ isTable s last
 unfolding isTable
-no-table s last step e d = none (last + strideOf s) _ _ refl (rw e at d)
+no-table s last step e d = none (last + strideStep s) _ _ refl (rw e at d)

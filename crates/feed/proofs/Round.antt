@@ -8,6 +8,7 @@ use native.Mathlib.Nat.{mod-add-mod, add-mul-mod-self-left, add-mul-mod-self-rig
 use native.Mathlib.Nat.{dvd-mul-right, mul-le-mul-left, mul-le-mul-right, lt-of-mul-lt-mul-left}
 use native.Mathlib.Omega.{arith}
 use borrow.Author.Tests.{eqb-true, eqb-false, ltb-true, ltb-false}
+use lib.Arith.{digits-div}
 use lib.Dec.{eqb, ltb}
 use Rattle.feed.specs.Cycle.{mincOf, mdecOf}
 use Rattle.feed.proofs.Wraps.{minc-end, minc-on, mdec-end, mdec-on}
@@ -166,6 +167,12 @@ module _ (s last num : ℕ) (div : Divided s last num) where
         let c : ((p .r + n * d) % num + d) % num ≡ (p .r + suc n * d) % num =
         mod-add-mod (p .r + n * d) num d ∙ rw (suc-mul n d, add-assoc (p .r) (n * d) d) refl in
         w .on n (there n (t n) (goes n)) ∙ ap (λ (a : ℕ). p .q * num + a) c
+
+    -- the table stays the same
+    pub stays : (n : ℕ) → t n / num ≡ t 0 / num
+    stays n =
+        let z : 0 < num = omega (arith, p .inside) in
+        ap (λ (a : ℕ). a / num) (goes n) ∙ (digits-div (p .q) (mod-lt (p .r + n * d) z) ∙ sym (ap (λ (a : ℕ). a / num) (p .at) ∙ digits-div (p .q) (p .inside)))
 
     -- as many steps as there are entries come back: num / s times d is a multiple of num
     pub returns : t (num / s) ≡ t 0

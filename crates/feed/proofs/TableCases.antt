@@ -2,8 +2,8 @@
 use lib.Dec.{T}
 use Rattle.feed.specs.Cycle.{mincOf, mdecOf, isPower, isTable}
 use Rattle.feed.specs.TableCases.{tableCases}
-use Rattle.feed.specs.Cases.{allHold}
+use Rattle.little.specs.Every.{every}
 
-pub table-cases-hold : T (allHold tableCases)
-unfolding tableCases allHold mincOf mdecOf isPower isTable
+pub table-cases-hold : T (every (λ b. b) tableCases)
+unfolding tableCases every mincOf mdecOf isPower isTable
 table-cases-hold = tt

@@ -9,10 +9,10 @@ use lib.Dec.{leb}
 use lib.Pow.{pow-pos, pow-lt, pow-add}
 use Rattle.feed.specs.declared.cycle.Stride.{Stride}
 use Rattle.feed.specs.declared.cycle.Stride.the-variants.{One, Two, Four}
-use Rattle.feed.specs.Cycle.{strideOf, isTable}
-use Rattle.feed.specs.Tables.{AtEntry, mincTimes, mdecTimes, MincGoesRound, MincReturns, MdecUndoes, MdecReturns}
+use Rattle.feed.specs.Cycle.{strideStep, isTable}
+use Rattle.feed.specs.Tables.{AtEntry, mincTimes, mdecTimes, MincGoesRound, MincReturns, MdecUndoes, MdecReturns, StaysInTable}
 use Rattle.feed.proofs.Powers.{Power, power, both}
-use Rattle.feed.proofs.Round.{Divided, Place, Walk, placed, minc-one, mdec-one, goes, returns, undone}
+use Rattle.feed.proofs.Round.{Divided, Place, Walk, placed, minc-one, mdec-one, goes, stays, returns, undone}
 
 -- ---- a table is divided by its step, and divides 2 ^ 16
 
@@ -22,7 +22,7 @@ exponentOf One = 0
 exponentOf Two = 1
 exponentOf Four = 2
 
-step-power : (s : Stride) → strideOf s ≡ 2 ^ exponentOf s
+step-power : (s : Stride) → strideStep s ≡ 2 ^ exponentOf s
 unfolding exponentOf
 step-power One = refl
 step-power Two = refl
@@ -49,53 +49,62 @@ powers-divide i k s last a b h =
     let z : 0 < 2 ^ i = pow-pos i in
     record { e = 2 ^ (k - i) - 1; j = 2 ^ (16 - k); pos = omega arith; is = refl; steps = omega arith; words = rw b d }
 
-table : (s : Stride) (last : ℕ) → isTable s last ≡ true → Divided (strideOf s) last (last + strideOf s)
+table : (s : Stride) (last : ℕ) → isTable s last ≡ true → Divided (strideStep s) last (last + strideStep s)
 unfolding isTable
 table s last t =
-    let p : Power 15 (last + strideOf s) = power 15 (last + strideOf s) (both _ _ t .0) in
-    powers-divide (exponentOf s) (p .exponent) (strideOf s) last (step-power s) (p .is) (p .most)
+    let p : Power 15 (last + strideStep s) = power 15 (last + strideStep s) (both _ _ t .0) in
+    powers-divide (exponentOf s) (p .exponent) (strideStep s) last (step-power s) (p .is) (p .most)
 
 -- ---- MINC and MDEC walk in it
-module _ (s : Stride) (last : ℕ) (div : Divided (strideOf s) last (last + strideOf s)) where
-  ups : (x : ℕ) → Walk (strideOf s) (last + strideOf s) (div .j) (strideOf s) (λ n. mincTimes n s last x)
+module _ (s : Stride) (last : ℕ) (div : Divided (strideStep s) last (last + strideStep s)) where
+  ups : (x : ℕ) → Walk (strideStep s) (last + strideStep s) (div .j) (strideStep s) (λ n. mincTimes n s last x)
   unfolding mincTimes
-  ups x = record { times = 1; by = sym (mul-one (strideOf s)); on = λ n p. minc-one (strideOf s) last (last + strideOf s) div _ p }
+  ups x = record { times = 1; by = sym (mul-one (strideStep s)); on = λ n p. minc-one (strideStep s) last (last + strideStep s) div _ p }
 
-  downs : (x : ℕ) → Walk (strideOf s) (last + strideOf s) (div .j) last (λ n. mdecTimes n s last x)
+  downs : (x : ℕ) → Walk (strideStep s) (last + strideStep s) (div .j) last (λ n. mdecTimes n s last x)
   unfolding mdecTimes
-  downs x = record { times = div .e; by = div .steps; on = λ n p. mdec-one (strideOf s) last (last + strideOf s) div _ p }
+  downs x = record { times = div .e; by = div .steps; on = λ n p. mdec-one (strideStep s) last (last + strideStep s) div _ p }
 
--- ---- the four statements
+-- ---- the statements
 abbrev at-place :
-    (s : Stride) (last x : ℕ) (a : AtEntry s last x) → Place (strideOf s) (last + strideOf s) (table s last (a .allowed) .j) x
-at-place s last x a = placed (strideOf s) last (last + strideOf s) (table s last (a .allowed)) x (a .word) (a .entry)
+    (s : Stride) (last x : ℕ) (a : AtEntry s last x) → Place (strideStep s) (last + strideStep s) (table s last (a .allowed) .j) x
+at-place s last x a = placed (strideStep s) last (last + strideStep s) (table s last (a .allowed)) x (a .word) (a .entry)
 
 pub minc-goes-round : MincGoesRound
 unfolding mincTimes
 minc-goes-round s last x n a =
     let div = table s last (a .allowed) in
-    goes (strideOf s) last (last + strideOf s) div (λ n. mincTimes n s last x) (strideOf s) (ups s last div x) (at-place s last x a) n
+    goes (strideStep s) last (last + strideStep s) div (λ n. mincTimes n s last x) (strideStep s) (ups s last div x) (at-place s last x a) n
 
 pub minc-returns : MincReturns
 unfolding mincTimes
 minc-returns s last x a =
     let div = table s last (a .allowed) in
-    returns (strideOf s) last (last + strideOf s) div (λ n. mincTimes n s last x) (strideOf s) (ups s last div x) (at-place s last x a)
+    returns (strideStep s) last (last + strideStep s) div (λ n. mincTimes n s last x) (strideStep s) (ups s last div x) (at-place s last x a)
 
 pub mdec-undoes : MdecUndoes
 unfolding mincTimes mdecTimes
 mdec-undoes s last x n a =
     let div = table s last (a .allowed) in
     let p = at-place s last x a in
-    let num = last + strideOf s in
+    let num = last + strideStep s in
     let up : ℕ → ℕ → ℕ = λ y n. mincTimes n s last y in
     let down : ℕ → ℕ → ℕ = λ y n. mdecTimes n s last y in (
-      undone (strideOf s) last num div (up x) (down (up x n)) (strideOf s) last (ups s last div x) (downs s last div (up x n)) (add-comm (strideOf s) last) p n refl,
-      undone (strideOf s) last num div (down x) (up (down x n)) last (strideOf s) (downs s last div x) (ups s last div (down x n)) refl p n refl,
+      undone (strideStep s) last num div (up x) (down (up x n)) (strideStep s) last (ups s last div x) (downs s last div (up x n)) (add-comm (strideStep s) last) p n refl,
+      undone (strideStep s) last num div (down x) (up (down x n)) last (strideStep s) (downs s last div x) (ups s last div (down x n)) refl p n refl,
     )
 
 pub mdec-returns : MdecReturns
 unfolding mdecTimes
 mdec-returns s last x a =
     let div = table s last (a .allowed) in
-    returns (strideOf s) last (last + strideOf s) div (λ n. mdecTimes n s last x) last (downs s last div x) (at-place s last x a)
+    returns (strideStep s) last (last + strideStep s) div (λ n. mdecTimes n s last x) last (downs s last div x) (at-place s last x a)
+
+pub stays-in-table : StaysInTable
+unfolding mincTimes mdecTimes
+stays-in-table s last x n a =
+    let div = table s last (a .allowed) in
+    let p = at-place s last x a in (
+      stays (strideStep s) last (last + strideStep s) div (λ n. mincTimes n s last x) (strideStep s) (ups s last div x) p n,
+      stays (strideStep s) last (last + strideStep s) div (λ n. mdecTimes n s last x) last (downs s last div x) p n,
+    )

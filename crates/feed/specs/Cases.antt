@@ -1,15 +1,10 @@
 -- Worked cases, as one table: what is computed of which F, and the value and the F that it must have. All numbers but the widths are in
 -- hex.
-use Rattle.little.specs.Words.{Bool, true, _&&_, List, [], _∷_, ℕ, eqb}
+use Rattle.little.specs.Words.{Bool, _&&_, List, [], _∷_, ℕ, eqb}
 use Rattle.flags.specs.Flag.{packedOf, flagsOf}
 use Rattle.feed.specs.Scale.{scaled}
 use Rattle.feed.specs.declared.scale.Scale.{Scale}
 use Rattle.feed.specs.declared.scale.Scale.the-variants.{Mul, Muls, Div, Divs}
-
--- all rows of a table are right
-unfoldable pub allHold : List Bool → Bool
-allHold [] = true
-allHold (row ∷ rows) = row && allHold rows
 
 -- a row of the table: of a, b and the F before come this value and this F, with its marks above it: 1xx marks H, 2xx V
 abbrev is : Scale → ℕ → ℕ → ℕ → ℕ → ℕ → ℕ → Bool

@@ -7,10 +7,10 @@ use Rattle.feed.specs.declared.cycle.Stride.the-variants.{One, Two, Four
 use Rattle.feed.specs.declared.cycle.Cycle.the-variants.{Minc, Mdec}
 
 -- the step
-abbrev pub strideOf : Stride → ℕ
-strideOf One = 1
-strideOf Two = 2
-strideOf Four = 4
+abbrev pub strideStep : Stride → ℕ
+strideStep One = 1
+strideStep Two = 2
+strideStep Four = 4
 
 -- MINC: if (x mod num) = (num - s) then x - (num - s) else x + s
 unfoldable pub mincOf : ℕ → ℕ → ℕ → ℕ → ℕ
@@ -26,8 +26,8 @@ mdecOf k s last a =
 
 -- both, as a code has them
 abbrev pub cycled : Cycle → ℕ → ℕ → ℕ
-cycled (Minc s last) k a = mincOf k (strideOf s) last a
-cycled (Mdec s last) k a = mdecOf k (strideOf s) last a
+cycled (Minc s last) k a = mincOf k (strideStep s) last a
+cycled (Mdec s last) k a = mdecOf k (strideStep s) last a
 
 -- whether num is 2 to the power of 1, 2 .. or n
 unfoldable pub isPower : ℕ → ℕ → Bool
@@ -36,4 +36,4 @@ isPower (suc n) num = eqb num (2 ^ suc n) || isPower n num
 
 -- whether 000 allows it: 2 to the power of n, up to 15, from 1 on for the step 1, from 2 on for 2, from 3 on for 4
 unfoldable pub isTable : Stride → ℕ → Bool
-isTable s last = isPower 15 (last + strideOf s) && leb (2 * strideOf s) (last + strideOf s)
+isTable s last = isPower 15 (last + strideStep s) && leb (2 * strideStep s) (last + strideStep s)

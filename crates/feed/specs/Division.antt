@@ -1,17 +1,17 @@
 -- What products and quotients are, for every width of k bits, and what they leave of the flags. Each statement is proved in
 -- proofs/Products.antt, proofs/Quotients.antt or proofs/Fits.antt.
-use Rattle.little.specs.Words.{ℕ, _+_, _*_, _/_, _^_, _<_, _≡_, _↔_, _⊎_, true, false}
+use Rattle.little.specs.Words.{ℕ, _+_, _*_, _/_, _^_, _<_, _≡_, _↔_, _⊎_, Bool, true, false}
 use lib.IntN.{ℤ, pos, natAbs, _+ℤ_, _*ℤ_}
 use lib.Signed.{nonNeg}
 use Rattle.flags.specs.{declared.Flags.Flags, Width.low, Undefined.marksH, Undefined.marksV}
 use Rattle.feed.specs.declared.scale.Divided.{Divided}
-use Rattle.feed.specs.declared.scale.Scale.{Scale}
-use Rattle.feed.specs.declared.scale.Scale.the-variants.{Div, Divs}
+use Rattle.feed.specs.declared.scale.Scale.the-variants.{Mul, Muls, Div, Divs}
 use Rattle.feed.specs.Scale.{signed, holdsSigned, mulOf, mulsOf, divOf, divsOf, scaled}
 
--- the 2 k bits hold every product: nothing is lost
-abbrev pub ProductFits : Type 0
-ProductFits = (k a b : ℕ) → mulOf k a b < 2 ^ (2 * k)
+-- 2 k bits hold every result: of a product nothing is lost
+abbrev pub ResultsFit : Type 0
+ResultsFit =
+    (k a b : ℕ) → (mulOf k a b < 2 ^ (2 * k)) × (mulsOf k a b < 2 ^ (2 * k)) × (divOf k a b .value < 2 ^ (2 * k)) × (divsOf k a b .value < 2 ^ (2 * k))
 
 -- and of numbers with a sign, they stand for the product itself
 abbrev pub SignedProductIsExact : Type 0
@@ -66,15 +66,22 @@ DivsFits =
 abbrev pub DivKeeps : Type 0
 DivKeeps = (k a b : ℕ) → (divOf k a b .over ≡ true → divOf k a b .value ≡ low (2 * k) a) × (divsOf k a b .over ≡ true → divsOf k a b .value ≡ low (2 * k) a)
 
--- no flag but V is touched, nor the mark of H
-abbrev pub OthersKept : Type 0
-OthersKept =
-    (how : Scale) (k a b : ℕ) (old : Flags) →
-    let f = scaled how k a b old .flags in
-    (f .s ≡ old .s) × (f .z ≡ old .z) × (f .h ≡ old .h) × (f .n ≡ old .n) × (f .c ≡ old .c) × (marksH (f .marks) ≡ marksH (old .marks))
+-- MUL and MULS keep all flags and marks
+abbrev pub ProductsKeepFlags : Type 0
+ProductsKeepFlags = (k a b : ℕ) (old : Flags) → (scaled Mul k a b old .flags ≡ old) × (scaled Muls k a b old .flags ≡ old)
 
--- DIV and DIVS give V a value: its mark goes
-abbrev pub DivDefinesV : Type 0
-DivDefinesV =
+-- of DIV and DIVS V says whether there is no quotient, and its mark goes; no other flag is touched, nor the mark of H
+pub record VTells (old f : Flags) (over : Bool) : Type 0 where
+  pub v : f .v ≡ over
+  pub known : marksV (f .marks) ≡ false
+  pub h : f .h ≡ old .h
+  pub mark : marksH (f .marks) ≡ marksH (old .marks)
+  pub s : f .s ≡ old .s
+  pub z : f .z ≡ old .z
+  pub n : f .n ≡ old .n
+  pub c : f .c ≡ old .c
+
+abbrev pub DivTells : Type 0
+DivTells =
     (k a b : ℕ) (old : Flags) →
-    (marksV (scaled Div k a b old .flags .marks) ≡ false) × (marksV (scaled Divs k a b old .flags .marks) ≡ false)
+    VTells old (scaled Div k a b old .flags) (divOf k a b .over) × VTells old (scaled Divs k a b old .flags) (divsOf k a b .over)

@@ -2,7 +2,7 @@
 ghost use mathlib.Core.Path.{_≡_};
 ghost use Prim.Native.Nat.{_<_, _≤_};
 ghost use Rattle.little.specs.Width.{bitsOf};
-ghost use Rattle.feed.specs.Cycle.{strideOf, isTable, mincOf, mdecOf, cycled};
+ghost use Rattle.feed.specs.Cycle.{strideStep, isTable, mincOf, mdecOf, cycled};
 use flags::width::low;
 use little::Size;
 
@@ -20,7 +20,7 @@ pub enum Cycle {
 }
 
 fn step_of(stride: Stride) -> u32
-    ensures { λ r. ⌜ r ≡ strideOf stride ⌝ }
+    ensures { λ r. ⌜ r ≡ strideStep stride ⌝ }
     ensures bounded { λ r. ⌜ (0 < r) × (r ≤ 4) ⌝ }
 {
     match stride {

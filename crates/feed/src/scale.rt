@@ -158,8 +158,8 @@ fn divs(size: Size, a: u32, b: u32) -> Divided
     halves(t, with_sign(t, turned, q), with_sign(t, s <= x, m % n))
 }
 
-// V says whether the quotient did not fit, and the other flags are kept.
-fn judged(old: Flags, d: Divided) -> Computed
+// V says whether there was no quotient; the other flags are kept.
+fn divided_of(old: Flags, d: Divided) -> Computed
     ensures { λ r. ⌜ r ≡ dividedOf old d ⌝ }
 {
     Computed {
@@ -176,7 +176,7 @@ pub fn scaled(how: Scale, size: Size, a: u32, b: u32, flags: &mut u16) -> u32
     match how {
         Scale::Mul => settled(keeping(unpack(*flags), mul(size, a, b)), flags),
         Scale::Muls => settled(keeping(unpack(*flags), muls(size, a, b)), flags),
-        Scale::Div => settled(judged(unpack(*flags), div(size, a, b)), flags),
-        Scale::Divs => settled(judged(unpack(*flags), divs(size, a, b)), flags),
+        Scale::Div => settled(divided_of(unpack(*flags), div(size, a, b)), flags),
+        Scale::Divs => settled(divided_of(unpack(*flags), divs(size, a, b)), flags),
     }
 }

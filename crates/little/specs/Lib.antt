@@ -1,3 +1,4 @@
 pub mod Words
 pub mod Width
 pub mod Bytes
+pub mod Every

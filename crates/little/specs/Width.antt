@@ -15,7 +15,7 @@ bytesOf Byte = 1
 bytesOf Word = 2
 bytesOf Long = 4
 
--- the size of twice as many; there is none above a long
+-- the size of twice as many bytes; there is none above a long
 abbrev pub twiceOf : Size → Size
 twiceOf Byte = Word
 twiceOf Word = Long

@@ -1,4 +1,4 @@
--- The operand of an instruction: its address, its value, and a value put there.
+-- The operand of an instruction: its address, its value, a value put there, and the register twice as wide.
 use Rattle.little.specs.Words.{ℕ, _+_, _-_, _*_, _/_, _%_, _^_, List, cond}
 use Rattle.answer.specs.declared.{Answer.Answer, Answer.the-variants.Done, Answer.the-variants.Refused}
 use Rattle.little.specs.{declared.Size.Size, Width.bytesOf}

@@ -73,14 +73,14 @@ fn stride_of(n: u8) -> Stride
 }
 
 // 08 to 0F: 08 MUL, 09 MULS, 0A DIV, 0B DIVS of the operand and a constant, where it is a lower half.
-fn case_08(code: &[u8], size: Size, low: bool, c: u8) -> OfFeed
+fn case_08(code: &[u8], size: Size, half: bool, c: u8) -> OfFeed
     requires { ⌜ (2 ≤ length (now code)) × (c / 8 ≡ 1) ⌝ }
-    ensures { λ d. ⌜ ((o : Operand) → isLow size o ≡ low → feedAs d size o ≡ judge (lookup (feedRows size o) c) (now (code .entry)) 2) ⌝ }
+    ensures { λ d. ⌜ ((o : Operand) → isLow size o ≡ half → feedAs d size o ≡ judge (lookup (feedRows size o) c) (now (code .entry)) 2) ⌝ }
 {
     if 0x0B < c {
         return OfFeed::Unlisted;
     }
-    if low {
+    if half {
         let n = little::bytes(size);
         return match number::number(code, 2, n) {
             Found::Value(v) => OfFeed::ScaledWith(scale_of(c % 4), v, 2 + n),
@@ -111,7 +111,7 @@ fn cycle_of(up: bool, stride: Stride, last: u16) -> Cycle
     Cycle::Mdec(stride, last)
 }
 
-// A byte, and two bytes, low byte first.
+// A byte as a number, and two bytes, low byte first.
 fn word(x: u8) -> u16
     ensures { λ r. ⌜ r ≡ x ⌝ }
     ensures bounded { λ r. ⌜ r < 256 ⌝ }
@@ -125,7 +125,7 @@ fn joined(low: u8, high: u8) -> u16
     low as u16 + 256 * (high as u16)
 }
 
-// The number less the step, whose low byte is one by itself: its high byte.
+// A number less its step, by its high byte: the low byte is allowed by itself.
 fn high(code: &[u8], up: bool, stride: Stride, low: u8) -> OfFeed
     requires { ⌜ (2 < length (now code)) × (low ≡ getD (now code) 2 0) × (isTable stride low ≡ true) ⌝ }
     ensures { λ d. ⌜ ((z : Size) (o : Operand) → feedAs d z o ≡ judge (byRows (tableRows z o stride (cycleAs up stride))) (now (code .entry)) 2) ⌝ }
@@ -140,7 +140,7 @@ fn high(code: &[u8], up: bool, stride: Stride, low: u8) -> OfFeed
     OfFeed::Unlisted
 }
 
-// Its low byte.
+// The same by its low byte, which is judged first.
 fn table(code: &[u8], up: bool, stride: Stride) -> OfFeed
     ensures { λ d. ⌜ ((z : Size) (o : Operand) → feedAs d z o ≡ judge (byRows (tableRows z o stride (cycleAs up stride))) (now (code .entry)) 2) ⌝ }
 {
@@ -170,24 +170,24 @@ fn case_38(code: &[u8], size: Size, c: u8) -> OfFeed
 }
 
 // What the second byte c says.
-fn second(code: &[u8], size: Size, low: bool, c: u8) -> OfFeed
+fn second(code: &[u8], size: Size, half: bool, c: u8) -> OfFeed
     requires { ⌜ 2 ≤ length (now code) ⌝ }
-    ensures { λ d. ⌜ ((o : Operand) → isLow size o ≡ low → feedAs d size o ≡ judge (lookup (feedRows size o) c) (now (code .entry)) 2) ⌝ }
+    ensures { λ d. ⌜ ((o : Operand) → isLow size o ≡ half → feedAs d size o ≡ judge (lookup (feedRows size o) c) (now (code .entry)) 2) ⌝ }
 {
     match c / 8 {
-        1 => case_08(code, size, low, c),
+        1 => case_08(code, size, half, c),
         7 => case_38(code, size, c),
         8 | 9 | 10 | 11 => case_40(size, c),
         _ => OfFeed::Unlisted,
     }
 }
 
-// A form of a size, of an operand that is a lower half or not.
-pub fn read(code: &[u8], size: Size, low: bool) -> OfFeed
-    ensures { λ d. ⌜ ((o : Operand) → isLow size o ≡ low → feedAs d size o ≡ judge (byRows (feedRows size o)) (now (code .entry)) 1) ⌝ }
+// A form of a size, of an operand that is a lower half, or is not.
+pub fn read(code: &[u8], size: Size, half: bool) -> OfFeed
+    ensures { λ d. ⌜ ((o : Operand) → isLow size o ≡ half → feedAs d size o ≡ judge (byRows (feedRows size o)) (now (code .entry)) 1) ⌝ }
 {
     if code.len() <= 1 {
         return OfFeed::Short;
     }
-    second(code, size, low, code[1])
+    second(code, size, half, code[1])
 }

@@ -3,11 +3,11 @@
 
 mod common;
 
-use common::{memory, rom_start, step_once, Chance};
+use common::{draw_flags, memory, rom_start, step_once, Chance};
 use forms::banks::{overlap, place_written, stand_ins, Size, SIZES};
 use forms::feed;
-use second::record::{BANK, COUNTER, F, F_PRIME, LENGTH, MARKS, NESTING};
-use second::{run, show, Machine, Marks, Width};
+use second::record::{COUNTER, LENGTH};
+use second::{run, show, Machine, Width};
 use std::collections::BTreeSet;
 use std::ops::Range;
 
@@ -142,13 +142,7 @@ fn telling_record(chance: &mut Chance, bank: u8) -> [u8; LENGTH] {
     for (place, byte) in record.iter_mut().enumerate().take(COUNTER) {
         *byte = start.wrapping_add(step.wrapping_mul(place as u8));
     }
-    record[BANK] = 0x88 + bank + 16 * (chance.byte() & 7);
-    // A marked flag is 0.
-    record[MARKS] = chance.byte() & 0x0F;
-    let zero = |marks: u8| Marks::from_bits(marks).flags();
-    record[F] = chance.byte() & 0xD7 & !zero(record[MARKS] & 3);
-    record[F_PRIME] = chance.byte() & 0xD7 & !zero(record[MARKS] >> 2);
-    record[NESTING] = chance.byte();
+    draw_flags(chance, &mut record, bank);
     record
 }
 

@@ -3,12 +3,12 @@
 
 mod common;
 
-use common::{memory, rom_start, step_once, Chance};
+use common::{draw_flags, memory, rom_start, step_once, Chance};
 use forms::banks::{place_written, Size, SIZES};
 use forms::feed::{self, DIV, DIVS, SCALES, STEPS};
 use forms::{marks, Form};
-use second::record::{BANK, COUNTER, F, F_PRIME, LENGTH, MARKS, NESTING};
-use second::{run, show, Machine, Marks, Width};
+use second::record::{BANK, COUNTER, F, LENGTH, MARKS};
+use second::{run, show, Machine, Width};
 use std::ops::Range;
 
 const V: u8 = 0x04;
@@ -17,13 +17,7 @@ const V: u8 = 0x04;
 fn drawn_record(chance: &mut Chance, bank: u8) -> [u8; LENGTH] {
     let mut record = [0; LENGTH];
     record[..COUNTER].fill_with(|| chance.byte());
-    record[BANK] = 0x88 + bank + 16 * (chance.byte() & 7);
-    // A marked flag is 0.
-    record[MARKS] = chance.byte() & 0x0F;
-    let zero = |marks: u8| Marks::from_bits(marks).flags();
-    record[F] = chance.byte() & 0xD7 & !zero(record[MARKS] & 3);
-    record[F_PRIME] = chance.byte() & 0xD7 & !zero(record[MARKS] >> 2);
-    record[NESTING] = chance.byte();
+    draw_flags(chance, &mut record, bank);
     record
 }
 

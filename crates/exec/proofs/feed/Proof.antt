@@ -8,8 +8,8 @@ use borrow.Author.Needs.{needs}
 use Rattle.exec.proofs.feed.Statement.{statement}
 use Rattle.exec.proofs.feed.Tie as tie
 
-is-low-requires : tie.Need-is-low-requires
-is-low-requires c κs = search needs
+low-at-requires : tie.Need-low-at-requires
+low-at-requires c κs = search needs
 
 read-requires : tie.Need-read-requires
 read-requires c κs = search needs
@@ -42,7 +42,7 @@ returns : tie.Need-returns
 returns c o there s ram rom =
     let a = c .before .before .before .before .before .before .before .before .before .args in
     let how = c .before .before .before .before .how .given in
-    let e = c .before .before .before .before .before .before .read .ensures o (low-at (a .bank) (a .size) o (a .r) there ∙ sym (c .before .before .before .before .before .before .before .is-low .ensures)) in
+    let e = c .before .before .before .before .before .before .read .ensures o (low-at (a .bank) (a .size) o (a .r) there ∙ sym (c .before .before .before .before .before .before .before .low-at .ensures)) in
     put-fed (a .size) o (a .code .now) (bankedWith s (a .regs .now) (a .bank) (a .flags .now)) _ ram rom (Scaled (how .0 .0) (how .0 .1 .0)) (how .0 .1 .1 .0)
     (rw (how .1) at e) (c .scale .ensures o there s ram rom)
 
@@ -50,7 +50,7 @@ returns-2 : tie.Need-returns-2
 returns-2 c o there s ram rom =
     let a = c .before .before .before .before .before .before .before .before .before .args in
     let how = c .before .before .before .before .how2 .given in
-    let e = c .before .before .before .before .before .before .read .ensures o (low-at (a .bank) (a .size) o (a .r) there ∙ sym (c .before .before .before .before .before .before .before .is-low .ensures)) in
+    let e = c .before .before .before .before .before .before .read .ensures o (low-at (a .bank) (a .size) o (a .r) there ∙ sym (c .before .before .before .before .before .before .before .low-at .ensures)) in
     put-fed (a .size) o (a .code .now) (bankedWith s (a .regs .now) (a .bank) (a .flags .now)) _ ram rom (ScaledWith (how .0 .0) (how .0 .1 .0)) (how .0 .1 .1 .0)
     (rw (how .1) at e) (c .scale-with .ensures o (a .bank) there s ram rom)
 
@@ -58,27 +58,27 @@ returns-3 : tie.Need-returns-3
 returns-3 c o there s ram rom =
     let a = c .before .before .before .before .before .before .before .before .args in
     let how = c .before .before .before .how3 .given in
-    let e = c .before .before .before .before .before .read .ensures o (low-at (a .bank) (a .size) o (a .r) there ∙ sym (c .before .before .before .before .before .before .is-low .ensures)) in
+    let e = c .before .before .before .before .before .read .ensures o (low-at (a .bank) (a .size) o (a .r) there ∙ sym (c .before .before .before .before .before .before .low-at .ensures)) in
     put-fed (a .size) o (a .code .now) (bankedWith s (a .regs .now) (a .bank) (a .flags .now)) _ ram rom (Cycled (how .0 .0)) (how .0 .1 .0)
     (rw (how .1) at e) (c .cycle .ensures o (a .bank) there s (a .flags .now) ram rom)
 
 returns-4 : tie.Need-returns-4
 returns-4 c o there s ram rom =
     let a = c .before .before .before .before .before .args in
-    let e = c .before .before .read .ensures o (low-at (a .bank) (a .size) o (a .r) there ∙ sym (c .before .before .before .is-low .ensures)) in
+    let e = c .before .before .read .ensures o (low-at (a .bank) (a .size) o (a .r) there ∙ sym (c .before .before .before .low-at .ensures)) in
     short-fed (a .size) o (a .code .now) (bankedWith s (a .regs .now) (a .bank) (a .flags .now)) ram rom (rw (c .enum-told .given .1) at e)
 
 returns-5 : tie.Need-returns-5
 returns-5 c o there s ram rom =
     let a = c .before .before .before .before .before .args in
-    let e = c .before .before .read .ensures o (low-at (a .bank) (a .size) o (a .r) there ∙ sym (c .before .before .before .is-low .ensures)) in
+    let e = c .before .before .read .ensures o (low-at (a .bank) (a .size) o (a .r) there ∙ sym (c .before .before .before .low-at .ensures)) in
     none-fed (a .size) o (a .code .now) (bankedWith s (a .regs .now) (a .bank) (a .flags .now)) ram rom (rw (c .enum-told2 .given .1) at e)
 
 pub feed-spec : {M : Type 1} → statement M
 feed-spec =
     tie.close
     (tie.spec
-    is-low-requires
+    low-at-requires
     read-requires
     enum-known-how
     scale-requires

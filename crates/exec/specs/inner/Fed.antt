@@ -1,4 +1,4 @@
--- The forms of the feed calculation, as the function promises it that does them by themselves.
+-- What `exec::feed` promises: a form of the feed calculation, read and done.
 use Rattle.little.specs.Words.{ℕ, _≡_, List, cond, eqb}
 use Rattle.answer.specs.declared.{Answer.Answer, Answer.the-variants.Done, Answer.the-variants.Refused}
 use Rattle.answer.specs.declared.Why.{the-variants.NoCode, the-variants.Unlisted}
@@ -18,7 +18,7 @@ bytesTold decoded.Unlisted = 0
 abbrev pub answerOf : ℕ → Answer
 answerOf n = cond (eqb n 0) (Refused Unlisted) (cond (eqb n 1) (Refused NoCode) Done)
 
--- what an instruction does where the state is past it already
+-- what an instruction does where the state is past it already; none of these looks at where it stands
 abbrev pub fedOf : Decoded → State → List ℕ → List ℕ → Try
 fedOf (decoded.Whole i) s ram rom = effectOf (i .op) (i .size) (i .operand) (s .counter) s ram rom
 fedOf decoded.Short s ram rom = no NoCode

@@ -2,6 +2,7 @@
 #![allow(dead_code)] // not every test file uses everything
 
 use forms::marks;
+use second::record::{BANK, F, F_PRIME, LENGTH, MARKS, NESTING};
 use second::{request, step, Machine, Marks, Width};
 
 /// Codes of registers.
@@ -135,4 +136,15 @@ impl Chance {
     pub fn below(&mut self, bound: u32) -> u32 {
         ((u64::from(self.next()) * u64::from(bound)) >> 32) as u32
     }
+}
+
+/// Draws what a record says of its flags, with this bank current: a valid one.
+pub fn draw_flags(chance: &mut Chance, record: &mut [u8; LENGTH], bank: u8) {
+    record[BANK] = 0x88 + bank + 16 * (chance.byte() & 7);
+    // A marked flag is 0.
+    record[MARKS] = chance.byte() & 0x0F;
+    let zero = |marks: u8| Marks::from_bits(marks).flags();
+    record[F] = chance.byte() & 0xD7 & !zero(record[MARKS] & 3);
+    record[F_PRIME] = chance.byte() & 0xD7 & !zero(record[MARKS] >> 2);
+    record[NESTING] = chance.byte();
 }

@@ -42,8 +42,8 @@ unpack-requires-3 c κs = search needs
 div-requires : tie.Need-div-requires
 div-requires c κs = search needs
 
-judged-requires : tie.Need-judged-requires
-judged-requires c κs = search needs
+divided-of-requires : tie.Need-divided-of-requires
+divided-of-requires c κs = search needs
 
 settled-requires-3 : tie.Need-settled-requires-3
 settled-requires-3 c κs = search needs
@@ -57,8 +57,8 @@ unpack-requires-4 c κs = search needs
 divs-requires : tie.Need-divs-requires
 divs-requires c κs = search needs
 
-judged-requires-2 : tie.Need-judged-requires-2
-judged-requires-2 c κs = search needs
+divided-of-requires-2 : tie.Need-divided-of-requires-2
+divided-of-requires-2 c κs = search needs
 
 settled-requires-4 : tie.Need-settled-requires-4
 settled-requires-4 c κs = search needs
@@ -70,10 +70,10 @@ returns-2 : tie.Need-returns-2
 returns-2 c = rw (c .settled2 .ensures .0, c .settled2 .ensures .1, c .before .before .keeping2 .ensures, c .before .before .before .muls .ensures, c .before .before .before .before .unpack2 .ensures, c .before .before .before .before .before .before .enum-told2 .given .1) (refl, refl)
 
 returns-3 : tie.Need-returns-3
-returns-3 c = rw (c .settled3 .ensures .0, c .settled3 .ensures .1, c .before .before .judged .ensures, c .before .before .before .div .ensures, c .before .before .before .before .unpack3 .ensures, c .before .before .before .before .before .before .enum-told3 .given .1) (refl, refl)
+returns-3 c = rw (c .settled3 .ensures .0, c .settled3 .ensures .1, c .before .before .divided-of .ensures, c .before .before .before .div .ensures, c .before .before .before .before .unpack3 .ensures, c .before .before .before .before .before .before .enum-told3 .given .1) (refl, refl)
 
 returns-4 : tie.Need-returns-4
-returns-4 c = rw (c .settled4 .ensures .0, c .settled4 .ensures .1, c .before .before .judged2 .ensures, c .before .before .before .divs .ensures, c .before .before .before .before .unpack4 .ensures, c .before .before .before .before .before .before .enum-told4 .given .1) (refl, refl)
+returns-4 c = rw (c .settled4 .ensures .0, c .settled4 .ensures .1, c .before .before .divided-of2 .ensures, c .before .before .before .divs .ensures, c .before .before .before .before .unpack4 .ensures, c .before .before .before .before .before .before .enum-told4 .given .1) (refl, refl)
 
 pub scaled-spec : {M : Type 1} → statement M
 scaled-spec =
@@ -92,12 +92,12 @@ scaled-spec =
     enum-told-3
     unpack-requires-3
     div-requires
-    judged-requires
+    divided-of-requires
     settled-requires-3
     enum-told-4
     unpack-requires-4
     divs-requires
-    judged-requires-2
+    divided-of-requires-2
     settled-requires-4
     returns
     returns-2

@@ -1,6 +1,6 @@
 use borrow.Author.Needs.{needs}
-use Rattle.exec.proofs.is_low.Statement.{statement}
-use Rattle.exec.proofs.is_low.Tie as tie
+use Rattle.exec.proofs.low_at.Statement.{statement}
+use Rattle.exec.proofs.low_at.Tie as tie
 
 enum-told : tie.Need-enum-told
 enum-told c = search needs
@@ -20,5 +20,5 @@ returns-2 c = rw (c .before .enum-told2 .given .1)
 returns-3 : tie.Need-returns-3
 returns-3 c = search needs
 
-pub is-low-spec : {M : Type 1} → statement M
-is-low-spec = tie.close (tie.spec enum-told enum-told-2 enum-told-3 returns returns-2 returns-3)
+pub low-at-spec : {M : Type 1} → statement M
+low-at-spec = tie.close (tie.spec enum-told enum-told-2 enum-told-3 returns returns-2 returns-3)
