@@ -103,11 +103,6 @@ magnitude-pos t x p h = go (leb t x)
 with-minus : (t m : ℕ) → withSign t true (suc m) ≡ 2 * t - suc m
 with-minus t m = ap (λ (b : Bool). cond b (2 * t - suc m) (suc m)) (lt-ltb 0 (suc m) (zero-lt-suc m))
 
-pub with-sign-lt : (t : ℕ) (s : Bool) (m : ℕ) → 0 < t → m ≤ t → withSign t s m < 2 * t
-with-sign-lt t false m p h = omega arith
-with-sign-lt t true zero p h = omega arith
-with-sign-lt t true (suc m) p h = omega (arith, with-minus t m)
-
 -- ---- in k bits
 pub bits-lt : (k : ℕ) (z : ℤ) → bitsFor k z < 2 ^ k
 bits-lt k (pos n) = mod-lt n (pow-pos k)

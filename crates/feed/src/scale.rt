@@ -68,6 +68,7 @@ fn magnitude(top: u32, x: u32) -> u32
 fn with_sign(top: u32, minus: bool, m: u32) -> u32
     requires { ⌜ (m ≤ top) × (top ≤ 2147483648) ⌝ }
     ensures { λ r. ⌜ r ≡ withSign top minus m ⌝ }
+    ensures bounded { λ r. ⌜ (0 < top → r < 2 * top) ⌝ }
 {
     if minus {
         if 0 < m {

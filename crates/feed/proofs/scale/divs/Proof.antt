@@ -5,7 +5,7 @@ use native.Mathlib.Nat.{mod-lt}
 use lib.Dec.{leb}
 use Rattle.little.specs.Width.{bitsOf}
 use Rattle.flags.proofs.Widths.{bits-pos}
-use Rattle.feed.proofs.Signs.{differ, with-sign-lt}
+use Rattle.feed.proofs.Signs.{differ}
 use Rattle.feed.proofs.Results.{halfOf, half-pos, low-lt, divisor-pos, divs-none, divs-large, divs-fit}
 use borrow.Author.Needs.{needs}
 use Rattle.feed.proofs.scale.divs.Statement.{statement}
@@ -94,13 +94,9 @@ halves-requires c κs =
     let s = x .before in
     let t = s .before in
     let w = t .half-top in
-    let d = differ (leb (s .top .result) (x .low .result)) (leb (w .result) (y .low-half .result)) in
     let q = m .magnitude .result / n .magnitude2 .result in
-    let r = m .magnitude .result % n .magnitude2 .result in
     let l : q ≤ w .result = omega (arith, c .before .before .if2 .left, c .before .before .before .largest .ensures .1) in
-    let lq = with-sign-lt (w .result) d q (w .ensures .1 .0) l in
-    let lr = with-sign-lt (w .result) (leb (s .top .result) (x .low .result)) r (w .ensures .1 .0) (with-sign-requires-2 (c .before) κs .0) in
-    (w .ensures .1 .1, rw (c .before .with-sign .ensures) lq, rw (c .with-sign2 .ensures) lr)
+    (w .ensures .1 .1, c .before .with-sign .ensures .1 (w .ensures .1 .0), c .with-sign2 .ensures .1 (w .ensures .1 .0))
 
 returns-3 : tie.Need-returns-3
 returns-3 c =
@@ -114,7 +110,7 @@ returns-3 c =
     let h = rw (c .before .before .before .before .largest .ensures .0) at (c .before .before .before .if2 .left) in
     let made = c .halves .ensures (halfOf size) (half-pos size) (t .half-top .ensures .0) in
     made
-    ∙ rw (c .before .before .with-sign .ensures, c .before .with-sign2 .ensures)
+    ∙ rw (c .before .before .with-sign .ensures .0, c .before .with-sign2 .ensures .0)
     (divs-fit (t .before .args .size) (t .before .args .a) (t .before .args .b)
     (t .half-top .ensures .0) (s .top .ensures .0) (x .low .ensures .0) (y .low-half .ensures .0) (m .magnitude .ensures .0) (n .magnitude2 .ensures .0)
     (m .before .if1 .left) h (with-sign-requires-2 (c .before .before) tt .0))

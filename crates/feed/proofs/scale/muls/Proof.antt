@@ -54,7 +54,7 @@ returns c =
     let y = m .before in
     let x = y .before in
     let t = x .before in
-    c .with-sign .ensures
+    c .with-sign .ensures .0
     ∙ muls-made (t .before .args .size) (t .before .args .a) (t .before .args .b)
     (t .half-top .ensures .0) (x .low-half .ensures .0) (y .low-half2 .ensures .0) (m .magnitude .ensures .0) (n .magnitude2 .ensures .0) (s .top .ensures .0)
 

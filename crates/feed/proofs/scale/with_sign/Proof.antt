@@ -11,10 +11,10 @@ add-result : tie.Need-add-result
 add-result c = search needs
 
 returns : tie.Need-returns
-returns c = simp (c .before .if1 .taken, lt-ltb _ _ (c .if2 .taken)) (omega arith)
+returns c = (simp (c .before .if1 .taken, lt-ltb _ _ (c .if2 .taken)) (omega arith), λ p. omega arith)
 
 returns-2 : tie.Need-returns-2
-returns-2 c = simp (c .before .if1 .taken, le-ltb _ _ (c .if2 .left))
+returns-2 c = (simp (c .before .if1 .taken, le-ltb _ _ (c .if2 .left)), λ p. omega arith)
 
 returns-3 : tie.Need-returns-3
 returns-3 c = search needs
