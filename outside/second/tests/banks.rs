@@ -3,7 +3,7 @@
 
 mod common;
 
-use common::{draw_flags, memory, rom_start, step_once, Chance};
+use common::{draw_flags, memory, rom_start, step_from, step_once, Chance};
 use forms::banks::{overlap, place_written, stand_ins, Size, SIZES};
 use forms::feed;
 use second::record::{COUNTER, LENGTH};
@@ -144,15 +144,6 @@ fn telling_record(chance: &mut Chance, bank: u8) -> [u8; LENGTH] {
     }
     draw_flags(chance, &mut record, bank);
     record
-}
-
-/// Steps code at address 0 from a record: the number, and the record after.
-fn step_from(record: [u8; LENGTH], code: &[u8]) -> (u8, [u8; LENGTH]) {
-    let mut machine = Machine::from_record(&record).unwrap();
-    let mut ram = code.to_vec();
-    let number = step_once(&mut machine, &mut ram, &[]);
-    assert_eq!(ram, code, "RAM changed");
-    (number, machine.to_record().unwrap())
 }
 
 /// All 196 names of 003 have a code, and none has two.

@@ -3,7 +3,7 @@
 
 mod common;
 
-use common::{draw_flags, memory, rom_start, step_once, Chance};
+use common::{draw_flags, memory, rom_start, step_from, Chance};
 use forms::banks::{place_written, Size, SIZES};
 use forms::feed::{self, DIV, DIVS, SCALES, STEPS};
 use forms::{marks, Form};
@@ -24,15 +24,6 @@ fn drawn_record(chance: &mut Chance, bank: u8) -> [u8; LENGTH] {
 fn value(record: &[u8], place: &Range<usize>) -> u32 {
     let bytes = record[place.clone()].iter().rev();
     bytes.fold(0, |high, &byte| high << 8 | u32::from(byte))
-}
-
-/// Steps code at address 0 from a record: the number, and the record after.
-fn step_from(record: [u8; LENGTH], code: &[u8]) -> (u8, [u8; LENGTH]) {
-    let mut machine = Machine::from_record(&record).unwrap();
-    let mut ram = code.to_vec();
-    let number = step_once(&mut machine, &mut ram, &[]);
-    assert_eq!(ram, code, "RAM changed");
-    (number, machine.to_record().unwrap())
 }
 
 /// A first byte with r or with a code behind it, and the bytes of r, if any.

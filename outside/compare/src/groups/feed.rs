@@ -115,6 +115,14 @@ fn lower_half(chance: &mut Chance, size: Size) -> u8 {
     }
 }
 
+/// A step of it, with this bank current and this value where it writes.
+fn case_of(chance: &mut Chance, work: &Work, from: u32, bank: u8) -> Case {
+    let mut case = step_of(chance, work.code);
+    case.record[BANK] = case.record[BANK] & 0xFC | bank;
+    set_value(&mut case.record, &work.to, from);
+    case
+}
+
 fn by_register(bench: &mut Bench, scale: Scale, size: Size, (from, by): (u32, u32), bank: u8) {
     let chance = &mut bench.chance;
     let large = lower_half(chance, size);
@@ -125,10 +133,6 @@ fn by_register(bench: &mut Bench, scale: Scale, size: Size, (from, by): (u32, u3
         .collect();
     let r = chance.pick(&others);
     let code = [size.plain + r, scale.with_register + large];
-    let mut case = step_of(chance, &code);
-    case.record[BANK] = case.record[BANK] & 0xFC | bank;
-    set_value(&mut case.record, &to, from);
-    set_value(&mut case.record, &size.plain(r, bank), by);
     let work = Work {
         scale,
         size,
@@ -136,6 +140,8 @@ fn by_register(bench: &mut Bench, scale: Scale, size: Size, (from, by): (u32, u3
         to,
         by,
     };
+    let mut case = case_of(chance, &work, from, bank);
+    set_value(&mut case.record, &size.plain(r, bank), by);
     hold(bench, &case, &work);
 }
 
@@ -144,9 +150,6 @@ fn by_constant(bench: &mut Bench, scale: Scale, size: Size, (from, by): (u32, u3
     let to = size.whole(size.plain(r, bank)).expect("a lower half");
     let first = [size.plain + r, scale.with_constant];
     let code = [&first, &by.to_le_bytes()[..size.bytes]].concat();
-    let mut case = step_of(&mut bench.chance, &code);
-    case.record[BANK] = case.record[BANK] & 0xFC | bank;
-    set_value(&mut case.record, &to, from);
     let work = Work {
         scale,
         size,
@@ -154,6 +157,7 @@ fn by_constant(bench: &mut Bench, scale: Scale, size: Size, (from, by): (u32, u3
         to,
         by,
     };
+    let case = case_of(&mut bench.chance, &work, from, bank);
     hold(bench, &case, &work);
 }
 

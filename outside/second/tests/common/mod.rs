@@ -148,3 +148,12 @@ pub fn draw_flags(chance: &mut Chance, record: &mut [u8; LENGTH], bank: u8) {
     record[F_PRIME] = chance.byte() & 0xD7 & !zero(record[MARKS] >> 2);
     record[NESTING] = chance.byte();
 }
+
+/// Steps code at address 0 from a record: the number, and the record after.
+pub fn step_from(record: [u8; LENGTH], code: &[u8]) -> (u8, [u8; LENGTH]) {
+    let mut machine = Machine::from_record(&record).unwrap();
+    let mut ram = code.to_vec();
+    let number = step_once(&mut machine, &mut ram, &[]);
+    assert_eq!(ram, code, "RAM changed");
+    (number, machine.to_record().unwrap())
+}
