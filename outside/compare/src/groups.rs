@@ -17,7 +17,7 @@ mod requests;
 mod runs;
 mod straddles;
 
-use crate::chance::Chance;
+use draw::chance::Chance;
 use crate::judge::Judge;
 
 /// What a group works with. Everything in it hangs on the seed alone.

@@ -1,7 +1,7 @@
 //! Both machines do the same call; whatever differs is printed whole.
 
-use crate::case::{Call, Case};
-use crate::image::hex;
+use draw::case::{Call, Case};
+use draw::image::hex;
 use crate::reference;
 use library::{Empty, Library};
 use second::record::{

@@ -15,16 +15,12 @@
 
 #![forbid(unsafe_code)]
 
-mod aim;
-mod case;
-mod chance;
 mod groups;
-mod image;
 mod judge;
 mod reference;
 
-use case::Case;
-use chance::Chance;
+use draw::case::Case;
+use draw::chance::Chance;
 use groups::{Bench, Group, GROUPS};
 use judge::{Judge, Tally};
 use std::process::ExitCode;

@@ -1,9 +1,9 @@
 //! Sums, logic, counts and shifts on the values at which they turn.
 
 use super::Bench;
-use crate::aim::{self, FLAGS, TURNS};
-use crate::case::{Call, Case};
-use crate::image::Image;
+use draw::aim::{self, FLAGS, TURNS};
+use draw::case::{Call, Case};
+use draw::image::Image;
 use second::record::{self, F};
 use second::{Machine, Width};
 

@@ -2,10 +2,10 @@
 
 use super::codes::aimed_case;
 use super::Bench;
-use crate::aim::{self, Layout, BC};
-use crate::case::{Call, Case};
-use crate::chance::Chance;
-use crate::image::Image;
+use draw::aim::{self, Layout, BC};
+use draw::case::{Call, Case};
+use draw::chance::Chance;
+use draw::image::Image;
 use crate::judge::Answer;
 use forms::Form;
 use second::record::{COUNTER, F};

@@ -1,9 +1,9 @@
 //! Every code byte after every other, and every listed form.
 
 use super::Bench;
-use crate::aim::{self, Layout};
-use crate::case::{Call, Case};
-use crate::chance::Chance;
+use draw::aim::{self, Layout};
+use draw::case::{Call, Case};
+use draw::chance::Chance;
 use forms::{Form, Slot};
 use second::record::COUNTER;
 
@@ -180,14 +180,7 @@ pub fn aimed_case(chance: &mut Chance, form: &Form) -> Case {
 }
 
 fn place_code(chance: &mut Chance, layout: Layout, case: &mut Case, code: &[u8]) {
-    let in_ram = chance.once_in(2);
-    let length = if in_ram { layout.ram } else { layout.rom };
-    let room = length.saturating_sub(code.len());
-    let place = match chance.below(8) {
-        0 => room,
-        1 => length.saturating_sub(chance.below(8) as usize),
-        _ => chance.below(room as u32 + 1) as usize,
-    };
+    let (in_ram, place) = aim::place(chance, layout, code.len());
     let (image, start) = if in_ram {
         (&mut case.ram, 0)
     } else {

@@ -1,9 +1,9 @@
 //! Operands, stack and code at the ends of the memories and across them.
 
 use super::Bench;
-use crate::aim::{self, Layout, XSP};
-use crate::case::{Call, Case};
-use crate::image::Image;
+use draw::aim::{self, Layout, XSP};
+use draw::case::{Call, Case};
+use draw::image::Image;
 use second::record::COUNTER;
 
 const LAYOUTS: [Layout; 6] = [

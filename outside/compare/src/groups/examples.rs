@@ -2,9 +2,9 @@
 //! and those worked by hand, with the marks and the requests and without.
 
 use super::Bench;
-use crate::aim;
-use crate::case::{Call, Case};
-use crate::image::Image;
+use draw::aim;
+use draw::case::{Call, Case};
+use draw::image::Image;
 use crate::judge::Answer;
 use second::examples::{self, Example};
 

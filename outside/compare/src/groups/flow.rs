@@ -1,9 +1,9 @@
 //! Jumps, calls and flags.
 
 use super::Bench;
-use crate::aim::{self, Layout, FLAGS, XSP};
-use crate::case::{Call, Case};
-use crate::image::Image;
+use draw::aim::{self, Layout, FLAGS, XSP};
+use draw::case::{Call, Case};
+use draw::image::Image;
 use crate::judge::Answer;
 use forms::requests;
 use second::record::{BANK, COUNTER, F, F_PRIME, SR};

@@ -9,8 +9,8 @@ mod operation;
 
 use super::runs::{self, skip, string};
 use super::Bench;
-use crate::aim::{self, XSP};
-use crate::case::{Call, Case};
+use draw::aim::{self, XSP};
+use draw::case::{Call, Case};
 use crate::judge::Answer;
 use forms::{marks, Form};
 use met::{Met, Sort};

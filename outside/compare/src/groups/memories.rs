@@ -1,8 +1,8 @@
 //! Memories of every length that matters, reset and show.
 
 use super::Bench;
-use crate::aim::{self, Layout, LENGTHS};
-use crate::case::{Call, Case};
+use draw::aim::{self, Layout, LENGTHS};
+use draw::case::{Call, Case};
 use second::record::{COUNTER, F};
 
 fn over_noise(bench: &mut Bench, ram: usize, rom: usize) -> Case {

@@ -1,9 +1,9 @@
 //! Bad use of the C surface: a number comes back, and nothing breaks.
 
 use super::Bench;
-use crate::aim::{self, Layout};
-use crate::case::{Call, Case};
-use crate::image::Image;
+use draw::aim::{self, Layout};
+use draw::case::{Call, Case};
+use draw::image::Image;
 use library::Empty;
 use second::record::{LENGTH, OLD_LENGTH};
 

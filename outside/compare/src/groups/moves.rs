@@ -5,10 +5,10 @@
 use super::records::{marks, near};
 use super::requests::{a_turn, program};
 use super::Bench;
-use crate::aim::{self, Layout};
-use crate::case::{Call, Case};
-use crate::chance::Chance;
-use crate::image::Image;
+use draw::aim::{self, Layout};
+use draw::case::{Call, Case};
+use draw::chance::Chance;
+use draw::image::Image;
 use crate::judge::{Answer, Tally};
 use forms::records::{self, NEW, OLD};
 use second::record::{MARKS, NESTING};

@@ -1,9 +1,9 @@
 //! Records that are no state's.
 
 use super::Bench;
-use crate::aim::{self, Layout};
-use crate::case::{Call, Case};
-use crate::image::Image;
+use draw::aim::{self, Layout};
+use draw::case::{Call, Case};
+use draw::image::Image;
 use second::record::{COUNTER, F, F_PRIME, MARKS};
 
 const LAYOUT: Layout = Layout { ram: 32, rom: 32 };

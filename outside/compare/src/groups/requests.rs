@@ -6,10 +6,10 @@ mod among;
 mod met;
 
 use super::Bench;
-use crate::aim::{self, Layout, XSP};
-use crate::case::{Call, Case};
-use crate::chance::Chance;
-use crate::image::Image;
+use draw::aim::{self, Layout, XSP};
+use draw::case::{Call, Case};
+use draw::chance::Chance;
+use draw::image::Image;
 use crate::judge::Answer;
 pub use among::{a_turn, between_steps, in_repeats, program};
 use forms::{marks as listed, requests};

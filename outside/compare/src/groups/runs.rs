@@ -1,10 +1,10 @@
 //! Runs of many steps.
 
 use super::Bench;
-use crate::aim::{self, Layout};
-use crate::case::{Call, Case};
-use crate::chance::Chance;
-use crate::image::Image;
+use draw::aim::{self, Layout};
+use draw::case::{Call, Case};
+use draw::chance::Chance;
+use draw::image::Image;
 use crate::judge::Answer;
 use forms::Form;
 use second::record::COUNTER;

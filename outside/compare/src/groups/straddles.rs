@@ -8,10 +8,10 @@ mod met;
 mod scene;
 
 use super::Bench;
-use crate::aim::{self, Layout};
-use crate::case::{Call, Case};
-use crate::chance::Chance;
-use crate::image::Image;
+use draw::aim::{self, Layout};
+use draw::case::{Call, Case};
+use draw::chance::Chance;
+use draw::image::Image;
 use crate::judge::Answer;
 use access::{tried, Aim, Kind, Tried};
 use library::Empty;

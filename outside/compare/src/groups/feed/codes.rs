@@ -2,9 +2,9 @@
 //! second byte, in every bank; what is refused, and what is cut off.
 
 use super::{hold, put_code, set_value, value, Work, LAYOUT};
-use crate::aim;
-use crate::case::{Call, Case};
-use crate::chance::Chance;
+use draw::aim;
+use draw::case::{Call, Case};
+use draw::chance::Chance;
 use crate::groups::banks::{coded_number, cut_there};
 use crate::groups::Bench;
 use crate::judge::Answer;

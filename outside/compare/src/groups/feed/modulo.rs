@@ -2,11 +2,11 @@
 //! as a number.
 
 use super::{put_code, set_value, step_of, value, WORD};
-use crate::aim::{self, Layout};
-use crate::case::{Call, Case};
-use crate::chance::Chance;
+use draw::aim::{self, Layout};
+use draw::case::{Call, Case};
+use draw::chance::Chance;
 use crate::groups::Bench;
-use crate::image::Image;
+use draw::image::Image;
 use crate::judge::Answer;
 use forms::feed::{Step, STEPS};
 use second::record::{BANK, COUNTER};

@@ -2,10 +2,10 @@
 //! byte: a dividend in each of many registers, and F pushed behind each division.
 
 use super::{set_value, value, BYTE, V};
-use crate::aim::{self, Layout};
-use crate::case::{Call, Case};
+use draw::aim::{self, Layout};
+use draw::case::{Call, Case};
 use crate::groups::Bench;
-use crate::image::Image;
+use draw::image::Image;
 use crate::judge::Answer;
 use forms::feed::Scale;
 use forms::marks;

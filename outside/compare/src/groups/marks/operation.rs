@@ -1,8 +1,8 @@
 //! Listed operations, each so prepared that it is done.
 
-use crate::aim::{self, Layout, XSP};
-use crate::case::{Call, Case};
-use crate::chance::Chance;
+use draw::aim::{self, Layout, XSP};
+use draw::case::{Call, Case};
+use draw::chance::Chance;
 use forms::{Form, Slot};
 use second::record::COUNTER;
 

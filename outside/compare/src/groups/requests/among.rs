@@ -4,10 +4,10 @@
 use super::super::blocks::{block_forms, repeating_code};
 use super::super::Bench;
 use super::{offer, FRAME, TOP, VECTOR};
-use crate::aim::{self, Layout, BC, XSP};
-use crate::case::{Call, Case};
-use crate::chance::Chance;
-use crate::image::Image;
+use draw::aim::{self, Layout, BC, XSP};
+use draw::case::{Call, Case};
+use draw::chance::Chance;
+use draw::image::Image;
 use forms::{requests, Form};
 use second::record::COUNTER;
 use second::{Machine, Width};

@@ -1,7 +1,7 @@
 //! What a group has met: without it, a group that tries nothing would agree.
 
 use super::{FRAME, TOP, VECTOR};
-use crate::aim::Layout;
+use draw::aim::Layout;
 use crate::judge::{Answer, Judge};
 use std::collections::BTreeSet;
 

@@ -1,8 +1,8 @@
 //! Every way in which a listed instruction comes to memory, aimed at an
 //! address.
 
-use crate::aim::{Layout, XSP};
-use crate::chance::Chance;
+use draw::aim::{Layout, XSP};
+use draw::chance::Chance;
 use forms::{Form, Slot};
 
 /// What an instruction does with the memory that it is aimed at.

@@ -1,9 +1,9 @@
 //! Two memories with a place for the code that is tried.
 
 use super::access::{Access, Kind};
-use crate::aim::{self, Layout};
-use crate::case::{Call, Case};
-use crate::chance::Chance;
+use draw::aim::{self, Layout};
+use draw::case::{Call, Case};
+use draw::chance::Chance;
 use second::record::{COUNTER, MARKS};
 
 const PUSH_F: u8 = 0x18;

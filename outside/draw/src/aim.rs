@@ -1,7 +1,7 @@
 //! States, values and addresses where mistakes are likely to be.
 
 use crate::chance::Chance;
-use crate::image::Image;
+use crate::image::{Image, TURNING};
 use forms::records::MARKED;
 use forms::{Form, Slot};
 use second::record::{self, BANK, COUNTER, F, F_PRIME, LENGTH, MARKS, NESTING, OLD_LENGTH, ZEROS};
@@ -66,13 +66,9 @@ pub fn value(chance: &mut Chance) -> u32 {
             .pick(&TURNS)
             .wrapping_add(chance.below(17))
             .wrapping_sub(8),
-        4..=5 => u32::from_le_bytes([(); 4].map(|()| turning_byte(chance))),
+        4..=5 => u32::from_le_bytes([(); 4].map(|()| chance.pick(&TURNING))),
         _ => chance.long(),
     }
-}
-
-fn turning_byte(chance: &mut Chance) -> u8 {
-    chance.pick(&[0x00, 0x01, 0x0F, 0x10, 0x7F, 0x80, 0xFE, 0xFF])
 }
 
 /// A displacement: short more often than not, of either sign.
@@ -120,6 +116,20 @@ pub fn code(chance: &mut Chance, form: &Form, layout: Layout) -> Vec<u8> {
     });
     let code: Option<Vec<u8>> = slots.collect();
     code.expect("four bytes of a constant, four of an address or two of a displacement")
+}
+
+/// Where an instruction of so many bytes begins, and whether in RAM: mostly
+/// somewhere inside a memory, now and then right at its end or over it.
+pub fn place(chance: &mut Chance, layout: Layout, bytes: usize) -> (bool, usize) {
+    let in_ram = chance.once_in(2);
+    let length = if in_ram { layout.ram } else { layout.rom };
+    let room = length.saturating_sub(bytes);
+    let place = match chance.below(8) {
+        0 => room,
+        1 => length.saturating_sub(chance.below(8) as usize),
+        _ => chance.below(room as u32 + 1) as usize,
+    };
+    (in_ram, place)
 }
 
 /// What a long register holds: an address or a value.

@@ -1,0 +1,367 @@
+//! Where the witness parts from the book: one table.
+//!
+//! A row says exactly what the witness gives, so that with it every bit is still
+//! compared. It is told what the library leaves, which is what the book says, and
+//! puts what the witness leaves in its place. Line numbers are 000's.
+
+use crate::desk::Done;
+use crate::seen::{value, Seen, H, V};
+use forms::banks::{Size, SIZES};
+use forms::feed;
+use second::record::F;
+use std::ops::Range;
+
+pub struct Row {
+    pub code: &'static str,
+    /// What the book says, and where.
+    pub book: &'static str,
+    /// What the witness does instead.
+    pub witness: &'static str,
+    pub gives: fn(&Done, &mut Seen),
+}
+
+pub const ROWS: &[Row] = &[
+    Row {
+        code: "INCF, DECF",
+        book: "the bank goes round in four (01, the listed codes; 003: RFP2 stays 0)",
+        witness: "RFP goes round in eight, so that bit 10 of SR is set; the registers used go round in four",
+        gives: bank_of_eight,
+    },
+    Row {
+        code: "LDF 4 to 7",
+        book: "the low two bits alone are set (02, K2; 003: RFP2 stays 0)",
+        witness: "SR has all three bits; the registers used are those of the low two",
+        gives: bank_loaded_whole,
+    },
+    Row {
+        code: "POP F",
+        book: "bits 5 and 3 are 0 (01, the listed codes)",
+        witness: "F is the byte as it was popped",
+        gives: flags_as_popped,
+    },
+    Row {
+        code: "POP SR, RETI",
+        book: "bits 15 and 11 stay 1, bits 10, 5 and 3 stay 0 (02, K8)",
+        witness: "SR is the word as it was popped",
+        gives: status_as_popped,
+    },
+    Row {
+        code: "CCF, ZCF",
+        book: "H is undefined (3303, 3341); 0 is the house's",
+        witness: "H is kept",
+        gives: half_carry_kept,
+    },
+    Row {
+        code: "SLA SRA SLL SRL of longs",
+        book: "V is undefined (the shifts' pages); 0 is the house's",
+        witness: "V is the parity of all 32 bits",
+        gives: parity_of_long,
+    },
+    Row {
+        code: "CPI CPIR CPD CPDR",
+        book: "H is the borrow (the pages of the four; 01, flags)",
+        witness: "H is 0",
+        gives: no_borrow,
+    },
+    Row {
+        code: "RET, RETI, a request",
+        book: "the counter is the low 24 bits (01, the listed codes; 02, K8)",
+        witness: "the counter keeps all 32",
+        gives: counter_as_popped,
+    },
+    Row {
+        code: "all, past FFFFFFH or below 0",
+        book: "the counter is taken modulo 2^24 (01, the machine's state), also where a call pushes it",
+        witness: "the counter steps round at 32 bits",
+        gives: counter_of_32_bits,
+    },
+    Row {
+        code: "DIV, DIVS by 0",
+        book: "V is 1, no value is given, and the destination is kept (02, K7)",
+        witness: "the low half is the old high half turned over, the high half is the old low half; for DIVS of a negative one all ones",
+        gives: divided_by_zero,
+    },
+    Row {
+        code: "DIV, the quotient does not fit",
+        book: "V is 1, no value is given, and the destination is kept (02, K7)",
+        witness: "the low bits of the quotient, and the remainder; other figures from a quotient of twice as much on",
+        gives: quotient_cut,
+    },
+    Row {
+        code: "DIVS, the quotient does not fit",
+        book: "V is 1, no value is given, and the destination is kept (02, K7)",
+        witness: "the low bits of quotient and remainder; V is 1 only where the quotient would not fit without a sign",
+        gives: signed_quotient_cut,
+    },
+    Row {
+        code: "MINC",
+        book: "turns back where the value modulo the number is the number less the step",
+        witness: "turns back where the value has every bit of the number less the step",
+        gives: minc_by_bits,
+    },
+    Row {
+        code: "MDEC",
+        book: "turns back where the value modulo the number is 0",
+        witness: "turns back where the value has every bit of the number less the step",
+        gives: mdec_by_bits,
+    },
+    Row {
+        code: "a request of level 7",
+        book: "the mask is 7 afterwards (02, K8)",
+        witness: "the mask is kept",
+        gives: mask_kept,
+    },
+];
+
+fn set_bank_bits(seen: &mut Seen, bits: u32) {
+    seen.sr = seen.sr & !0x700 | (bits & 7) << 8;
+}
+
+fn bank_of_eight(done: &Done, seen: &mut Seen) {
+    let bank = u32::from(done.bank());
+    match done.code[0] {
+        0x0C => set_bank_bits(seen, bank + 1),
+        0x0D => set_bank_bits(seen, bank.wrapping_sub(1)),
+        _ => {}
+    }
+}
+
+fn bank_loaded_whole(done: &Done, seen: &mut Seen) {
+    if let [0x17, number] = done.code {
+        set_bank_bits(seen, u32::from(*number));
+    }
+}
+
+fn flags_as_popped(done: &Done, seen: &mut Seen) {
+    if done.code == [0x19] {
+        seen.sr = seen.sr & !0xFF | done.on_stack(0, 1);
+    }
+}
+
+fn status_as_popped(done: &Done, seen: &mut Seen) {
+    if matches!(done.code, [0x03] | [0x07]) {
+        seen.sr = done.on_stack(0, 2);
+    }
+}
+
+fn half_carry_kept(done: &Done, seen: &mut Seen) {
+    if matches!(done.code, [0x12] | [0x13]) {
+        seen.set_flag(H, u32::from(done.before[F]) & H != 0);
+    }
+}
+
+fn parity_of_long(done: &Done, seen: &mut Seen) {
+    if let Some((size, place, [0xEC..=0xEF, _])) = register_form(done) {
+        if size.bytes == 4 {
+            let ones = value(&seen.registers, place).count_ones();
+            seen.set_flag(V, ones % 2 == 0);
+        }
+    }
+}
+
+fn no_borrow(done: &Done, seen: &mut Seen) {
+    if matches!(done.code, [0x82..=0x87 | 0x92..=0x97, 0x14..=0x17]) {
+        seen.set_flag(H, false);
+    }
+}
+
+fn counter_as_popped(done: &Done, seen: &mut Seen) {
+    match done.code {
+        [0x0E] => seen.counter = done.on_stack(0, 4),
+        [0x07] => seen.counter = done.on_stack(2, 4),
+        [0x00] => seen.counter |= done.counter() & 0xFF00_0000,
+        _ => {}
+    }
+}
+
+fn counter_of_32_bits(done: &Done, seen: &mut Seen) {
+    let next = done.counter().wrapping_add(done.code.len() as u32);
+    let jumped = match done.code {
+        // to an address, or to one on the stack
+        [0x1A..=0x1D, ..] | [0x0E] | [0x07] => seen.counter,
+        [0x1E, low, high] => next.wrapping_add(sign(2, [*low, *high])),
+        [0x60..=0x6F, low] if goes(done, seen) => next.wrapping_add(sign(1, [*low, 0])),
+        [0x70..=0x7F, low, high] if goes(done, seen) => next.wrapping_add(sign(2, [*low, *high])),
+        [0x82..=0x97, 0x11 | 0x13 | 0x15 | 0x17] if seen.counter == done.counter() => seen.counter,
+        _ => next,
+    };
+    seen.counter = jumped;
+    if matches!(done.code[0], 0x1C..=0x1E) && next > 0xFF_FFFF {
+        let top = done.stack().wrapping_sub(1) & 0xFF_FFFF;
+        put(done, seen, top, (next >> 24) as u8);
+    }
+}
+
+/// Whether a jump with a condition was made. One to the next instruction is the
+/// same either way.
+fn goes(done: &Done, seen: &Seen) -> bool {
+    let next = done.counter().wrapping_add(done.code.len() as u32);
+    seen.counter != next & 0xFF_FFFF
+}
+
+fn sign(bytes: usize, low_first: [u8; 2]) -> u32 {
+    match bytes {
+        1 => i32::from(low_first[0] as i8) as u32,
+        _ => i32::from(i16::from_le_bytes(low_first)) as u32,
+    }
+}
+
+/// A byte of memory that the witness leaves.
+fn put(done: &Done, seen: &mut Seen, address: u32, byte: u8) {
+    if done.byte(address) == byte {
+        seen.memory.remove(&address);
+    } else {
+        seen.memory.insert(address, byte);
+    }
+}
+
+/// A register form: its size, the bytes of r in a record, and the code behind r.
+fn register_form<'a>(done: &'a Done) -> Option<(Size, Range<usize>, &'a [u8])> {
+    let (&first, rest) = done.code.split_first()?;
+    let bank = done.bank();
+    for size in SIZES {
+        if first == size.any {
+            let (&code, rest) = rest.split_first()?;
+            return Some((size, size.named(code, bank)?, rest));
+        }
+        if (size.plain..size.plain + 8).contains(&first) {
+            return Some((size, size.plain(first - size.plain, bank), rest));
+        }
+    }
+    None
+}
+
+/// A division: which, its size, the bytes of the destination in a record, the
+/// dividend and the divisor.
+struct Division {
+    scale: feed::Scale,
+    size: Size,
+    place: Range<usize>,
+    dividend: u32,
+    divisor: u32,
+}
+
+fn division(done: &Done) -> Option<Division> {
+    let (size, r, rest) = register_form(done)?;
+    let scale = feed::scale(rest[0]).filter(|scale| scale.divides)?;
+    let (place, divisor) = if rest[0] == scale.with_constant {
+        (size.whole(r)?, value(rest, 1..rest.len()))
+    } else {
+        let low = size.plain(rest[0] & 7, done.bank());
+        (size.whole(low)?, value(done.before, r))
+    };
+    Some(Division {
+        scale,
+        size,
+        dividend: value(done.before, place.clone()),
+        place,
+        divisor,
+    })
+}
+
+impl Division {
+    fn bits(&self) -> u32 {
+        8 * self.size.bytes as u32
+    }
+
+    fn mask(&self) -> u32 {
+        (1 << self.bits()) - 1
+    }
+
+    fn leave(&self, seen: &mut Seen, quotient: u32, remainder: u32) {
+        let whole = quotient & self.mask() | (remainder & self.mask()) << self.bits();
+        let bytes = &whole.to_le_bytes()[..2 * self.size.bytes];
+        seen.registers[self.place.clone()].copy_from_slice(bytes);
+    }
+}
+
+fn divided_by_zero(done: &Done, seen: &mut Seen) {
+    let Some(division) = division(done).filter(|division| division.divisor == 0) else {
+        return;
+    };
+    let (low, high) = (
+        division.dividend & division.mask(),
+        division.dividend >> division.bits(),
+    );
+    let negative = division.scale.signed && high >> (division.bits() - 1) == 1;
+    let remainder = if negative { division.mask() } else { low };
+    division.leave(seen, !high, remainder);
+}
+
+fn quotient_cut(done: &Done, seen: &mut Seen) {
+    let unsigned = |division: &Division| !division.scale.signed && division.divisor != 0;
+    let Some(division) = division(done).filter(unsigned) else {
+        return;
+    };
+    let (dividend, divisor) = (division.dividend, division.divisor);
+    let (quotient, remainder) = (dividend / divisor, dividend % divisor);
+    if quotient <= division.mask() {
+        return;
+    }
+    if division.size.bytes == 1 && quotient >= 512 {
+        let (d, s) = (dividend - 512 * divisor, 256 - divisor);
+        division.leave(seen, 511 - d / s, d % s + divisor);
+    } else {
+        division.leave(seen, quotient, remainder);
+    }
+}
+
+fn signed_quotient_cut(done: &Done, seen: &mut Seen) {
+    let signed = |division: &Division| division.scale.signed && division.divisor != 0;
+    let Some(division) = division(done).filter(signed) else {
+        return;
+    };
+    let bytes = division.size.bytes;
+    let dividend = feed::number(2 * bytes, division.dividend, true);
+    let divisor = feed::number(bytes, division.divisor, true);
+    let (quotient, remainder) = (dividend / divisor, dividend % divisor);
+    let half = 1i64 << (division.bits() - 1);
+    if (-half..half).contains(&quotient) {
+        return;
+    }
+    division.leave(seen, quotient as u32, remainder as u32);
+    seen.set_flag(V, quotient.unsigned_abs() > u64::from(division.mask()));
+}
+
+/// MINC and MDEC: the step, the bytes of r, and the number less the step.
+fn modulo_step(done: &Done) -> Option<(feed::Step, Range<usize>, u32)> {
+    let (_, place, rest) = register_form(done)?;
+    let &[second, low, high] = rest else {
+        return None;
+    };
+    let step = feed::step(second)?;
+    Some((step, place, u32::from(u16::from_le_bytes([low, high]))))
+}
+
+fn by_bits(done: &Done, seen: &mut Seen, down: bool) {
+    let Some((step, place, last)) = modulo_step(done).filter(|(step, _, _)| (step.by < 0) == down)
+    else {
+        return;
+    };
+    let before = value(done.before, place.clone());
+    let by = step.by.unsigned_abs();
+    let turns = before & last == last;
+    let after = match (turns, down) {
+        (true, false) => before.wrapping_sub(last),
+        (false, false) => before.wrapping_add(by),
+        (true, true) => before.wrapping_add(last),
+        (false, true) => before.wrapping_sub(by),
+    };
+    seen.registers[place].copy_from_slice(&(after as u16).to_le_bytes());
+}
+
+fn minc_by_bits(done: &Done, seen: &mut Seen) {
+    by_bits(done, seen, false);
+}
+
+fn mdec_by_bits(done: &Done, seen: &mut Seen) {
+    by_bits(done, seen, true);
+}
+
+fn mask_kept(done: &Done, seen: &mut Seen) {
+    if let Some(asked) = done.asked.filter(|asked| asked.level == 7) {
+        if done.code == [0x00] {
+            seen.sr = seen.sr & !0x7000 | asked.mask << 12;
+        }
+    }
+}

@@ -1,0 +1,109 @@
+//! What both machines are given: memories as long as they may be, a state, and
+//! bytes that are put over the memories.
+
+use draw::aim::Layout;
+use draw::case::{Call, Case};
+use draw::chance::Chance;
+use draw::image::Image;
+
+pub const MOST: usize = second::MOST_BYTES;
+
+/// The witness has no missing memory, so both are as long as they may be.
+pub const FULL: Layout = Layout {
+    ram: MOST,
+    rom: MOST,
+};
+
+/// The two memories under a batch of trials.
+pub struct Ground {
+    pub ram: Image,
+    pub rom: Image,
+}
+
+impl Ground {
+    pub fn drawn(chance: &mut Chance) -> Ground {
+        Ground {
+            ram: Image::turning(MOST, chance.wide()),
+            rom: Image::turning(MOST, chance.wide()),
+        }
+    }
+
+    /// The byte at an address; 0 where there is no memory.
+    pub fn byte(&self, address: u32) -> u8 {
+        byte_at(&self.ram.bytes, &self.rom.bytes, address)
+    }
+}
+
+/// The byte at an address of full memories; 0 where there is none.
+pub fn byte_at(ram: &[u8], rom: &[u8], address: u32) -> u8 {
+    let address = address & 0xFF_FFFF;
+    let in_rom = address.checked_sub(FULL.rom_start());
+    let byte = match in_rom {
+        Some(place) => rom.get(place as usize),
+        None => ram.get(address as usize),
+    };
+    byte.copied().unwrap_or(0)
+}
+
+/// A state, what is put over memory, and what is done from there: a step, some
+/// steps one after another, or a request and then a step.
+#[derive(Clone)]
+pub struct Trial {
+    pub call: Call,
+    pub record: Vec<u8>,
+    pub puts: Vec<(u32, Vec<u8>)>,
+    /// Which of the listed codes it is drawn for, if it is for one.
+    pub code: Option<usize>,
+}
+
+impl Trial {
+    /// How many steps are asked for.
+    pub fn steps(&self) -> u32 {
+        match self.call {
+            Call::Run(steps) => steps,
+            _ => 1,
+        }
+    }
+
+    /// Every byte that is put, with its address.
+    pub fn bytes_put(&self) -> impl Iterator<Item = (u32, u8)> + '_ {
+        self.puts.iter().flat_map(|(address, bytes)| {
+            let addresses = (0..).map(move |i| address.wrapping_add(i) & 0xFF_FFFF);
+            addresses.zip(bytes.iter().copied())
+        })
+    }
+
+    /// The same with everything it stands on, to be printed.
+    pub fn case(&self, ground: &Ground) -> Case {
+        let (mut ram, mut rom) = (ground.ram.clone(), ground.rom.clone());
+        for (address, byte) in self.bytes_put() {
+            match address.checked_sub(FULL.rom_start()) {
+                Some(place) => rom.put(place as usize, &[byte]),
+                None => ram.put(address as usize, &[byte]),
+            }
+        }
+        Case {
+            call: self.call,
+            record: self.record.clone(),
+            ram,
+            rom,
+        }
+    }
+
+    /// The trial and the ground that a printed case tells of.
+    pub fn of_case(case: Case) -> Option<(Ground, Trial)> {
+        let full = case.ram.len() == MOST && case.rom.len() == MOST;
+        let known = matches!(case.call, Call::Step | Call::Run(_) | Call::Request(..));
+        let trial = Trial {
+            call: case.call,
+            record: case.record,
+            puts: Vec::new(),
+            code: None,
+        };
+        let ground = Ground {
+            ram: case.ram,
+            rom: case.rom,
+        };
+        (full && known).then_some((ground, trial))
+    }
+}
