@@ -55,7 +55,7 @@ const NOP: u8 = 0x00;
 const RETI: u8 = 0x07;
 
 impl Code {
-    /// Whether it may repeat.
+    /// Whether it is of the forms of which some repeat.
     pub fn repeats(&self) -> bool {
         ["LDI LDIR LDD LDDR", "CPI CPIR CPD CPDR"].contains(&self.name)
     }
@@ -76,14 +76,11 @@ impl Code {
         }
     }
 
-    /// Some steps of a repeating form, with NOPs behind it. For a compare what is
-    /// looked for is often among the first elements; a copy goes over its own code
-    /// now and then.
+    /// Some steps of a repeating form. For a compare what is looked for is often
+    /// among the first elements; a copy goes over its own code now and then.
     pub fn repeated(&self, chance: &mut Chance, ground: &Ground, index: usize) -> Trial {
         let mut trial = self.trial(chance, index);
-        let (counter, bytes) = &mut trial.puts[0];
-        bytes.resize(bytes.len() + MOST_STEPS as usize, NOP);
-        let (first, counter) = (bytes[0], *counter);
+        let (counter, first) = (trial.puts[0].0, trial.puts[0].1[0]);
         let record = &mut trial.record;
         if chance.below(4) < 3 {
             aim::set_word(record, aim::BC, 1 + chance.below(MOST_STEPS) as u16);

@@ -5,7 +5,7 @@ use crate::trial::{byte_at, Ground, Trial, FULL};
 use draw::aim::{get_long, XSP};
 use draw::case::Call;
 use library::{Empty, Library};
-use second::record::{BANK, COUNTER};
+use second::record::{BANK, COUNTER, SR};
 use std::collections::BTreeMap;
 
 const LIBRARY: Library = Library {
@@ -83,20 +83,21 @@ impl Desk {
     }
 
     /// Does a trial, and hands over each step that is not refused, with what the
-    /// library leaves. Gives how many there were. Memory is then as before.
+    /// library leaves. Several steps end where the counter goes on. Gives how many
+    /// there were. Memory is then as before.
     pub fn work(
         &mut self,
         ground: &Ground,
         trial: &Trial,
         mut hand: impl FnMut(&Done, Seen),
-    ) -> usize {
+    ) -> u32 {
         for (address, byte) in trial.bytes_put() {
             self.put(address, byte);
         }
         let mut record = trial.record.clone();
         let mut written = Vec::new();
         let mut steps = 0;
-        for _ in 0..trial.steps() {
+        while steps < trial.steps() && record[COUNTER..SR] == trial.record[COUNTER..SR] {
             match self.step(trial.call, &mut record, &mut hand) {
                 Some(mut addresses) => written.append(&mut addresses),
                 None => break,
@@ -124,7 +125,7 @@ impl Desk {
         };
         let pushed = asked.as_ref().map(|_| self.ram.clone());
         let before = record.clone();
-        let code = self.code(&before)?;
+        let code = self.code(&before);
         if LIBRARY.step(record, &mut self.ram, &self.rom) != (0, 0) {
             self.ram.copy_from_slice(&self.past);
             return None;
@@ -159,12 +160,12 @@ impl Desk {
         }
     }
 
-    /// The bytes of the instruction at the counter.
-    fn code(&self, record: &[u8]) -> Option<Vec<u8>> {
+    /// The bytes of the instruction at the counter; none where there is none.
+    fn code(&self, record: &[u8]) -> Vec<u8> {
         let at = get_long(record, COUNTER);
-        let (length, number) = LIBRARY.show(&self.ram, &self.rom, at);
+        let (length, _) = LIBRARY.show(&self.ram, &self.rom, at);
         let byte = |i| byte_at(&self.ram, &self.rom, at + i);
-        (number == 0).then(|| (0..length).map(byte).collect())
+        (0..length).map(byte).collect()
     }
 
     fn put(&mut self, address: u32, byte: u8) {

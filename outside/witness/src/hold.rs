@@ -44,6 +44,8 @@ struct Expected {
     seen: Seen,
     rows: Vec<usize>,
     slips: Vec<(usize, Seen)>,
+    code: Vec<u8>,
+    before: Vec<u8>,
 }
 
 /// A batch that the library has done.
@@ -225,9 +227,11 @@ impl Prepared {
         tally.unexplained += 1;
         if tally.printed.len() < MOST_PRINTED {
             tally.printed.push(format!(
-                "DIFFERENCE in {}, step {}:\n{}  to do it again: --case '{}'",
+                "DIFFERENCE in {}, step {}, {:02X?} {}:\n{}  to do it again: --case '{}'",
                 self.name,
                 number + 1,
+                expected.code,
+                draw::image::hex(&expected.before),
                 expected.seen.differences("must be", seen, "witness"),
                 trial.case(&self.ground).text()
             ));
@@ -241,7 +245,7 @@ fn expect(done: &Done, ours: Seen, with_slips: bool) -> Expected {
     let slips = slips.filter_map(|(number, slip)| Some((number, slipped(done, &ours, slip)?)));
     let slips = slips.collect();
     let (seen, rows) = by_rows(done, ours, |row| Some(ROWS[row].gives));
-    Expected { seen, rows, slips }
+    Expected { seen, rows, slips, code: done.code.to_vec(), before: done.before.to_vec() }
 }
 
 /// The same through a table, of which a row may be left out or another stand in its

@@ -90,7 +90,7 @@ pub const ROWS: &[Row] = &[
     Row {
         code: "DIVS, the quotient does not fit",
         book: "V is 1, no value is given, and the destination is kept (02, K7)",
-        witness: "the low bits of quotient and remainder; V is 1 only where the quotient would not fit without a sign",
+        witness: "the low bits of quotient and remainder; V is 1 only where the quotient is above 255, for words 65,535: never where it is negative",
         gives: signed_quotient_cut,
     },
     Row {
@@ -169,8 +169,8 @@ fn counter_as_popped(done: &Done, seen: &mut Seen) {
     match done.code {
         [0x0E] => seen.counter = done.on_stack(0, 4),
         [0x07] => seen.counter = done.on_stack(2, 4),
-        [0x00] => seen.counter |= done.counter() & 0xFF00_0000,
-        _ => {}
+        [0x1A..=0x1D, ..] => {}
+        _ => seen.counter |= done.counter() & 0xFF00_0000,
     }
 }
 
@@ -182,7 +182,7 @@ fn counter_of_32_bits(done: &Done, seen: &mut Seen) {
         [0x1E, low, high] => next.wrapping_add(sign(2, [*low, *high])),
         [0x60..=0x6F, low] if goes(done, seen) => next.wrapping_add(sign(1, [*low, 0])),
         [0x70..=0x7F, low, high] if goes(done, seen) => next.wrapping_add(sign(2, [*low, *high])),
-        [0x82..=0x97, 0x11 | 0x13 | 0x15 | 0x17] if seen.counter == done.counter() => seen.counter,
+        [0x82..=0x97, 0x11 | 0x13 | 0x15 | 0x17] if stays(done, seen) => done.counter(),
         _ => next,
     };
     seen.counter = jumped;
@@ -192,11 +192,16 @@ fn counter_of_32_bits(done: &Done, seen: &mut Seen) {
     }
 }
 
+/// Whether a repeating form goes on.
+fn stays(done: &Done, seen: &Seen) -> bool {
+    (seen.counter ^ done.counter()) & 0xFF_FFFF == 0
+}
+
 /// Whether a jump with a condition was made. One to the next instruction is the
 /// same either way.
 fn goes(done: &Done, seen: &Seen) -> bool {
     let next = done.counter().wrapping_add(done.code.len() as u32);
-    seen.counter != next & 0xFF_FFFF
+    (seen.counter ^ next) & 0xFF_FFFF != 0
 }
 
 fn sign(bytes: usize, low_first: [u8; 2]) -> u32 {
@@ -320,7 +325,7 @@ fn signed_quotient_cut(done: &Done, seen: &mut Seen) {
         return;
     }
     division.leave(seen, quotient as u32, remainder as u32);
-    seen.set_flag(V, quotient.unsigned_abs() > u64::from(division.mask()));
+    seen.set_flag(V, quotient > i64::from(division.mask()));
 }
 
 /// MINC and MDEC: the step, the bytes of r, and the number less the step.
@@ -359,9 +364,9 @@ fn mdec_by_bits(done: &Done, seen: &mut Seen) {
 }
 
 fn mask_kept(done: &Done, seen: &mut Seen) {
-    if let Some(asked) = done.asked.filter(|asked| asked.level == 7) {
-        if done.code == [0x00] {
-            seen.sr = seen.sr & !0x7000 | asked.mask << 12;
-        }
+    // EI, POP SR and RETI set it anew
+    let sets = matches!(done.code, [0x06, _] | [0x03] | [0x07]);
+    if let Some(asked) = done.asked.filter(|asked| asked.level == 7 && !sets) {
+        seen.sr = seen.sr & !0x7000 | asked.mask << 12;
     }
 }
