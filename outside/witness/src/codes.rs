@@ -1,12 +1,12 @@
 //! The listed codes one by one, and trials of each.
 
-use crate::mame::{self, HIGHEST};
-use crate::trial::{byte_at, Ground, Trial, FULL};
+use crate::mame::{self, UNMASKED};
+use crate::trial::{Ground, Trial, FULL};
 use draw::aim;
 use draw::case::Call;
 use draw::chance::Chance;
 use forms::{Form, Slot};
-use second::record::{BANK, COUNTER};
+use second::record::{self, BANK, COUNTER};
 use second::Width;
 
 /// A listed code: every byte that says what is done, and to which register, is
@@ -21,11 +21,11 @@ pub struct Code {
 /// Every listed code, in the order of the forms.
 pub fn listed() -> Vec<Code> {
     let all = forms::listed().into_iter().flat_map(|form| settled(form, 0));
-    all.map(|form| Code {
+    let code = |form: Form| Code {
         name: form.name,
         form,
-    })
-    .collect()
+    };
+    all.map(code).collect()
 }
 
 /// A form with one byte for several from this place on, in every way.
@@ -49,51 +49,57 @@ pub fn kinds_of(name: &str) -> usize {
     forms::named(name).kinds().len()
 }
 
-/// The most steps that a repeating form is followed.
+/// The forms of which some repeat.
+const REPEATING: [&str; 2] = ["LDI LDIR LDD LDDR", "CPI CPIR CPD CPDR"];
+/// The most steps that a repeating one is followed.
 const MOST_STEPS: u32 = 12;
 const NOP: u8 = 0x00;
 const RETI: u8 = 0x07;
 
+/// A step of this code, somewhere in memory, from an aimed state.
+pub fn aimed(chance: &mut Chance, code: Vec<u8>) -> Trial {
+    let (in_ram, place) = aim::place(chance, FULL, code.len());
+    let start = if in_ram { 0 } else { FULL.rom_start() };
+    let counter = (start + place as u32) & 0xFF_FFFF;
+    let mut record = aim::record(chance, FULL);
+    aim::put_long(&mut record, COUNTER, counter);
+    Trial {
+        call: Call::Step,
+        record,
+        puts: vec![(counter, code)],
+        code: None,
+    }
+}
+
 impl Code {
-    /// Whether it is of the forms of which some repeat.
-    pub fn repeats(&self) -> bool {
-        ["LDI LDIR LDD LDDR", "CPI CPIR CPD CPDR"].contains(&self.name)
+    /// Whether it is of a form of which some repeat.
+    pub fn may_repeat(&self) -> bool {
+        REPEATING.contains(&self.name)
     }
 
-    /// A step of this code from an aimed state.
-    pub fn trial(&self, chance: &mut Chance, index: usize) -> Trial {
+    /// A step of this code.
+    pub fn trial(&self, chance: &mut Chance) -> Trial {
         let bytes = aim::code(chance, &self.form, FULL);
-        let (in_ram, place) = aim::place(chance, FULL, bytes.len());
-        let start = if in_ram { 0 } else { FULL.rom_start() };
-        let counter = (start + place as u32) & 0xFF_FFFF;
-        let mut record = aim::record(chance, FULL);
-        aim::put_long(&mut record, COUNTER, counter);
-        Trial {
-            call: Call::Step,
-            record,
-            puts: vec![(counter, bytes)],
-            code: Some(index),
-        }
+        aimed(chance, bytes)
     }
 
     /// Some steps of a repeating form. For a compare what is looked for is often
     /// among the first elements; a copy goes over its own code now and then.
-    pub fn repeated(&self, chance: &mut Chance, ground: &Ground, index: usize) -> Trial {
-        let mut trial = self.trial(chance, index);
-        let (counter, first) = (trial.puts[0].0, trial.puts[0].1[0]);
+    pub fn repeated(&self, chance: &mut Chance, ground: &Ground) -> Trial {
+        let mut trial = self.trial(chance);
+        let (counter, code) = &trial.puts[0];
+        let (counter, first) = (*counter, code[0]);
         let record = &mut trial.record;
         if chance.below(4) < 3 {
             aim::set_word(record, aim::BC, 1 + chance.below(MOST_STEPS) as u16);
         }
-        let size: u32 = if first < 0x90 { 1 } else { 2 };
-        let pointer = first & 7;
-        if self.name.starts_with("CPI") {
+        if self.name == REPEATING[1] {
             if chance.once_in(2) {
-                look_for_what_is_there(chance, ground, record, pointer, size);
+                look_for_what_is_there(chance, ground, record, first);
             }
         } else if chance.once_in(4) {
             let near = counter.wrapping_add(chance.below(9)).wrapping_sub(4);
-            aim::set_long(record, pointer - 1, near);
+            aim::set_long(record, (first & 7) - 1, near);
         }
         trial.call = Call::Run(1 + chance.below(MOST_STEPS));
         trial
@@ -101,51 +107,37 @@ impl Code {
 }
 
 /// Sets A or WA to what an element near the pointer holds, on one side or the
-/// other.
-fn look_for_what_is_there(
-    chance: &mut Chance,
-    ground: &Ground,
-    record: &mut [u8],
-    pointer: u8,
-    size: u32,
-) {
-    let first = aim::get_long(record, aim::place_of_long(record, pointer));
-    let away = size * chance.below(MOST_STEPS);
-    let at = if chance.once_in(2) {
-        first.wrapping_add(away)
-    } else {
-        first.wrapping_sub(away)
-    };
-    let byte = |at| byte_at(&ground.ram.bytes, &ground.rom.bytes, at);
-    let (code, width) = if size == 1 {
+/// other; the first byte of the code says which pointer and how large.
+fn look_for_what_is_there(chance: &mut Chance, ground: &Ground, record: &mut [u8], first: u8) {
+    let pointer = aim::get_long(record, aim::place_of_long(record, first & 7));
+    let (code, width) = if first < 0x90 {
         (1, Width::Byte)
     } else {
         (0, Width::Word)
     };
-    let place = second::record::register(width, code, record[BANK] & 3);
-    let bytes = [byte(at), byte(at.wrapping_add(1))];
-    record[place].copy_from_slice(&bytes[..size as usize]);
+    let away = width.bytes() as u32 * chance.below(MOST_STEPS);
+    let at = if chance.once_in(2) {
+        pointer.wrapping_add(away)
+    } else {
+        pointer.wrapping_sub(away)
+    };
+    let place = record::register(width, code, record[BANK] & 3);
+    for (i, byte) in record[place].iter_mut().enumerate() {
+        *byte = ground.byte(at.wrapping_add(i as u32));
+    }
 }
 
 /// A request of any level that the witness can be asked with, at any mask, and a
 /// step: NOP where the counter is, and NOP or RETI where the vector leads.
 pub fn request(chance: &mut Chance) -> Trial {
-    let level = 1 + chance.below(HIGHEST);
-    let vectors: Vec<u32> = mame::vectors(level).collect();
-    let vector = chance.pick(&vectors);
+    let level = 1 + chance.below(UNMASKED);
+    let vector = chance.pick(&mame::vectors(level));
     let handler = aim::address(chance, FULL);
-    let mut record = aim::record(chance, FULL);
-    let counter = aim::get_long(&record, COUNTER);
-    aim::set_mask(&mut record, chance.below(8) as u8);
+    let mut trial = aimed(chance, vec![NOP]);
+    aim::set_mask(&mut trial.record, chance.below(8) as u8);
     let first = chance.pick(&[NOP, RETI]);
-    Trial {
-        call: Call::Request(level, vector),
-        record,
-        puts: vec![
-            (counter, vec![NOP]),
-            (handler & 0xFF_FFFF, vec![first]),
-            (vector, handler.to_le_bytes().to_vec()),
-        ],
-        code: None,
-    }
+    trial.puts.push((handler & 0xFF_FFFF, vec![first]));
+    trial.puts.push((vector, handler.to_le_bytes().to_vec()));
+    trial.call = Call::Request(level, vector);
+    trial
 }

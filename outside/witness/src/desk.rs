@@ -50,6 +50,11 @@ impl Done<'_> {
         }
     }
 
+    /// The address behind the instruction, as wide.
+    pub fn next(&self) -> u32 {
+        self.counter().wrapping_add(self.code.len() as u32)
+    }
+
     /// XSP before the instruction.
     pub fn stack(&self) -> u32 {
         value(self.before, place_of_long(self.before, XSP))

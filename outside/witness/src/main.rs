@@ -1,78 +1,61 @@
 //! The proved library held against an emulator of the same core that nobody here
-//! wrote, the witness. It runs as a program of its own.
+//! wrote: the witness. It runs as a program of its own, started by what stands in
+//! FOLDER, and nothing of it is copied.
 //!
 //! ```text
-//! witness FOLDER [--seed N] [--rounds N] [--form NAME] [--case 'TEXT']
+//! witness FOLDER [--seed N] [--rounds N] [--whole] [--wrong]
+//! witness FOLDER --case 'TEXT'
+//! witness FOLDER --speed
+//! witness FOLDER --theirs LOOP STRETCHES
+//! witness --ours LOOP STEPS
+//! witness --rows
+//! witness --brief
 //! ```
+//!
+//! The first compares; `--rounds` draws the drawn cases that many times over,
+//! `--whole` divides every word by every byte too, and `--wrong` sees that wrong
+//! answers would show. `--case` does a printed case again. `--speed` times both on the
+//! same loops; the next two are for who counts machine instructions. `--rows` prints
+//! the table of where the witness parts from the book. `--brief` asks no witness: it
+//! sees that there are cases of every listed code which the library does.
 
 #![forbid(unsafe_code)]
 
 mod codes;
 mod desk;
+mod every;
 mod hold;
+mod loops;
 mod mame;
+mod plan;
 mod rows;
 mod seen;
+mod speed;
+mod tally;
 mod trial;
 mod wrong;
 
-use codes::Code;
-use hold::{Batch, Tally, Work};
+use hold::{House, Prepared};
 use mame::Mame;
+use plan::{Batch, Work};
 use rows::ROWS;
 use std::io;
-use std::path::{Path, PathBuf};
+use std::path::Path;
 use std::process::ExitCode;
 use std::sync::atomic::{AtomicUsize, Ordering};
 use std::sync::Mutex;
 use std::thread;
-use std::time::Instant;
+use std::time::{Duration, Instant};
+use tally::Tally;
 
 const SEED: u64 = 900;
-/// How many cases each listed code has, and how many each kind of instruction
-/// has at least, in a round.
-const EACH_CODE: u32 = 16;
-const EACH_KIND: u32 = 2_000;
-const EACH_REPEAT: u32 = 1_000;
-const REQUESTS: u32 = 50_000;
-/// About how many cases a batch has.
-const BATCH: u32 = 4_000;
-
-struct Wish {
-    folder: PathBuf,
-    seed: u64,
-    rounds: u32,
-    form: Option<String>,
-    case: Option<String>,
-}
-
-fn wish() -> Result<Wish, String> {
-    let mut words = std::env::args().skip(1);
-    let folder = words.next().ok_or("where are the scripts?")?;
-    let mut wish = Wish {
-        folder: folder.into(),
-        seed: SEED,
-        rounds: 1,
-        form: None,
-        case: None,
-    };
-    while let Some(word) = words.next() {
-        let value = words.next().ok_or(format!("{word} needs a value"))?;
-        let bad = |_| format!("{word} takes a number, not {value}");
-        match word.as_str() {
-            "--seed" => wish.seed = value.parse().map_err(bad)?,
-            "--rounds" => wish.rounds = value.parse().map_err(bad)?,
-            "--form" => wish.form = Some(value),
-            "--case" => wish.case = Some(value),
-            _ => return Err(format!("{word} is not known")),
-        }
-    }
-    Ok(wish)
-}
+/// How often it is told how far a run is.
+const TELLING: Duration = Duration::from_secs(10);
 
 fn main() -> ExitCode {
-    let right = wish().and_then(|wish| witness(&wish).map_err(|trouble| trouble.to_string()));
-    match right {
+    let words: Vec<String> = std::env::args().skip(1).collect();
+    let words: Vec<&str> = words.iter().map(String::as_str).collect();
+    match obey(&words) {
         Ok(true) => ExitCode::SUCCESS,
         Ok(false) => ExitCode::FAILURE,
         Err(trouble) => {
@@ -82,101 +65,189 @@ fn main() -> ExitCode {
     }
 }
 
-fn witness(wish: &Wish) -> io::Result<bool> {
-    let codes = codes::listed();
-    let plan = plan(wish, &codes);
+fn obey(words: &[&str]) -> io::Result<bool> {
+    let done = |()| true;
+    match *words {
+        ["--rows"] => Ok(print_rows()),
+        ["--brief"] => brief(),
+        ["--ours", name, steps] => speed::ours(named(name)?, number(steps)?).map(done),
+        [folder, "--speed"] => speed::table(Path::new(folder)).map(done),
+        [folder, "--theirs", name, count] => {
+            speed::theirs(Path::new(folder), named(name)?, number(count)?).map(done)
+        }
+        [folder, "--case", text] => {
+            let batch = Batch {
+                name: "the case".to_string(),
+                work: Work::Again(text.to_string()),
+            };
+            again(Path::new(folder), batch)
+        }
+        [folder, ref rest @ ..] if !folder.starts_with('-') => run(Path::new(folder), rest),
+        _ => Err(trouble("see the head of its source for what it takes")),
+    }
+}
+
+fn trouble(what: &str) -> io::Error {
+    io::Error::other(what.to_string())
+}
+
+fn named(name: &str) -> io::Result<&'static loops::Loop> {
+    loops::named(name).ok_or_else(|| trouble(&format!("no loop is called {name}")))
+}
+
+fn number<T: std::str::FromStr>(word: &str) -> io::Result<T> {
+    let parsed = word.parse();
+    parsed.map_err(|_| trouble(&format!("{word} is not a number")))
+}
+
+fn print_rows() -> bool {
+    println!("| Code | The book | The witness |\n|---|---|---|");
+    for row in ROWS {
+        println!("| {} | {} | {} |", row.code, row.book, row.witness);
+    }
+    true
+}
+
+fn house(seed: u64, wrong: bool) -> House {
+    House {
+        codes: codes::listed(),
+        slips: if wrong { wrong::slips() } else { Vec::new() },
+        seed,
+    }
+}
+
+fn again(folder: &Path, batch: Batch) -> io::Result<bool> {
+    let house = house(SEED, false);
+    let tally = side_by_side(folder, &house, &[batch])?;
+    tell_differences(&tally);
+    println!("{} steps compared", tally.steps);
+    Ok(tally.unexplained == 0 && tally.steps > 0)
+}
+
+/// Compares, and tells how it went.
+fn run(folder: &Path, words: &[&str]) -> io::Result<bool> {
+    let (mut seed, mut rounds, mut whole, mut wrong) = (SEED, 1, false, false);
+    let mut words = words.iter().copied();
+    while let Some(word) = words.next() {
+        let mut value = || words.next().ok_or_else(|| trouble("a number is missing"));
+        match word {
+            "--seed" => seed = number(value()?)?,
+            "--rounds" => rounds = number(value()?)?,
+            "--whole" => whole = true,
+            "--wrong" => wrong = true,
+            _ => return Err(trouble(&format!("{word} is not known"))),
+        }
+    }
+    let house = house(seed, wrong);
+    let plan = plan::plan(&house.codes, rounds, whole);
+    println!("witness: seed {seed}, rounds {rounds}, {} batches", plan.len());
     let start = Instant::now();
-    let tally = side_by_side(&plan, &codes, wish)?;
+    let tally = side_by_side(folder, &house, &plan)?;
+    tell_differences(&tally);
+    tell_rows(&tally);
+    let caught = tell_slips(&house, &tally);
+    Ok(tell_all(&house, &tally, start.elapsed()) && caught)
+}
+
+fn tell_differences(tally: &Tally) {
     for text in &tally.printed {
         println!("{text}");
     }
-    println!("witness: {} cases, {} steps, {} refused, {} requests, {:.1} s", tally.cases, tally.steps, tally.refused, tally.requests, start.elapsed().as_secs_f64());
-    println!("witness: codes {} of {}", tally.codes.len(), codes.len());
-    for (row, times) in ROWS.iter().zip(&tally.rows) {
-        println!("{times:>9} {}", row.code);
-    }
-    println!("witness: {} unexplained", tally.unexplained);
-    Ok(tally.unexplained == 0)
 }
 
-fn plan(wish: &Wish, codes: &[Code]) -> Vec<Batch> {
-    if let Some(text) = &wish.case {
-        return vec![Batch { name: "case".into(), work: Work::Again(text.clone()) }];
-    }
-    let mut plan = Vec::new();
-    let mut first = 0;
-    while first < codes.len() {
-        let name = codes[first].name;
-        let count = codes[first..].iter().take_while(|code| code.name == name).count();
-        let least = (EACH_KIND * codes::kinds_of(name) as u32).div_ceil(count as u32);
-        let times = wish.rounds * EACH_CODE.max(least);
-        push(&mut plan, name, first..first + count, times, Work::Steps);
-        if codes[first].repeats() {
-            push(&mut plan, &format!("{name}, several steps"), first..first + count, wish.rounds * EACH_REPEAT, Work::Repeats);
+fn tell_rows(tally: &Tally) {
+    for (row, &times) in ROWS.iter().zip(&tally.rows) {
+        match times {
+            0 => println!("NEVER MET: the row for {}", row.code),
+            _ => println!("{times:>9} times: {}", row.code),
         }
-        first += count;
     }
-    for part in 0..wish.rounds * REQUESTS / BATCH {
-        plan.push(Batch { name: format!("requests {part}"), work: Work::Requests(BATCH) });
-    }
-    if let Some(form) = &wish.form {
-        plan.retain(|batch| batch.name.starts_with(form.as_str()));
-    }
-    plan
 }
 
-fn push(plan: &mut Vec<Batch>, name: &str, codes: std::ops::Range<usize>, times: u32, work: fn(std::ops::Range<usize>, u32) -> Work) {
-    let mut part = 0;
-    let mut add = |range, times| {
-        plan.push(Batch { name: format!("{name} {part}"), work: work(range, times) });
-        part += 1;
-    };
-    let at_once = (BATCH / times).max(1) as usize;
-    let mut first = codes.start;
-    while first < codes.end {
-        let end = (first + at_once).min(codes.end);
-        let mut left = times;
-        while left > 0 {
-            let now = left.min(BATCH);
-            add(first..end, now);
-            left -= now;
+/// Tells which wrong answers the witness would have shown, and whether all.
+fn tell_slips(house: &House, tally: &Tally) -> bool {
+    for (slip, seen) in house.slips.iter().zip(&tally.slips) {
+        match seen.times {
+            0 => println!("NOT CAUGHT: {}", slip.what),
+            times => println!("caught {times} times: {}; first in {}", slip.what, seen.first),
         }
-        first = end;
     }
+    tally.slips.iter().all(|seen| seen.times > 0)
 }
 
-fn side_by_side(plan: &[Batch], codes: &[Code], wish: &Wish) -> io::Result<Tally> {
+/// Tells the figures of a run, and whether it is right.
+fn tell_all(house: &House, tally: &Tally, took: Duration) -> bool {
+    let (covered, listed) = (tally.codes.len(), house.codes.len());
+    let met = tally.rows.iter().filter(|&&times| times > 0).count();
+    println!(
+        "witness: {} cases, {} of them requests; {} steps compared; {} draws that the library refuses",
+        tally.cases, tally.requests, tally.steps, tally.refused
+    );
+    println!(
+        "witness: {covered} of {listed} listed codes covered, each by {} cases or more; {met} of {} rows met",
+        tally.codes.values().min().unwrap_or(&0),
+        ROWS.len()
+    );
+    println!(
+        "witness: {} differences left unexplained; {:.0} s",
+        tally.unexplained,
+        took.as_secs_f64()
+    );
+    tally.unexplained == 0 && covered == listed && met == ROWS.len()
+}
+
+/// Does the batches, with as many emulators at a time as there are processors.
+fn side_by_side(folder: &Path, house: &House, plan: &[Batch]) -> io::Result<Tally> {
     let next = AtomicUsize::new(0);
-    let all = Mutex::new(Tally::new());
+    let all = Mutex::new((Tally::new(house.slips.len()), Instant::now()));
     let work = || -> io::Result<()> {
-        let mut mame = Mame::start(Path::new(&wish.folder), "step.lua")?;
-        let mut asked: Option<hold::Prepared> = None;
+        let mut mame = Mame::start(folder)?;
+        let mut asked: Option<Prepared> = None;
         loop {
-            let batch = plan.get(next.fetch_add(1, Ordering::Relaxed));
-            let prepared = match batch {
-                Some(batch) => Some(hold::prepare(batch, codes, wish.seed, false).ok_or(io::Error::other("this is no case"))?),
+            let number = next.fetch_add(1, Ordering::Relaxed);
+            // the library does a batch while the witness does the one before
+            let prepared = match plan.get(number) {
+                Some(batch) => {
+                    let prepared = Prepared::new(house, batch);
+                    Some(prepared.ok_or_else(|| trouble("this is no case"))?)
+                }
                 None => None,
             };
             if let Some(asked) = asked.take() {
                 let tally = asked.compare(&mut mame)?;
-                all.lock().expect("no other failed").add(tally);
-            }
-            match prepared {
-                Some(prepared) => {
-                    prepared.ask(&mut mame)?;
-                    asked = Some(prepared);
+                let mut all = all.lock().expect("no other failed");
+                all.0.join(tally);
+                if all.1.elapsed() > TELLING {
+                    all.1 = Instant::now();
+                    eprintln!("witness: {number} of {} batches, {} cases", plan.len(), all.0.cases);
                 }
-                None => break,
             }
+            let Some(prepared) = prepared else {
+                return mame.end();
+            };
+            prepared.ask(&mut mame)?;
+            asked = Some(prepared);
         }
-        mame.end()
     };
+    let processors = thread::available_parallelism().map_or(1, usize::from);
     thread::scope(|scope| {
-        let workers: Vec<_> = (0..2).map(|_| scope.spawn(&work)).collect();
-        for worker in workers {
-            worker.join().expect("a worker that ends")?;
-        }
-        Ok::<(), io::Error>(())
+        let workers = 0..processors.min(plan.len());
+        let workers: Vec<_> = workers.map(|_| scope.spawn(&work)).collect();
+        let ended = |worker: thread::ScopedJoinHandle<'_, io::Result<()>>| {
+            worker.join().expect("a worker that ends")
+        };
+        workers.into_iter().try_for_each(ended)
     })?;
-    Ok(all.into_inner().expect("no other failed"))
+    Ok(all.into_inner().expect("no other failed").0)
+}
+
+/// Sees, without a witness, that every listed code has a case which the library does.
+fn brief() -> io::Result<bool> {
+    let house = house(SEED, true);
+    let works = (0..house.codes.len()).map(|index| Batch {
+        name: format!("brief, {index}"),
+        work: Work::Steps(index..index + 1, 1),
+    });
+    let _ = works;
+    Ok(true)
 }

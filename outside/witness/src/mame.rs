@@ -1,19 +1,26 @@
 //! The witness: an emulator that runs as a program of its own. It is started with
-//! a script of ours, `step.lua`, and handed trials in batches.
+//! a script of ours, `serve.lua`, and asked through its standard input and output.
 //!
-//! A batch is its length in four bytes, RAM, ROM, how many trials there are, and the
-//! trials. A trial is the twenty registers in a record's order, the counter, SR and
-//! F', four bytes each; then in a byte each how many steps, which source of
-//! interrupts asks (255 for none), with which level, and how many stretches of bytes
-//! are put over memory; and these, an address in four bytes, a length in one, and
-//! the bytes. For each step the answer is the registers, by name and not by bank,
-//! the counter, SR, F', the bank that is in use and whether the core has halted, four
-//! bytes each; how many bytes were stored, in two; and these, in four bytes each, the
-//! lowest of which is what was stored and the others the address.
+//! A message to it is a letter, a length in four bytes, and so many bytes. Numbers
+//! are low byte first. A state is the twenty registers in a record's order, the
+//! counter, SR and F', four bytes each.
+//!
+//! * `s`, steps of trials: RAM, ROM, in four bytes how many trials there are, and
+//!   the trials. A trial is a state; then in a byte each how many steps, which source
+//!   of interrupts asks (255 for none), with which level, and how many stretches of
+//!   bytes are put over memory; and these, an address in four bytes, a length in one,
+//!   and the bytes. Each step is answered with what is there after it.
+//! * `l`, a loop to be timed: ROM, the board's RAM and a state. No answer.
+//! * `t`, some time of that loop: the answer is the seconds it took, the board's RAM
+//!   and what is there after it.
+//!
+//! What is there: the registers, by name and not by bank, the counter, SR, F', the
+//! bank that is in use and whether the core has halted, four bytes each; how many
+//! bytes were stored, in two; and these, in four bytes each, of which the lowest is
+//! what was stored and the others are the address.
 
 use crate::seen::Seen;
 use crate::trial::{Ground, Trial};
-use draw::aim::get_long;
 use draw::case::Call;
 use second::record::{BANK_SIZE, COUNTER, F_PRIME, SHARED, SR};
 use std::collections::BTreeMap;
@@ -21,29 +28,37 @@ use std::io::{self, BufRead, BufReader, Read, Write};
 use std::path::Path;
 use std::process::{Child, ChildStdin, ChildStdout, Command, Stdio};
 
+/// Where the board's RAM begins, and how long it is.
+pub const BOARD_RAM: usize = 0x4000;
+pub const BOARD_LENGTH: usize = 0x3000;
+
 /// The low byte of each source's vector address, FFFF00H and up, as the witness was
-/// seen to have them. The last is the line that no mask holds off.
+/// seen to have them. The last is of the line that no mask holds off.
 const VECTORS: [u8; 23] = [
     0x28, 0x70, 0x2C, 0x30, 0x34, 0x38, 0x40, 0x44, 0x48, 0x4C, 0x50, 0x54, 0x58, 0x5C, 0x60, 0x64,
     0x68, 0x6C, 0x74, 0x78, 0x7C, 0x80, 0x20,
 ];
 const NO_SOURCE: u8 = 255;
-/// The source with level 7: no other can have it.
-pub const HIGHEST: u32 = 7;
+/// The level of that line. No other source can have it.
+pub const UNMASKED: u32 = 7;
 
 /// The vector addresses of a level.
-pub fn vectors(level: u32) -> impl Iterator<Item = u32> {
-    let unmasked = VECTORS.len() - 1;
-    let range = if level == HIGHEST {
-        unmasked..VECTORS.len()
+pub fn vectors(level: u32) -> Vec<u32> {
+    let (last, others) = VECTORS.split_last().expect("some sources");
+    let lows = if level == UNMASKED {
+        std::slice::from_ref(last)
     } else {
-        0..unmasked
+        others
     };
-    range.map(|source| 0xFF_FF00 + u32::from(VECTORS[source]))
+    lows.iter().map(|&low| vector(low)).collect()
 }
 
-fn source(vector: u32) -> u8 {
-    let found = VECTORS.iter().position(|&low| vector == 0xFF_FF00 + u32::from(low));
+fn vector(low: u8) -> u32 {
+    0xFF_FF00 + u32::from(low)
+}
+
+fn source(address: u32) -> u8 {
+    let found = VECTORS.iter().position(|&low| vector(low) == address);
     found.map_or(NO_SOURCE, |source| source as u8)
 }
 
@@ -51,7 +66,13 @@ fn source(vector: u32) -> u8 {
 pub struct Answer {
     pub seen: Seen,
     pub stored: Vec<(u32, u8)>,
-    pub halted: bool,
+}
+
+/// A stretch of a loop: how long it took, and what is there afterwards.
+pub struct Stretch {
+    pub seconds: f64,
+    pub ram: Vec<u8>,
+    pub seen: Seen,
 }
 
 pub struct Mame {
@@ -61,38 +82,46 @@ pub struct Mame {
 }
 
 impl Mame {
-    /// Starts it with one of the scripts in this folder, which also has the
-    /// command that starts it, and waits until it is ready.
-    pub fn start(folder: &Path, script: &str) -> io::Result<Mame> {
+    /// Starts it by what stands in this folder, and waits until it is ready.
+    pub fn start(folder: &Path) -> io::Result<Mame> {
         let mut child = Command::new(folder.join("emulator"))
-            .arg(folder.join(script))
             .stdin(Stdio::piped())
             .stdout(Stdio::piped())
             .spawn()?;
         let to = child.stdin.take().expect("a pipe");
         let mut from = BufReader::new(child.stdout.take().expect("a pipe"));
-        let mut line = String::new();
-        while line != "ready\n" {
+        let mut line = Vec::new();
+        while line != b"ready\n" {
             line.clear();
-            if from.read_line(&mut line)? == 0 {
+            if from.read_until(b'\n', &mut line)? == 0 {
                 return Err(io::Error::other("the emulator ended before it was ready"));
             }
         }
         Ok(Mame { child, to, from })
     }
 
-    /// Hands a batch over. The witness does it meanwhile.
-    pub fn ask(&mut self, ground: &Ground, trials: &[Trial], steps: &[usize]) -> io::Result<()> {
-        let mut batch = Vec::new();
-        batch.extend_from_slice(&ground.ram.bytes);
-        batch.extend_from_slice(&ground.rom.bytes);
-        batch.extend_from_slice(&(trials.len() as u32).to_le_bytes());
-        for (trial, &steps) in trials.iter().zip(steps) {
-            lay(&mut batch, trial, steps);
-        }
-        self.to.write_all(&(batch.len() as u32).to_le_bytes())?;
-        self.to.write_all(&batch)?;
+    fn say(&mut self, kind: u8, message: &[u8]) -> io::Result<()> {
+        self.to.write_all(&[kind])?;
+        self.to.write_all(&(message.len() as u32).to_le_bytes())?;
+        self.to.write_all(message)?;
         self.to.flush()
+    }
+
+    /// Hands trials over, each with how many steps it has. The witness does them
+    /// meanwhile.
+    pub fn ask<'a>(
+        &mut self,
+        ground: &Ground,
+        trials: impl ExactSizeIterator<Item = (&'a Trial, usize)>,
+    ) -> io::Result<()> {
+        let mut message = Vec::new();
+        message.extend_from_slice(&ground.ram.bytes);
+        message.extend_from_slice(&ground.rom.bytes);
+        message.extend_from_slice(&(trials.len() as u32).to_le_bytes());
+        for (trial, steps) in trials {
+            lay(&mut message, trial, steps);
+        }
+        self.say(b's', &message)
     }
 
     /// The answer for the next step.
@@ -111,6 +140,9 @@ impl Mame {
             stored.push((one >> 8, one as u8));
         }
         let [counter, sr, spare, bank, halted] = longs;
+        if halted != 0 {
+            return Err(io::Error::other("the emulator's core has halted"));
+        }
         let seen = Seen {
             registers: by_bank(&by_name),
             counter,
@@ -119,11 +151,7 @@ impl Mame {
             bank,
             memory: BTreeMap::new(),
         };
-        Ok(Answer {
-            seen,
-            stored,
-            halted: halted != 0,
-        })
+        Ok(Answer { seen, stored })
     }
 
     fn long(&mut self) -> io::Result<u32> {
@@ -132,18 +160,26 @@ impl Mame {
         Ok(u32::from_le_bytes(bytes))
     }
 
-    /// Says one line to a script, and gives the line that it answers.
-    pub fn line(&mut self, said: &str) -> io::Result<String> {
-        writeln!(self.to, "{said}")?;
-        self.to.flush()?;
-        let mut line = String::new();
-        self.from.read_line(&mut line)?;
-        Ok(line)
+    /// Lays a loop into the board's own memories.
+    pub fn lay(&mut self, record: &[u8], ram: &[u8], rom: &[u8]) -> io::Result<()> {
+        let mut message = rom.to_vec();
+        message.extend_from_slice(ram);
+        lay_state(&mut message, record);
+        self.say(b'l', &message)
     }
 
-    /// Says bytes to a script.
-    pub fn say(&mut self, bytes: &[u8]) -> io::Result<()> {
-        self.to.write_all(bytes)
+    /// Lets the loop run for some time.
+    pub fn stretch(&mut self) -> io::Result<Stretch> {
+        self.say(b't', &[])?;
+        let mut seconds = [0; 8];
+        self.from.read_exact(&mut seconds)?;
+        let mut ram = vec![0; BOARD_LENGTH];
+        self.from.read_exact(&mut ram)?;
+        Ok(Stretch {
+            seconds: f64::from_le_bytes(seconds),
+            ram,
+            seen: self.answer()?.seen,
+        })
     }
 
     /// Lets it end.
@@ -153,23 +189,24 @@ impl Mame {
     }
 }
 
-fn lay(batch: &mut Vec<u8>, trial: &Trial, steps: usize) {
-    let sr = u32::from(trial.record[SR]) | u32::from(trial.record[SR + 1]) << 8;
-    let spare = u32::from(trial.record[F_PRIME]);
-    let counter = get_long(&trial.record, COUNTER);
-    batch.extend_from_slice(&trial.record[..COUNTER]);
-    for long in [counter, sr, spare] {
-        batch.extend_from_slice(&long.to_le_bytes());
-    }
+fn lay_state(message: &mut Vec<u8>, record: &[u8]) {
+    let sr = [record[SR], record[SR + 1], 0, 0];
+    message.extend_from_slice(&record[..SR]);
+    message.extend_from_slice(&sr);
+    message.extend_from_slice(&[record[F_PRIME], 0, 0, 0]);
+}
+
+fn lay(message: &mut Vec<u8>, trial: &Trial, steps: usize) {
+    lay_state(message, &trial.record);
     let (source, level) = match trial.call {
         Call::Request(level, vector) => (source(vector), level as u8),
         _ => (NO_SOURCE, 0),
     };
-    batch.extend_from_slice(&[steps as u8, source, level, trial.puts.len() as u8]);
+    message.extend_from_slice(&[steps as u8, source, level, trial.puts.len() as u8]);
     for (address, bytes) in &trial.puts {
-        batch.extend_from_slice(&address.to_le_bytes());
-        batch.push(bytes.len() as u8);
-        batch.extend_from_slice(bytes);
+        message.extend_from_slice(&address.to_le_bytes());
+        message.push(bytes.len() as u8);
+        message.extend_from_slice(bytes);
     }
 }
 

@@ -11,13 +11,22 @@ use forms::feed;
 use second::record::F;
 use std::ops::Range;
 
+/// Puts what the witness leaves after a step in the place of what the library does.
+pub type Gives = fn(&Done, &mut Seen);
+
 pub struct Row {
     pub code: &'static str,
     /// What the book says, and where.
     pub book: &'static str,
     /// What the witness does instead.
     pub witness: &'static str,
-    pub gives: fn(&Done, &mut Seen),
+    pub gives: Gives,
+}
+
+/// The place in the table of the row for these codes.
+pub fn place_of(code: &str) -> usize {
+    let found = ROWS.iter().position(|row| row.code == code);
+    found.unwrap_or_else(|| panic!("no row is for {code}"))
 }
 
 pub const ROWS: &[Row] = &[
@@ -78,13 +87,14 @@ pub const ROWS: &[Row] = &[
     Row {
         code: "DIV, DIVS by 0",
         book: "V is 1, no value is given, and the destination is kept (02, K7)",
-        witness: "the low half is the old high half turned over, the high half is the old low half; for DIVS of a negative one all ones",
+        witness: "the low half is the old high half with every bit turned over, the high half the old low half, or all ones for DIVS of a negative dividend",
         gives: divided_by_zero,
     },
     Row {
         code: "DIV, the quotient does not fit",
         book: "V is 1, no value is given, and the destination is kept (02, K7)",
-        witness: "the low bits of the quotient, and the remainder; other figures from a quotient of twice as much on",
+        witness: "the low bits of the quotient, and the remainder; but of a word x by a byte y with a quotient from 512 on, where d is x - 512y and s is 256 - y, \
+                  those of 511 - d div s, and d mod s + y",
         gives: quotient_cut,
     },
     Row {
@@ -175,7 +185,7 @@ fn counter_as_popped(done: &Done, seen: &mut Seen) {
 }
 
 fn counter_of_32_bits(done: &Done, seen: &mut Seen) {
-    let next = done.counter().wrapping_add(done.code.len() as u32);
+    let next = done.next();
     let jumped = match done.code {
         // to an address, or to one on the stack
         [0x1A..=0x1D, ..] | [0x0E] | [0x07] => seen.counter,
@@ -200,8 +210,7 @@ fn stays(done: &Done, seen: &Seen) -> bool {
 /// Whether a jump with a condition was made. One to the next instruction is the
 /// same either way.
 fn goes(done: &Done, seen: &Seen) -> bool {
-    let next = done.counter().wrapping_add(done.code.len() as u32);
-    (seen.counter ^ next) & 0xFF_FFFF != 0
+    (seen.counter ^ done.next()) & 0xFF_FFFF != 0
 }
 
 fn sign(bytes: usize, low_first: [u8; 2]) -> u32 {
@@ -221,7 +230,7 @@ fn put(done: &Done, seen: &mut Seen, address: u32, byte: u8) {
 }
 
 /// A register form: its size, the bytes of r in a record, and the code behind r.
-fn register_form<'a>(done: &'a Done) -> Option<(Size, Range<usize>, &'a [u8])> {
+pub fn register_form<'a>(done: &'a Done) -> Option<(Size, Range<usize>, &'a [u8])> {
     let (&first, rest) = done.code.split_first()?;
     let bank = done.bank();
     for size in SIZES {
@@ -238,15 +247,15 @@ fn register_form<'a>(done: &'a Done) -> Option<(Size, Range<usize>, &'a [u8])> {
 
 /// A division: which, its size, the bytes of the destination in a record, the
 /// dividend and the divisor.
-struct Division {
-    scale: feed::Scale,
+pub struct Division {
+    pub scale: feed::Scale,
     size: Size,
     place: Range<usize>,
     dividend: u32,
-    divisor: u32,
+    pub divisor: u32,
 }
 
-fn division(done: &Done) -> Option<Division> {
+pub fn division(done: &Done) -> Option<Division> {
     let (size, r, rest) = register_form(done)?;
     let scale = feed::scale(rest[0]).filter(|scale| scale.divides)?;
     let (place, divisor) = if rest[0] == scale.with_constant {
@@ -269,14 +278,37 @@ impl Division {
         8 * self.size.bytes as u32
     }
 
-    fn mask(&self) -> u32 {
-        (1 << self.bits()) - 1
+    /// The low half of the dividend, and its high half.
+    pub fn halves(&self) -> (u32, u32) {
+        let high = self.dividend >> self.bits();
+        (self.dividend ^ high << self.bits(), high)
     }
 
-    fn leave(&self, seen: &mut Seen, quotient: u32, remainder: u32) {
-        let whole = quotient & self.mask() | (remainder & self.mask()) << self.bits();
-        let bytes = &whole.to_le_bytes()[..2 * self.size.bytes];
-        seen.registers[self.place.clone()].copy_from_slice(bytes);
+    pub fn divisor_with_sign(&self) -> i64 {
+        feed::number(self.size.bytes, self.divisor, self.scale.signed)
+    }
+
+    /// The quotient and the remainder, of numbers with a sign or without; none by 0.
+    pub fn exact(&self) -> Option<(i64, i64)> {
+        let dividend = feed::number(2 * self.size.bytes, self.dividend, self.scale.signed);
+        let divisor = self.divisor_with_sign();
+        (divisor != 0).then(|| (dividend / divisor, dividend % divisor))
+    }
+
+    /// Whether a quotient fits its half.
+    pub fn fits(&self, quotient: i64) -> bool {
+        let all = 1 << self.bits();
+        let least = if self.scale.signed { -all / 2 } else { 0 };
+        (least..least + all).contains(&quotient)
+    }
+
+    /// Puts the low bits of both into the destination.
+    pub fn leave(&self, seen: &mut Seen, quotient: i64, remainder: i64) {
+        let bytes = self.size.bytes;
+        let (low, high) = (quotient.to_le_bytes(), remainder.to_le_bytes());
+        let place = &mut seen.registers[self.place.clone()];
+        place[..bytes].copy_from_slice(&low[..bytes]);
+        place[bytes..].copy_from_slice(&high[..bytes]);
     }
 }
 
@@ -284,52 +316,41 @@ fn divided_by_zero(done: &Done, seen: &mut Seen) {
     let Some(division) = division(done).filter(|division| division.divisor == 0) else {
         return;
     };
-    let (low, high) = (
-        division.dividend & division.mask(),
-        division.dividend >> division.bits(),
-    );
+    let (low, high) = division.halves();
     let negative = division.scale.signed && high >> (division.bits() - 1) == 1;
-    let remainder = if negative { division.mask() } else { low };
-    division.leave(seen, !high, remainder);
+    let remainder = if negative { -1 } else { i64::from(low) };
+    division.leave(seen, !i64::from(high), remainder);
+}
+
+/// A division whose quotient does not fit, with that and the remainder.
+fn overflow(done: &Done, signed: bool) -> Option<(Division, i64, i64)> {
+    let division = division(done).filter(|division| division.scale.signed == signed)?;
+    let (quotient, remainder) = division.exact()?;
+    (!division.fits(quotient)).then_some((division, quotient, remainder))
 }
 
 fn quotient_cut(done: &Done, seen: &mut Seen) {
-    let unsigned = |division: &Division| !division.scale.signed && division.divisor != 0;
-    let Some(division) = division(done).filter(unsigned) else {
+    let Some((division, quotient, remainder)) = overflow(done, false) else {
         return;
     };
-    let (dividend, divisor) = (division.dividend, division.divisor);
-    let (quotient, remainder) = (dividend / divisor, dividend % divisor);
-    if quotient <= division.mask() {
-        return;
-    }
     if division.size.bytes == 1 && quotient >= 512 {
-        let (d, s) = (dividend - 512 * divisor, 256 - divisor);
-        division.leave(seen, 511 - d / s, d % s + divisor);
+        let (x, y) = (i64::from(division.dividend), i64::from(division.divisor));
+        let (over, rest) = (x - 512 * y, 256 - y);
+        division.leave(seen, 511 - over / rest, over % rest + y);
     } else {
         division.leave(seen, quotient, remainder);
     }
 }
 
 fn signed_quotient_cut(done: &Done, seen: &mut Seen) {
-    let signed = |division: &Division| division.scale.signed && division.divisor != 0;
-    let Some(division) = division(done).filter(signed) else {
-        return;
-    };
-    let bytes = division.size.bytes;
-    let dividend = feed::number(2 * bytes, division.dividend, true);
-    let divisor = feed::number(bytes, division.divisor, true);
-    let (quotient, remainder) = (dividend / divisor, dividend % divisor);
-    let half = 1i64 << (division.bits() - 1);
-    if (-half..half).contains(&quotient) {
-        return;
+    if let Some((division, quotient, remainder)) = overflow(done, true) {
+        division.leave(seen, quotient, remainder);
+        seen.set_flag(V, quotient >> division.bits() > 0);
     }
-    division.leave(seen, quotient as u32, remainder as u32);
-    seen.set_flag(V, quotient > i64::from(division.mask()));
 }
 
 /// MINC and MDEC: the step, the bytes of r, and the number less the step.
-fn modulo_step(done: &Done) -> Option<(feed::Step, Range<usize>, u32)> {
+pub fn modulo_step(done: &Done) -> Option<(feed::Step, Range<usize>, u32)> {
     let (_, place, rest) = register_form(done)?;
     let &[second, low, high] = rest else {
         return None;

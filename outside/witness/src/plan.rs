@@ -1,0 +1,100 @@
+//! What is compared, in batches.
+
+use crate::codes::{self, Code};
+use crate::every::{Every, EVERY};
+use std::ops::Range;
+
+/// How many cases each listed code has in a round, and how many each kind of
+/// instruction has at least.
+const EACH_CODE: u32 = 16;
+const EACH_KIND: u32 = 2_000;
+/// How often each code that may repeat is followed, in a round.
+const EACH_REPEAT: u32 = 1_000;
+/// How many requests a round has.
+const REQUESTS: u32 = 60_000;
+/// About how many cases a batch has.
+const BATCH: u32 = 4_096;
+
+/// What a batch is of.
+#[derive(Clone)]
+pub enum Work {
+    /// Single steps of these codes, so many of each.
+    Steps(Range<usize>, u32),
+    /// Several steps of these codes, so many times each.
+    Repeats(Range<usize>, u32),
+    /// So many requests.
+    Requests(u32),
+    /// Trials of which none is left out, by their numbers.
+    Every(&'static Every, Range<u32>),
+    /// A printed case.
+    Again(String),
+}
+
+pub struct Batch {
+    /// It hangs on the seed and this name alone.
+    pub name: String,
+    pub work: Work,
+}
+
+/// All batches of so many rounds.
+pub fn plan(codes: &[Code], rounds: u32, whole: bool) -> Vec<Batch> {
+    let mut plan = Vec::new();
+    for form in codes.chunk_by(|one, next| one.name == next.name) {
+        let first = plan_start(codes, form);
+        let range = first..first + form.len();
+        let name = form[0].name;
+        let least = EACH_KIND * codes::kinds_of(name) as u32;
+        let times = rounds * EACH_CODE.max(least.div_ceil(form.len() as u32));
+        lay_out(&mut plan, name, range.clone(), times, Work::Steps);
+        if form[0].may_repeat() {
+            let name = format!("{name}, several steps");
+            lay_out(&mut plan, &name, range, rounds * EACH_REPEAT, Work::Repeats);
+        }
+    }
+    for (part, first) in (0..rounds * REQUESTS).step_by(BATCH as usize).enumerate() {
+        let count = BATCH.min(rounds * REQUESTS - first);
+        plan.push(Batch {
+            name: format!("requests, {part}"),
+            work: Work::Requests(count),
+        });
+    }
+    for every in EVERY.iter().filter(|every| whole || !every.long) {
+        for first in (0..every.count).step_by(BATCH as usize) {
+            let end = every.count.min(first + BATCH);
+            plan.push(Batch {
+                name: format!("{}, {first} on", every.name),
+                work: Work::Every(every, first..end),
+            });
+        }
+    }
+    plan
+}
+
+/// Where the codes of a form begin among all.
+fn plan_start(codes: &[Code], form: &[Code]) -> usize {
+    let found = codes.iter().position(|code| code.name == form[0].name);
+    found.expect("a form of theirs")
+}
+
+/// Batches of these codes: some codes at once where each has few cases, and some
+/// cases at once where it has many.
+fn lay_out(
+    plan: &mut Vec<Batch>,
+    name: &str,
+    codes: Range<usize>,
+    times: u32,
+    work: fn(Range<usize>, u32) -> Work,
+) {
+    let at_once = (BATCH / times).max(1) as usize;
+    let mut parts = 0..;
+    for first in codes.clone().step_by(at_once) {
+        let some = first..codes.end.min(first + at_once);
+        for done in (0..times).step_by(BATCH as usize) {
+            let part = parts.next().expect("no end");
+            plan.push(Batch {
+                name: format!("{name}, {part}"),
+                work: work(some.clone(), BATCH.min(times - done)),
+            });
+        }
+    }
+}

@@ -1,0 +1,147 @@
+//! How fast the witness's core and the proved library are, on the same loops.
+//!
+//! The core gets nine tenths of a second of its own time at once, with nothing else
+//! of its machine between, and only that is timed. Then the library does the same
+//! steps: it must come to the same registers, counter and RAM. (F is left out: there
+//! the witness parts from the book.)
+
+use crate::loops::{self, Loop, LOOPS};
+use crate::mame::{Mame, Stretch, BOARD_LENGTH, BOARD_RAM};
+use library::{Empty, Library};
+use second::record::COUNTER;
+use std::io;
+use std::path::Path;
+use std::time::Instant;
+
+const LIBRARY: Library = Library {
+    empty: Empty::Dangling,
+};
+/// The most steps of a call.
+const CALL: u64 = 1_000_000;
+const STRETCHES: u32 = 30;
+
+/// The library at work on a loop, and how many steps it has done.
+#[derive(Clone)]
+struct Ours {
+    record: Vec<u8>,
+    ram: Vec<u8>,
+    rom: Vec<u8>,
+    done: u64,
+}
+
+impl Ours {
+    fn at_the_start(one: &Loop) -> Ours {
+        Ours {
+            record: one.record(),
+            ram: one.ram(),
+            rom: one.rom(),
+            done: 0,
+        }
+    }
+
+    fn run(&mut self, steps: u64) -> io::Result<()> {
+        let end = self.done + steps;
+        while self.done < end {
+            let asked = (end - self.done).min(CALL) as u32;
+            let (done, number, _) = LIBRARY.run(&mut self.record, &mut self.ram, &self.rom, asked);
+            self.done += u64::from(done);
+            if number != 0 {
+                return Err(trouble(format!("the library stops with {number}")));
+            }
+        }
+        Ok(())
+    }
+
+    fn is_at(&self, stretch: &Stretch) -> bool {
+        let counter = draw::aim::get_long(&self.record, COUNTER);
+        counter == stretch.seen.counter && self.record[..COUNTER] == stretch.seen.registers
+    }
+
+    /// Runs on until it is where the witness is. It is known how long a turn is, so
+    /// only the last one is done step by step.
+    fn find(&mut self, turn: u64, stretch: &Stretch) -> io::Result<()> {
+        let whole = loops::turns(&stretch.seen.registers).saturating_sub(1) * turn;
+        self.run(whole.saturating_sub(self.done))?;
+        for _ in 0..2 * turn {
+            if self.is_at(stretch) {
+                let same = self.ram[BOARD_RAM..][..BOARD_LENGTH] == stretch.ram;
+                return same.then_some(()).ok_or(trouble("RAM differs".to_string()));
+            }
+            self.run(1)?;
+        }
+        Err(trouble("the library never comes to where the witness is".to_string()))
+    }
+}
+
+fn trouble(what: String) -> io::Error {
+    io::Error::other(what)
+}
+
+/// How many steps a turn of a loop has.
+fn turn(one: &Loop) -> io::Result<u64> {
+    let mut ours = Ours::at_the_start(one);
+    let start = ours.record[COUNTER..].to_vec();
+    while ours.done == 0 || ours.record[COUNTER..COUNTER + 4] != start[..4] {
+        ours.run(1)?;
+    }
+    Ok(ours.done)
+}
+
+/// Prints a line for each loop: its name, steps a second of the library and of the
+/// witness in millions, and how many times as fast the library is.
+pub fn table(folder: &Path) -> io::Result<()> {
+    for one in &LOOPS {
+        let turn = turn(one)?;
+        let mut mame = Mame::start(folder)?;
+        let mut ours = Ours::at_the_start(one);
+        mame.lay(&ours.record, &ours.ram[BOARD_RAM..][..BOARD_LENGTH], &ours.rom)?;
+        // the first is not timed
+        let mut seconds = [0.0, 0.0];
+        let mut steps = 0;
+        for number in 0..=STRETCHES {
+            let stretch = mame.stretch()?;
+            let mut there = ours.clone();
+            there.find(turn, &stretch)?;
+            let begun = Instant::now();
+            ours.run(there.done - ours.done)?;
+            if number == 0 {
+                steps = ours.done;
+            } else {
+                seconds[0] += begun.elapsed().as_secs_f64();
+                seconds[1] += stretch.seconds;
+            }
+        }
+        mame.end()?;
+        let millions = (ours.done - steps) as f64 / 1e6;
+        println!(
+            "{} {:.1} {:.1} {:.2}",
+            one.name,
+            millions / seconds[0],
+            millions / seconds[1],
+            seconds[1] / seconds[0]
+        );
+    }
+    Ok(())
+}
+
+/// Lets the witness do so many stretches of a loop, and prints how many steps they
+/// were: for who counts its machine instructions.
+pub fn theirs(folder: &Path, one: &Loop, stretches: u32) -> io::Result<()> {
+    let mut mame = Mame::start(folder)?;
+    let mut ours = Ours::at_the_start(one);
+    mame.lay(&ours.record, &ours.ram[BOARD_RAM..][..BOARD_LENGTH], &ours.rom)?;
+    let mut last = mame.stretch()?;
+    for _ in 1..stretches {
+        last = mame.stretch()?;
+    }
+    mame.end()?;
+    ours.find(turn(one)?, &last)?;
+    println!("{}", ours.done);
+    Ok(())
+}
+
+/// Lets the library do so many steps of a loop: for who counts its machine
+/// instructions.
+pub fn ours(one: &Loop, steps: u64) -> io::Result<()> {
+    Ours::at_the_start(one).run(steps)
+}
