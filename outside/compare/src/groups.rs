@@ -17,8 +17,8 @@ mod requests;
 mod runs;
 mod straddles;
 
-use draw::chance::Chance;
 use crate::judge::Judge;
+use draw::chance::Chance;
 
 /// What a group works with. Everything in it hangs on the seed alone.
 pub struct Bench<'a> {

@@ -1,8 +1,8 @@
 //! Both machines do the same call; whatever differs is printed whole.
 
+use crate::reference;
 use draw::case::{Call, Case};
 use draw::image::hex;
-use crate::reference;
 use library::{Empty, Library};
 use second::record::{
     self, BANK, BANK_SIZE, COUNTER, F, F_PRIME, LONGS, MARKS, NESTING, SHARED, SR,

@@ -3,8 +3,8 @@
 //! A state crosses as its record. 7 is looked for first, then 1, then 2 for
 //! a record that is no state's; a refusal leaves the record and RAM alone.
 
-use draw::case::Call;
 use crate::judge::Answer;
+use draw::case::Call;
 use second::record::LENGTH;
 use second::{number, Machine, MOST_BYTES, MOST_STEPS};
 

@@ -20,7 +20,9 @@ pub struct Code {
 
 /// Every listed code, in the order of the forms.
 pub fn listed() -> Vec<Code> {
-    let all = forms::listed().into_iter().flat_map(|form| settled(form, 0));
+    let all = forms::listed()
+        .into_iter()
+        .flat_map(|form| settled(form, 0));
     let code = |form: Form| Code {
         name: form.name,
         form,

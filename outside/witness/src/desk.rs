@@ -1,12 +1,13 @@
 //! The proved library at work on trials, step by step.
 
-use crate::seen::{place_of_long, value, Seen};
+use crate::seen::{value, Seen};
 use crate::trial::{byte_at, Ground, Trial, FULL};
-use draw::aim::{get_long, XSP};
+use draw::aim::{self, get_long, XSP};
 use draw::case::Call;
 use library::{Empty, Library};
 use second::record::{BANK, COUNTER, SR};
 use std::collections::BTreeMap;
+use std::ops::Range;
 
 const LIBRARY: Library = Library {
     empty: Empty::Dangling,
@@ -55,14 +56,20 @@ impl Done<'_> {
         self.counter().wrapping_add(self.code.len() as u32)
     }
 
-    /// XSP before the instruction.
-    pub fn stack(&self) -> u32 {
-        value(self.before, place_of_long(self.before, XSP))
+    /// The bytes of a long register in a record, by its code.
+    pub fn place_of_long(&self, code: u8) -> Range<usize> {
+        let first = aim::place_of_long(self.before, code);
+        first..first + 4
+    }
+
+    /// A long register before the instruction, by its code.
+    pub fn long(&self, code: u8) -> u32 {
+        value(self.before, self.place_of_long(code))
     }
 
     /// Bytes that stand on the stack, from its top on, low byte first.
     pub fn on_stack(&self, from: u32, bytes: u32) -> u32 {
-        let at = |i| u32::from(self.byte(self.stack().wrapping_add(from + i)));
+        let at = |i| u32::from(self.byte(self.long(XSP).wrapping_add(from + i)));
         (0..bytes).rev().fold(0, |high, i| high << 8 | at(i))
     }
 
@@ -152,7 +159,7 @@ impl Desk {
 
     /// Offers a request; `None` if it is refused.
     fn ask(&mut self, record: &mut [u8], level: u32, vector: u32) -> Option<Asked> {
-        let mask = u32::from(draw::aim::mask(record));
+        let mask = u32::from(aim::mask(record));
         let bytes = [0, 1, 2, 3].map(|i| byte_at(&self.ram, &self.rom, vector + i));
         match LIBRARY.request(record, &mut self.ram, &self.rom, level, vector) {
             (taken, 0, 0) => Some(Asked {

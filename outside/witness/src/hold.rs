@@ -138,9 +138,17 @@ impl<'a> Prepared<'a> {
         did
     }
 
+    /// How many cases the library did.
+    pub fn cases(&self) -> usize {
+        self.trials.len()
+    }
+
     /// Hands the batch to the witness.
     pub fn ask(&self, mame: &mut Mame) -> io::Result<()> {
-        let trials = self.trials.iter().map(|(trial, steps)| (trial, steps.len()));
+        let trials = self
+            .trials
+            .iter()
+            .map(|(trial, steps)| (trial, steps.len()));
         mame.ask(&self.ground, trials)
     }
 
@@ -191,9 +199,7 @@ fn expect(done: &Done, ours: Seen, slips: &[Slip]) -> Expected {
     let mut seen = ours.clone();
     let mut rows = Vec::new();
     for (number, row) in ROWS.iter().enumerate() {
-        let before = seen.clone();
-        (row.gives)(done, &mut seen);
-        if seen != before {
+        if (row.says)(done, &ours).turn_over(done, &mut seen) {
             rows.push(number);
         }
     }

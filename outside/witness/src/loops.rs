@@ -9,17 +9,16 @@ use crate::trial::{FULL, MOST};
 use draw::aim;
 use second::record::{BANK, COUNTER, LENGTH};
 
-/// A name, what it does, and the code: a line an instruction.
+/// A name, and the code: a line an instruction.
 pub struct Loop {
     pub name: &'static str,
-    pub what: &'static str,
     code: &'static str,
 }
 
 pub const LOOPS: [Loop; 5] = [
+    // register work of all sizes, a load and a store
     Loop {
         name: "registers",
-        what: "register work of all sizes, a load and a store",
         code: "
             C9 C8 07        | ADD A,7
             C9 90           | ADC W,A
@@ -42,9 +41,9 @@ pub const LOOPS: [Loop; 5] = [
             1B 00 00 FF     | JP, to the start
         ",
     },
+    // loads, stores and operations with memory: each size and direction, four address forms
     Loop {
         name: "memory",
-        what: "loads, stores and operations with memory: each size and direction, four address forms",
         code: "
             44 00 48 00 00  | LD XIX,4800H
             21 5A           | LD A,5AH
@@ -102,9 +101,9 @@ pub const LOOPS: [Loop; 5] = [
             1B 00 00 FF     | JP, to the start
         ",
     },
+    // calls, pushes and pops
     Loop {
         name: "stack",
-        what: "calls, pushes and pops",
         code: "
             1E 0F 00        | CALR, to the last three
             38              | PUSH XWA
@@ -121,9 +120,9 @@ pub const LOOPS: [Loop; 5] = [
             0E              | RET
         ",
     },
+    // LDIR over blocks of 6,144 bytes
     Loop {
         name: "ldir",
-        what: "LDIR over blocks of 6,144 bytes",
         code: "
             42 00 58 00 00  | LD XDE,5800H
             43 00 40 00 00  | LD XHL,4000H
@@ -133,9 +132,9 @@ pub const LOOPS: [Loop; 5] = [
             1B 00 00 FF     | JP, to the start
         ",
     },
+    // CPIR over blocks of 12,288 bytes
     Loop {
         name: "cpir",
-        what: "CPIR over blocks of 12,288 bytes",
         code: "
             21 FE           | LD A,FEH, which RAM has nowhere
             44 00 40 00 00  | LD XIX,4000H

@@ -140,7 +140,10 @@ fn run(folder: &Path, words: &[&str]) -> io::Result<bool> {
     }
     let house = house(seed, wrong);
     let plan = plan::plan(&house.codes, rounds, whole);
-    println!("witness: seed {seed}, rounds {rounds}, {} batches", plan.len());
+    println!(
+        "witness: seed {seed}, rounds {rounds}, {} batches",
+        plan.len()
+    );
     let start = Instant::now();
     let tally = side_by_side(folder, &house, &plan)?;
     tell_differences(&tally);
@@ -169,7 +172,10 @@ fn tell_slips(house: &House, tally: &Tally) -> bool {
     for (slip, seen) in house.slips.iter().zip(&tally.slips) {
         match seen.times {
             0 => println!("NOT CAUGHT: {}", slip.what),
-            times => println!("caught {times} times: {}; first in {}", slip.what, seen.first),
+            times => println!(
+                "caught {times} times: {}; first in {}",
+                slip.what, seen.first
+            ),
         }
     }
     tally.slips.iter().all(|seen| seen.times > 0)
@@ -196,37 +202,33 @@ fn tell_all(house: &House, tally: &Tally, took: Duration) -> bool {
     tally.unexplained == 0 && covered == listed && met == ROWS.len()
 }
 
-/// Does the batches, with as many emulators at a time as there are processors.
+/// Does the batches, with as many emulators at a time as there are processors. What
+/// comes of it does not hang on which of them is first.
 fn side_by_side(folder: &Path, house: &House, plan: &[Batch]) -> io::Result<Tally> {
     let next = AtomicUsize::new(0);
-    let all = Mutex::new((Tally::new(house.slips.len()), Instant::now()));
+    let tallies = Mutex::new(Vec::new());
+    let teller = Teller::new(plan.len());
     let work = || -> io::Result<()> {
         let mut mame = Mame::start(folder)?;
-        let mut asked: Option<Prepared> = None;
+        let mut asked: Option<(usize, Prepared)> = None;
         loop {
             let number = next.fetch_add(1, Ordering::Relaxed);
             // the library does a batch while the witness does the one before
-            let prepared = match plan.get(number) {
-                Some(batch) => {
-                    let prepared = Prepared::new(house, batch);
-                    Some(prepared.ok_or_else(|| trouble("this is no case"))?)
-                }
-                None => None,
-            };
-            if let Some(asked) = asked.take() {
+            let prepared = plan.get(number).map(|batch| Prepared::new(house, batch));
+            if let Some((number, asked)) = asked.take() {
                 let tally = asked.compare(&mut mame)?;
-                let mut all = all.lock().expect("no other failed");
-                all.0.join(tally);
-                if all.1.elapsed() > TELLING {
-                    all.1 = Instant::now();
-                    eprintln!("witness: {number} of {} batches, {} cases", plan.len(), all.0.cases);
-                }
+                teller.tell(number, tally.cases);
+                tallies
+                    .lock()
+                    .expect("no other failed")
+                    .push((number, tally));
             }
             let Some(prepared) = prepared else {
                 return mame.end();
             };
+            let prepared = prepared.ok_or_else(|| trouble("this is no case"))?;
             prepared.ask(&mut mame)?;
-            asked = Some(prepared);
+            asked = Some((number, prepared));
         }
     };
     let processors = thread::available_parallelism().map_or(1, usize::from);
@@ -238,16 +240,51 @@ fn side_by_side(folder: &Path, house: &House, plan: &[Batch]) -> io::Result<Tall
         };
         workers.into_iter().try_for_each(ended)
     })?;
-    Ok(all.into_inner().expect("no other failed").0)
+    let mut tallies = tallies.into_inner().expect("no other failed");
+    tallies.sort_by_key(|(number, _)| *number);
+    let mut all = Tally::new(house.slips.len());
+    tallies.into_iter().for_each(|(_, tally)| all.join(tally));
+    Ok(all)
+}
+
+/// Tells now and then how far a run is.
+struct Teller {
+    batches: usize,
+    so_far: Mutex<(u64, Instant)>,
+}
+
+impl Teller {
+    fn new(batches: usize) -> Teller {
+        Teller {
+            batches,
+            so_far: Mutex::new((0, Instant::now())),
+        }
+    }
+
+    fn tell(&self, batch: usize, cases: u64) {
+        let mut so_far = self.so_far.lock().expect("no other failed");
+        so_far.0 += cases;
+        if so_far.1.elapsed() > TELLING {
+            so_far.1 = Instant::now();
+            eprintln!(
+                "witness: {batch} of {} batches, {} cases",
+                self.batches, so_far.0
+            );
+        }
+    }
 }
 
 /// Sees, without a witness, that every listed code has a case which the library does.
 fn brief() -> io::Result<bool> {
     let house = house(SEED, true);
-    let works = (0..house.codes.len()).map(|index| Batch {
-        name: format!("brief, {index}"),
-        work: Work::Steps(index..index + 1, 1),
-    });
-    let _ = works;
-    Ok(true)
+    let batch = Batch {
+        name: "brief".to_string(),
+        work: Work::Steps(0..house.codes.len(), 1),
+    };
+    let done = Prepared::new(&house, &batch).map_or(0, |prepared| prepared.cases());
+    println!(
+        "witness: {done} of {} listed codes have a case",
+        house.codes.len()
+    );
+    Ok(done == house.codes.len())
 }

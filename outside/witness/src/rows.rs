@@ -1,8 +1,9 @@
 //! Where the witness parts from the book: one table.
 //!
-//! A row says exactly what the witness gives, so that with it every bit is still
-//! compared. It is told what the library leaves, which is what the book says, and
-//! puts what the witness leaves in its place. Line numbers are 000's.
+//! A row says in which bits the witness has something else than the book says, and
+//! no more: these are turned over in what the library leaves. So a row explains no
+//! wrong answer of the library away, and with it every bit is still compared. Line
+//! numbers are 000's.
 
 use crate::desk::Done;
 use crate::seen::{value, Seen, H, V};
@@ -11,8 +12,57 @@ use forms::feed;
 use second::record::F;
 use std::ops::Range;
 
-/// Puts what the witness leaves after a step in the place of what the library does.
-pub type Gives = fn(&Done, &mut Seen);
+/// The bits in which the witness parts from the book after a step.
+#[derive(Default)]
+pub struct Apart {
+    pub sr: u32,
+    pub counter: u32,
+    /// A register, by its bytes in a record.
+    pub register: Option<(Range<usize>, u32)>,
+    /// A byte of memory, by its address.
+    pub memory: Option<(u32, u8)>,
+}
+
+impl Apart {
+    fn sr(bits: u32) -> Apart {
+        Apart {
+            sr: bits,
+            ..Apart::default()
+        }
+    }
+
+    fn register(place: Range<usize>, one: u32, other: u32) -> Apart {
+        Apart {
+            register: Some((place, one ^ other)),
+            ..Apart::default()
+        }
+    }
+
+    /// Turns these bits over; whether there are any.
+    pub fn turn_over(self, done: &Done, seen: &mut Seen) -> bool {
+        seen.sr ^= self.sr;
+        seen.counter ^= self.counter;
+        let mut any = self.sr | self.counter != 0;
+        if let Some((place, bits)) = self.register {
+            let turned = seen.registers[place].iter_mut().zip(bits.to_le_bytes());
+            turned.for_each(|(byte, bits)| *byte ^= bits);
+            any |= bits != 0;
+        }
+        if let Some((address, bits)) = self.memory {
+            let before = done.byte(address);
+            let left = *seen.memory.get(&address).unwrap_or(&before) ^ bits;
+            seen.memory.insert(address, left);
+            seen.memory
+                .retain(|&at, &mut byte| at != address || byte != before);
+            any |= bits != 0;
+        }
+        any
+    }
+}
+
+/// What a row says of a step. It is told what the library leaves too, to know
+/// whether a jump was made and what a result is.
+pub type Says = fn(&Done, &Seen) -> Apart;
 
 pub struct Row {
     pub code: &'static str,
@@ -20,8 +70,102 @@ pub struct Row {
     pub book: &'static str,
     /// What the witness does instead.
     pub witness: &'static str,
-    pub gives: Gives,
+    pub says: Says,
 }
+
+pub const ROWS: &[Row] = &[
+    Row {
+        code: "INCF, DECF",
+        book: "the bank goes round in four (01, the listed codes); bit 10 of SR stays 0 (003)",
+        witness: "bits 8 to 10 of SR go round in eight; the registers used, in four",
+        says: bank_of_eight,
+    },
+    Row {
+        code: "LDF 4 to 7",
+        book: "sets the low two bits alone (02, K2; 003)",
+        witness: "SR has all three bits; the registers used are those of the low two",
+        says: bank_loaded_whole,
+    },
+    Row {
+        code: "POP F",
+        book: "bits 5 and 3 are 0 (01, the listed codes)",
+        witness: "bits 5 and 3 as they were popped",
+        says: flags_as_popped,
+    },
+    Row {
+        code: "POP SR, RETI",
+        book: "bits 15 and 11 stay 1, bits 10, 5 and 3 stay 0 (02, K8)",
+        witness: "these bits as they were popped",
+        says: status_as_popped,
+    },
+    Row {
+        code: "CCF, ZCF",
+        book: "H is undefined (000, 3303 and 3341); 0 is the house's (01, flags)",
+        witness: "H is kept",
+        says: half_carry_kept,
+    },
+    Row {
+        code: "SLA SRA SLL SRL of longs",
+        book: "V is undefined (000, the four pages); 0 is the house's (01, flags)",
+        witness: "V is the parity of all 32 bits",
+        says: parity_of_long,
+    },
+    Row {
+        code: "CPI CPIR CPD CPDR",
+        book: "H is the borrow (000, the four pages; 01, flags)",
+        witness: "H is 0",
+        says: no_borrow,
+    },
+    Row {
+        code: "RET, RETI, a request",
+        book: "the counter is the low 24 bits (01, the listed codes; 02, K8)",
+        witness: "the counter has all 32 bits",
+        says: counter_whole,
+    },
+    Row {
+        code: "all, past FFFFFFH or below 0",
+        book: "the counter is taken modulo 2^24 (01, the machine's state)",
+        witness: "the counter steps round at 32 bits, and a call pushes these",
+        says: counter_of_32_bits,
+    },
+    Row {
+        code: "DIV, DIVS by 0",
+        book: "no value is given (000, the two pages), so the destination is kept (02, K7)",
+        witness: "the low half is the old high half with every bit turned over, the high half the old low half, or all ones for DIVS of a negative dividend",
+        says: divided_by_zero,
+    },
+    Row {
+        code: "DIV, the quotient does not fit",
+        book: "no value is given (000, the page), so the destination is kept (02, K7)",
+        witness: "the low bits of the quotient, and the remainder; but of a word x by a byte y with a quotient from 512 on, \
+                  where d is x - 512y and s is 256 - y, the low bits of 511 - d div s, and d mod s + y",
+        says: quotient_cut,
+    },
+    Row {
+        code: "DIVS, the quotient does not fit",
+        book: "V is 1; no value is given (000, the page), so the destination is kept (02, K7)",
+        witness: "the low bits of quotient and remainder; V is 1 only where the quotient is above 255, for words 65,535: never where it is negative",
+        says: signed_quotient_cut,
+    },
+    Row {
+        code: "MINC",
+        book: "turns where the value modulo the number is the number less the step (000, the page)",
+        witness: "turns where the value has every bit of the number less the step; another thing only where the step does not divide the value",
+        says: minc_by_bits,
+    },
+    Row {
+        code: "MDEC",
+        book: "turns where the value modulo the number is 0 (000, the page and its examples)",
+        witness: "turns where the value has every bit of the number less the step",
+        says: mdec_by_bits,
+    },
+    Row {
+        code: "a request of level 7",
+        book: "the mask is 7 afterwards (02, K8)",
+        witness: "the mask is kept",
+        says: mask_kept,
+    },
+];
 
 /// The place in the table of the row for these codes.
 pub fn place_of(code: &str) -> usize {
@@ -29,204 +173,100 @@ pub fn place_of(code: &str) -> usize {
     found.unwrap_or_else(|| panic!("no row is for {code}"))
 }
 
-pub const ROWS: &[Row] = &[
-    Row {
-        code: "INCF, DECF",
-        book: "the bank goes round in four (01, the listed codes; 003: RFP2 stays 0)",
-        witness: "RFP goes round in eight, so that bit 10 of SR is set; the registers used go round in four",
-        gives: bank_of_eight,
-    },
-    Row {
-        code: "LDF 4 to 7",
-        book: "the low two bits alone are set (02, K2; 003: RFP2 stays 0)",
-        witness: "SR has all three bits; the registers used are those of the low two",
-        gives: bank_loaded_whole,
-    },
-    Row {
-        code: "POP F",
-        book: "bits 5 and 3 are 0 (01, the listed codes)",
-        witness: "F is the byte as it was popped",
-        gives: flags_as_popped,
-    },
-    Row {
-        code: "POP SR, RETI",
-        book: "bits 15 and 11 stay 1, bits 10, 5 and 3 stay 0 (02, K8)",
-        witness: "SR is the word as it was popped",
-        gives: status_as_popped,
-    },
-    Row {
-        code: "CCF, ZCF",
-        book: "H is undefined (3303, 3341); 0 is the house's",
-        witness: "H is kept",
-        gives: half_carry_kept,
-    },
-    Row {
-        code: "SLA SRA SLL SRL of longs",
-        book: "V is undefined (the shifts' pages); 0 is the house's",
-        witness: "V is the parity of all 32 bits",
-        gives: parity_of_long,
-    },
-    Row {
-        code: "CPI CPIR CPD CPDR",
-        book: "H is the borrow (the pages of the four; 01, flags)",
-        witness: "H is 0",
-        gives: no_borrow,
-    },
-    Row {
-        code: "RET, RETI, a request",
-        book: "the counter is the low 24 bits (01, the listed codes; 02, K8)",
-        witness: "the counter keeps all 32",
-        gives: counter_as_popped,
-    },
-    Row {
-        code: "all, past FFFFFFH or below 0",
-        book: "the counter is taken modulo 2^24 (01, the machine's state), also where a call pushes it",
-        witness: "the counter steps round at 32 bits",
-        gives: counter_of_32_bits,
-    },
-    Row {
-        code: "DIV, DIVS by 0",
-        book: "V is 1, no value is given, and the destination is kept (02, K7)",
-        witness: "the low half is the old high half with every bit turned over, the high half the old low half, or all ones for DIVS of a negative dividend",
-        gives: divided_by_zero,
-    },
-    Row {
-        code: "DIV, the quotient does not fit",
-        book: "V is 1, no value is given, and the destination is kept (02, K7)",
-        witness: "the low bits of the quotient, and the remainder; but of a word x by a byte y with a quotient from 512 on, where d is x - 512y and s is 256 - y, \
-                  those of 511 - d div s, and d mod s + y",
-        gives: quotient_cut,
-    },
-    Row {
-        code: "DIVS, the quotient does not fit",
-        book: "V is 1, no value is given, and the destination is kept (02, K7)",
-        witness: "the low bits of quotient and remainder; V is 1 only where the quotient is above 255, for words 65,535: never where it is negative",
-        gives: signed_quotient_cut,
-    },
-    Row {
-        code: "MINC",
-        book: "turns back where the value modulo the number is the number less the step",
-        witness: "turns back where the value has every bit of the number less the step",
-        gives: minc_by_bits,
-    },
-    Row {
-        code: "MDEC",
-        book: "turns back where the value modulo the number is 0",
-        witness: "turns back where the value has every bit of the number less the step",
-        gives: mdec_by_bits,
-    },
-    Row {
-        code: "a request of level 7",
-        book: "the mask is 7 afterwards (02, K8)",
-        witness: "the mask is kept",
-        gives: mask_kept,
-    },
-];
+const BIT_10: u32 = 1 << 10;
+/// Bits 15 and 11 of SR, which are always 1; and 10, 5 and 3, which are always 0.
+const ONES: u32 = 0x8800;
+const FIXED: u32 = ONES | 0x0428;
+/// The bits of the counter that no address has.
+const BEYOND: u32 = 0xFF00_0000;
 
-fn set_bank_bits(seen: &mut Seen, bits: u32) {
-    seen.sr = seen.sr & !0x700 | (bits & 7) << 8;
+fn bank_of_eight(done: &Done, _: &Seen) -> Apart {
+    let goes_round = matches!((done.code, done.bank()), ([0x0C], 3) | ([0x0D], 0));
+    Apart::sr(if goes_round { BIT_10 } else { 0 })
 }
 
-fn bank_of_eight(done: &Done, seen: &mut Seen) {
-    let bank = u32::from(done.bank());
-    match done.code[0] {
-        0x0C => set_bank_bits(seen, bank + 1),
-        0x0D => set_bank_bits(seen, bank.wrapping_sub(1)),
-        _ => {}
+fn bank_loaded_whole(done: &Done, _: &Seen) -> Apart {
+    let large = matches!(done.code, [0x17, 4..=7]);
+    Apart::sr(if large { BIT_10 } else { 0 })
+}
+
+fn flags_as_popped(done: &Done, _: &Seen) -> Apart {
+    Apart::sr(match done.code {
+        [0x19] => done.on_stack(0, 1) & FIXED,
+        _ => 0,
+    })
+}
+
+fn status_as_popped(done: &Done, _: &Seen) -> Apart {
+    Apart::sr(match done.code {
+        [0x03] | [0x07] => (done.on_stack(0, 2) ^ ONES) & FIXED,
+        _ => 0,
+    })
+}
+
+fn half_carry_kept(done: &Done, _: &Seen) -> Apart {
+    Apart::sr(match done.code {
+        [0x12] | [0x13] => u32::from(done.before[F]) & H,
+        _ => 0,
+    })
+}
+
+fn parity_of_long(done: &Done, seen: &Seen) -> Apart {
+    let Some((size, place, [0xEC..=0xEF, _])) = register_form(done) else {
+        return Apart::default();
+    };
+    let even = value(&seen.registers, place).count_ones() % 2 == 0;
+    Apart::sr(if size.bytes == 4 && even { V } else { 0 })
+}
+
+/// The borrow of A or WA less the element, into its lowest four bits.
+fn no_borrow(done: &Done, _: &Seen) -> Apart {
+    let &[first @ (0x82..=0x87 | 0x92..=0x97), 0x14..=0x17] = done.code else {
+        return Apart::default();
+    };
+    let element = done.byte(done.long(first & 7));
+    let borrow = done.long(0) & 15 < u32::from(element & 15);
+    Apart::sr(if borrow { H } else { 0 })
+}
+
+/// What the witness takes its counter from, if that is not the one before.
+fn counter_whole(done: &Done, _: &Seen) -> Apart {
+    let from = match done.code {
+        [0x0E] => done.on_stack(0, 4),
+        [0x07] => done.on_stack(2, 4),
+        [0x1A..=0x1D, ..] => 0,
+        _ => done.counter(),
+    };
+    Apart {
+        counter: from & BEYOND,
+        ..Apart::default()
     }
 }
 
-fn bank_loaded_whole(done: &Done, seen: &mut Seen) {
-    if let [0x17, number] = done.code {
-        set_bank_bits(seen, u32::from(*number));
-    }
-}
-
-fn flags_as_popped(done: &Done, seen: &mut Seen) {
-    if done.code == [0x19] {
-        seen.sr = seen.sr & !0xFF | done.on_stack(0, 1);
-    }
-}
-
-fn status_as_popped(done: &Done, seen: &mut Seen) {
-    if matches!(done.code, [0x03] | [0x07]) {
-        seen.sr = done.on_stack(0, 2);
-    }
-}
-
-fn half_carry_kept(done: &Done, seen: &mut Seen) {
-    if matches!(done.code, [0x12] | [0x13]) {
-        seen.set_flag(H, u32::from(done.before[F]) & H != 0);
-    }
-}
-
-fn parity_of_long(done: &Done, seen: &mut Seen) {
-    if let Some((size, place, [0xEC..=0xEF, _])) = register_form(done) {
-        if size.bytes == 4 {
-            let ones = value(&seen.registers, place).count_ones();
-            seen.set_flag(V, ones % 2 == 0);
-        }
-    }
-}
-
-fn no_borrow(done: &Done, seen: &mut Seen) {
-    if matches!(done.code, [0x82..=0x87 | 0x92..=0x97, 0x14..=0x17]) {
-        seen.set_flag(H, false);
-    }
-}
-
-fn counter_as_popped(done: &Done, seen: &mut Seen) {
-    match done.code {
-        [0x0E] => seen.counter = done.on_stack(0, 4),
-        [0x07] => seen.counter = done.on_stack(2, 4),
-        [0x1A..=0x1D, ..] => {}
-        _ => seen.counter |= done.counter() & 0xFF00_0000,
-    }
-}
-
-fn counter_of_32_bits(done: &Done, seen: &mut Seen) {
+fn counter_of_32_bits(done: &Done, seen: &Seen) -> Apart {
     let next = done.next();
-    let jumped = match done.code {
+    let goes = (seen.counter ^ next) & !BEYOND != 0;
+    let stays = (seen.counter ^ done.counter()) & !BEYOND == 0;
+    let to = match *done.code {
         // to an address, or to one on the stack
-        [0x1A..=0x1D, ..] | [0x0E] | [0x07] => seen.counter,
-        [0x1E, low, high] => next.wrapping_add(sign(2, [*low, *high])),
-        [0x60..=0x6F, low] if goes(done, seen) => next.wrapping_add(sign(1, [*low, 0])),
-        [0x70..=0x7F, low, high] if goes(done, seen) => next.wrapping_add(sign(2, [*low, *high])),
-        [0x82..=0x97, 0x11 | 0x13 | 0x15 | 0x17] if stays(done, seen) => done.counter(),
+        [0x1A..=0x1D, ..] | [0x0E] | [0x07] => done.counter(),
+        [0x1E, low, high] => next.wrapping_add(signed([low, high])),
+        [0x60..=0x6F, by] if goes => next.wrapping_add(i32::from(by as i8) as u32),
+        [0x70..=0x7F, low, high] if goes => next.wrapping_add(signed([low, high])),
+        [0x82..=0x97, 0x11 | 0x13 | 0x15 | 0x17] if stays => done.counter(),
         _ => next,
     };
-    seen.counter = jumped;
-    if matches!(done.code[0], 0x1C..=0x1E) && next > 0xFF_FFFF {
-        let top = done.stack().wrapping_sub(1) & 0xFF_FFFF;
-        put(done, seen, top, (next >> 24) as u8);
+    let pushes = matches!(done.code[0], 0x1C..=0x1E);
+    let top = done.long(7).wrapping_sub(1) & !BEYOND;
+    Apart {
+        counter: (to ^ done.counter()) & BEYOND,
+        memory: pushes.then_some((top, (next >> 24) as u8)),
+        ..Apart::default()
     }
 }
 
-/// Whether a repeating form goes on.
-fn stays(done: &Done, seen: &Seen) -> bool {
-    (seen.counter ^ done.counter()) & 0xFF_FFFF == 0
-}
-
-/// Whether a jump with a condition was made. One to the next instruction is the
-/// same either way.
-fn goes(done: &Done, seen: &Seen) -> bool {
-    (seen.counter ^ done.next()) & 0xFF_FFFF != 0
-}
-
-fn sign(bytes: usize, low_first: [u8; 2]) -> u32 {
-    match bytes {
-        1 => i32::from(low_first[0] as i8) as u32,
-        _ => i32::from(i16::from_le_bytes(low_first)) as u32,
-    }
-}
-
-/// A byte of memory that the witness leaves.
-fn put(done: &Done, seen: &mut Seen, address: u32, byte: u8) {
-    if done.byte(address) == byte {
-        seen.memory.remove(&address);
-    } else {
-        seen.memory.insert(address, byte);
-    }
+fn signed(low_first: [u8; 2]) -> u32 {
+    i32::from(i16::from_le_bytes(low_first)) as u32
 }
 
 /// A register form: its size, the bytes of r in a record, and the code behind r.
@@ -252,7 +292,7 @@ pub struct Division {
     size: Size,
     place: Range<usize>,
     dividend: u32,
-    pub divisor: u32,
+    divisor: u32,
 }
 
 pub fn division(done: &Done) -> Option<Division> {
@@ -274,24 +314,23 @@ pub fn division(done: &Done) -> Option<Division> {
 }
 
 impl Division {
-    fn bits(&self) -> u32 {
+    pub fn bits(&self) -> u32 {
         8 * self.size.bytes as u32
     }
 
-    /// The low half of the dividend, and its high half.
-    pub fn halves(&self) -> (u32, u32) {
-        let high = self.dividend >> self.bits();
-        (self.dividend ^ high << self.bits(), high)
+    /// The dividend and the divisor as numbers, with a sign or without.
+    pub fn numbers(&self) -> (i64, i64) {
+        let number = |bytes, value| feed::number(bytes, value, self.scale.signed);
+        let bytes = self.size.bytes;
+        (
+            number(2 * bytes, self.dividend),
+            number(bytes, self.divisor),
+        )
     }
 
-    pub fn divisor_with_sign(&self) -> i64 {
-        feed::number(self.size.bytes, self.divisor, self.scale.signed)
-    }
-
-    /// The quotient and the remainder, of numbers with a sign or without; none by 0.
+    /// The quotient and the remainder; none by 0.
     pub fn exact(&self) -> Option<(i64, i64)> {
-        let dividend = feed::number(2 * self.size.bytes, self.dividend, self.scale.signed);
-        let divisor = self.divisor_with_sign();
+        let (dividend, divisor) = self.numbers();
         (divisor != 0).then(|| (dividend / divisor, dividend % divisor))
     }
 
@@ -302,24 +341,22 @@ impl Division {
         (least..least + all).contains(&quotient)
     }
 
-    /// Puts the low bits of both into the destination.
-    pub fn leave(&self, seen: &mut Seen, quotient: i64, remainder: i64) {
-        let bytes = self.size.bytes;
-        let (low, high) = (quotient.to_le_bytes(), remainder.to_le_bytes());
-        let place = &mut seen.registers[self.place.clone()];
-        place[..bytes].copy_from_slice(&low[..bytes]);
-        place[bytes..].copy_from_slice(&high[..bytes]);
+    /// The low bits of both, and not the old destination.
+    pub fn leaves(&self, quotient: i64, remainder: i64) -> Apart {
+        let low = |number: i64| number as u32 & ((1 << self.bits()) - 1);
+        let left = low(quotient) | low(remainder) << self.bits();
+        Apart::register(self.place.clone(), self.dividend, left)
     }
 }
 
-fn divided_by_zero(done: &Done, seen: &mut Seen) {
-    let Some(division) = division(done).filter(|division| division.divisor == 0) else {
-        return;
+fn divided_by_zero(done: &Done, _: &Seen) -> Apart {
+    let by_zero = |division: &Division| division.divisor == 0;
+    let Some(division) = division(done).filter(by_zero) else {
+        return Apart::default();
     };
-    let (low, high) = division.halves();
-    let negative = division.scale.signed && high >> (division.bits() - 1) == 1;
-    let remainder = if negative { -1 } else { i64::from(low) };
-    division.leave(seen, !i64::from(high), remainder);
+    let high = division.dividend >> division.bits();
+    let (dividend, _) = division.numbers();
+    division.leaves(!i64::from(high), if dividend < 0 { -1 } else { dividend })
 }
 
 /// A division whose quotient does not fit, with that and the remainder.
@@ -329,65 +366,75 @@ fn overflow(done: &Done, signed: bool) -> Option<(Division, i64, i64)> {
     (!division.fits(quotient)).then_some((division, quotient, remainder))
 }
 
-fn quotient_cut(done: &Done, seen: &mut Seen) {
+fn quotient_cut(done: &Done, _: &Seen) -> Apart {
     let Some((division, quotient, remainder)) = overflow(done, false) else {
-        return;
+        return Apart::default();
     };
     if division.size.bytes == 1 && quotient >= 512 {
-        let (x, y) = (i64::from(division.dividend), i64::from(division.divisor));
-        let (over, rest) = (x - 512 * y, 256 - y);
-        division.leave(seen, 511 - over / rest, over % rest + y);
+        let (x, y) = division.numbers();
+        let (d, s) = (x - 512 * y, 256 - y);
+        division.leaves(511 - d / s, d % s + y)
     } else {
-        division.leave(seen, quotient, remainder);
+        division.leaves(quotient, remainder)
     }
 }
 
-fn signed_quotient_cut(done: &Done, seen: &mut Seen) {
-    if let Some((division, quotient, remainder)) = overflow(done, true) {
-        division.leave(seen, quotient, remainder);
-        seen.set_flag(V, quotient >> division.bits() > 0);
+fn signed_quotient_cut(done: &Done, _: &Seen) -> Apart {
+    let Some((division, quotient, remainder)) = overflow(done, true) else {
+        return Apart::default();
+    };
+    let v = quotient >> division.bits() > 0;
+    Apart {
+        sr: if v { 0 } else { V },
+        ..division.leaves(quotient, remainder)
     }
 }
 
-/// MINC and MDEC: the step, the bytes of r, and the number less the step.
-pub fn modulo_step(done: &Done) -> Option<(feed::Step, Range<usize>, u32)> {
+/// MINC or MDEC: the step, the bytes of r, and the number less the step.
+pub fn modulo_step(done: &Done) -> Option<(feed::Step, Range<usize>, u16)> {
     let (_, place, rest) = register_form(done)?;
     let &[second, low, high] = rest else {
         return None;
     };
     let step = feed::step(second)?;
-    Some((step, place, u32::from(u16::from_le_bytes([low, high]))))
+    Some((step, place, u16::from_le_bytes([low, high])))
 }
 
-fn by_bits(done: &Done, seen: &mut Seen, down: bool) {
-    let Some((step, place, last)) = modulo_step(done).filter(|(step, _, _)| (step.by < 0) == down)
-    else {
-        return;
+/// A value that turns where it has all of these bits, and by the book where it is
+/// at the table's end.
+pub fn turned(done: &Done, step: feed::Step, place: Range<usize>, last: u16, bits: u16) -> Apart {
+    let before = value(done.before, place.clone()) as u16;
+    let by = step.by.unsigned_abs() as u16;
+    let turns = before & bits == bits;
+    let left = match (step.by > 0, turns) {
+        (true, true) => before.wrapping_sub(last),
+        (true, false) => before.wrapping_add(by),
+        (false, true) => before.wrapping_add(last),
+        (false, false) => before.wrapping_sub(by),
     };
-    let before = value(done.before, place.clone());
-    let by = step.by.unsigned_abs();
-    let turns = before & last == last;
-    let after = match (turns, down) {
-        (true, false) => before.wrapping_sub(last),
-        (false, false) => before.wrapping_add(by),
-        (true, true) => before.wrapping_add(last),
-        (false, true) => before.wrapping_sub(by),
-    };
-    seen.registers[place].copy_from_slice(&(after as u16).to_le_bytes());
+    let book = step.after(before, last + by);
+    Apart::register(place, u32::from(book), u32::from(left))
 }
 
-fn minc_by_bits(done: &Done, seen: &mut Seen) {
-    by_bits(done, seen, false);
-}
-
-fn mdec_by_bits(done: &Done, seen: &mut Seen) {
-    by_bits(done, seen, true);
-}
-
-fn mask_kept(done: &Done, seen: &mut Seen) {
-    // EI, POP SR and RETI set it anew
-    let sets = matches!(done.code, [0x06, _] | [0x03] | [0x07]);
-    if let Some(asked) = done.asked.filter(|asked| asked.level == 7 && !sets) {
-        seen.sr = seen.sr & !0x7000 | asked.mask << 12;
+/// By the witness these are the bits of the number less the step, up and down.
+fn turned_by_bits(done: &Done, up: bool) -> Apart {
+    match modulo_step(done).filter(|(step, ..)| (step.by > 0) == up) {
+        Some((step, place, last)) => turned(done, step, place, last, last),
+        None => Apart::default(),
     }
+}
+
+fn minc_by_bits(done: &Done, _: &Seen) -> Apart {
+    turned_by_bits(done, true)
+}
+
+fn mdec_by_bits(done: &Done, _: &Seen) -> Apart {
+    turned_by_bits(done, false)
+}
+
+/// EI, POP SR and RETI set it anew.
+fn mask_kept(done: &Done, _: &Seen) -> Apart {
+    let sets = matches!(done.code, [0x06, _] | [0x03] | [0x07]);
+    let highest = done.asked.filter(|asked| asked.level == 7 && !sets);
+    Apart::sr(highest.map_or(0, |asked| (7 ^ asked.mask) << 12))
 }

@@ -1,9 +1,12 @@
 //! What can be seen of a machine after a step.
 
-use second::record::{self, BANK_SIZE, COUNTER, F_PRIME, LONGS, SHARED, SR};
+use second::record::{BANK_SIZE, COUNTER, F_PRIME, LONGS, SHARED, SR};
 use std::collections::BTreeMap;
+use std::ops::Range;
 
 /// The flags by their bits.
+pub const S: u32 = 1 << 7;
+pub const Z: u32 = 1 << 6;
 pub const H: u32 = 1 << 4;
 pub const V: u32 = 1 << 2;
 
@@ -74,12 +77,7 @@ fn name_of_long(place: usize) -> String {
 }
 
 /// The value of a register, by its bytes in a record.
-pub fn value(registers: &[u8], place: std::ops::Range<usize>) -> u32 {
+pub fn value(registers: &[u8], place: Range<usize>) -> u32 {
     let bytes = registers[place].iter().rev();
     bytes.fold(0, |high, &byte| high << 8 | u32::from(byte))
-}
-
-/// The place of a long register of the current bank.
-pub fn place_of_long(record: &[u8], code: u8) -> std::ops::Range<usize> {
-    record::register(second::Width::Long, code, record[record::BANK] & 3)
 }

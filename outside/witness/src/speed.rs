@@ -18,7 +18,7 @@ const LIBRARY: Library = Library {
 };
 /// The most steps of a call.
 const CALL: u64 = 1_000_000;
-const STRETCHES: u32 = 30;
+const STRETCHES: u32 = 31;
 
 /// The library at work on a loop, and how many steps it has done.
 #[derive(Clone)]
@@ -54,7 +54,13 @@ impl Ours {
 
     fn is_at(&self, stretch: &Stretch) -> bool {
         let counter = draw::aim::get_long(&self.record, COUNTER);
-        counter == stretch.seen.counter && self.record[..COUNTER] == stretch.seen.registers
+        counter == stretch.seen.counter
+            && self.record[..COUNTER] == stretch.seen.registers
+            && self.board_ram() == stretch.ram
+    }
+
+    fn board_ram(&self) -> &[u8] {
+        &self.ram[BOARD_RAM..][..BOARD_LENGTH]
     }
 
     /// Runs on until it is where the witness is. It is known how long a turn is, so
@@ -64,12 +70,12 @@ impl Ours {
         self.run(whole.saturating_sub(self.done))?;
         for _ in 0..2 * turn {
             if self.is_at(stretch) {
-                let same = self.ram[BOARD_RAM..][..BOARD_LENGTH] == stretch.ram;
-                return same.then_some(()).ok_or(trouble("RAM differs".to_string()));
+                return Ok(());
             }
             self.run(1)?;
         }
-        Err(trouble("the library never comes to where the witness is".to_string()))
+        let what = "the library never comes to where the witness is";
+        Err(trouble(what.to_string()))
     }
 }
 
@@ -88,40 +94,41 @@ fn turn(one: &Loop) -> io::Result<u64> {
 }
 
 /// Prints a line for each loop: its name, steps a second of the library and of the
-/// witness in millions, and how many times as fast the library is.
+/// witness in millions, and how many times as fast the library is. Of the stretches
+/// of each the one in the middle counts.
 pub fn table(folder: &Path) -> io::Result<()> {
     for one in &LOOPS {
-        let turn = turn(one)?;
-        let mut mame = Mame::start(folder)?;
-        let mut ours = Ours::at_the_start(one);
-        mame.lay(&ours.record, &ours.ram[BOARD_RAM..][..BOARD_LENGTH], &ours.rom)?;
-        // the first is not timed
-        let mut seconds = [0.0, 0.0];
-        let mut steps = 0;
-        for number in 0..=STRETCHES {
-            let stretch = mame.stretch()?;
-            let mut there = ours.clone();
-            there.find(turn, &stretch)?;
-            let begun = Instant::now();
-            ours.run(there.done - ours.done)?;
-            if number == 0 {
-                steps = ours.done;
-            } else {
-                seconds[0] += begun.elapsed().as_secs_f64();
-                seconds[1] += stretch.seconds;
-            }
-        }
-        mame.end()?;
-        let millions = (ours.done - steps) as f64 / 1e6;
-        println!(
-            "{} {:.1} {:.1} {:.2}",
-            one.name,
-            millions / seconds[0],
-            millions / seconds[1],
-            seconds[1] / seconds[0]
-        );
+        let (ours, theirs) = paces(folder, one)?;
+        let ratio = ours / theirs;
+        println!("{} {ours:.1} {theirs:.1} {ratio:.1}", one.name);
     }
     Ok(())
+}
+
+fn paces(folder: &Path, one: &Loop) -> io::Result<(f64, f64)> {
+    let turn = turn(one)?;
+    let mut mame = Mame::start(folder)?;
+    let mut ours = Ours::at_the_start(one);
+    mame.lay(&ours.record, ours.board_ram(), &ours.rom)?;
+    let (mut our_paces, mut their_paces) = (Vec::new(), Vec::new());
+    for _ in 0..STRETCHES {
+        let stretch = mame.stretch()?;
+        let mut there = ours.clone();
+        there.find(turn, &stretch)?;
+        let steps = there.done - ours.done;
+        let begun = Instant::now();
+        ours.run(steps)?;
+        let millions = steps as f64 / 1e6;
+        our_paces.push(millions / begun.elapsed().as_secs_f64());
+        their_paces.push(millions / stretch.seconds);
+    }
+    mame.end()?;
+    Ok((middle(our_paces), middle(their_paces)))
+}
+
+fn middle(mut paces: Vec<f64>) -> f64 {
+    paces.sort_by(f64::total_cmp);
+    paces[paces.len() / 2]
 }
 
 /// Lets the witness do so many stretches of a loop, and prints how many steps they
@@ -129,7 +136,7 @@ pub fn table(folder: &Path) -> io::Result<()> {
 pub fn theirs(folder: &Path, one: &Loop, stretches: u32) -> io::Result<()> {
     let mut mame = Mame::start(folder)?;
     let mut ours = Ours::at_the_start(one);
-    mame.lay(&ours.record, &ours.ram[BOARD_RAM..][..BOARD_LENGTH], &ours.rom)?;
+    mame.lay(&ours.record, ours.board_ram(), &ours.rom)?;
     let mut last = mame.stretch()?;
     for _ in 1..stretches {
         last = mame.stretch()?;

@@ -3,8 +3,8 @@
 //! same answers of the witness.
 
 use crate::desk::Done;
-use crate::rows::{self, register_form, Gives, ROWS};
-use crate::seen::{place_of_long, value, Seen, H, V};
+use crate::rows::{self, register_form, Apart, Says, ROWS};
+use crate::seen::{value, Seen, H, S, V, Z};
 use draw::aim::{BC, XSP};
 use second::record::F;
 
@@ -15,41 +15,61 @@ pub struct Slip {
 
 enum Wrong {
     /// What the library leaves.
-    Answer(Gives),
+    Answer(Change),
     /// The table, which lacks a row.
     Without(usize),
     /// The table, with another row in this one's place.
-    Row(usize, Gives),
+    Row(usize, Says),
 }
 
-const S: u32 = 1 << 7;
-const Z: u32 = 1 << 6;
+/// Changes what the library leaves after a step.
+type Change = fn(&Done, &mut Seen);
 
 /// Slips of a library. The first is the one that left a pointer one entry short.
-const ANSWERS: [(&str, Gives); 12] = [
-    ("a compare leaves its pointer at the match", pointer_at_match),
-    ("LDI tells by V whether BC was 0 before the round", v_before_round),
+const ANSWERS: [(&str, Change); 16] = [
+    (
+        "a compare leaves its pointer at the match",
+        pointer_at_match,
+    ),
+    (
+        "LDI tells by V whether BC was 0 before the round",
+        v_before_round,
+    ),
     ("INC of a word sets Z", word_inc_sets_z),
     ("ADC leaves the carry out of H", half_carry_without_carry),
     ("SRA of a byte fills with 0", sra_fills_with_zero),
     ("JR LE does not look at Z", le_without_z),
     ("EXTS extends with zeros", exts_with_zeros),
     ("PUSH of a long moves XSP by two", push_by_two),
-    ("a signed remainder has the divisor's sign", remainder_of_divisor),
+    (
+        "a signed remainder has the divisor's sign",
+        remainder_of_divisor,
+    ),
     ("MINC goes on at the end of its table", minc_goes_on),
-    ("a code D0 to DF names a register of the bank above", dashed_bank_above),
+    (
+        "a code D0 to DF names a register of the bank above",
+        dashed_bank_above,
+    ),
     ("a request sets the mask to its level", mask_of_level),
+    ("DIV by 0 clears its register", zero_divisor_clears),
+    ("MDEC goes on at the end of its table", mdec_goes_on),
+    ("the counter is one short after RET", ret_one_short),
+    ("a call pushes its own address", call_pushes_itself),
 ];
 
 /// Rows with one thing changed, by the codes of the row.
-const OTHER_ROWS: [(&str, &str, Gives); 3] = [
+const OTHER_ROWS: [(&str, &str, Says); 3] = [
     ("POP F", "only bit 5 as it was popped", one_bit_as_popped),
     (
         "DIV, DIVS by 0",
         "the high half is the old low half for DIVS too",
         low_half_always,
     ),
-    ("MDEC", "nothing but the lowest bit is asked", lowest_bit_asked),
+    (
+        "MDEC",
+        "turns by the lowest bit alone",
+        turned_by_lowest_bit,
+    ),
 ];
 
 /// Every slip that is tried: those of a library, the table with each row left out,
@@ -73,19 +93,18 @@ pub fn slips() -> Vec<Slip> {
 impl Slip {
     /// What the witness would have to have, if that is another thing.
     pub fn expect(&self, done: &Done, ours: &Seen, right: &Seen) -> Option<Seen> {
-        let mut wrong = ours.clone();
+        let mut ours = ours.clone();
         if let Wrong::Answer(change) = self.wrong {
-            change(done, &mut wrong);
-            if wrong == *ours {
-                return None;
-            }
+            change(done, &mut ours);
         }
+        let mut wrong = ours.clone();
         for (number, row) in ROWS.iter().enumerate() {
-            match self.wrong {
-                Wrong::Without(out) if out == number => {}
-                Wrong::Row(place, gives) if place == number => gives(done, &mut wrong),
-                _ => (row.gives)(done, &mut wrong),
-            }
+            let says = match self.wrong {
+                Wrong::Without(out) if out == number => continue,
+                Wrong::Row(place, says) if place == number => says,
+                _ => row.says,
+            };
+            says(done, &ours).turn_over(done, &mut wrong);
         }
         (wrong != *right).then_some(wrong)
     }
@@ -97,14 +116,14 @@ fn is_compare(done: &Done) -> bool {
 
 fn pointer_at_match(done: &Done, seen: &mut Seen) {
     if is_compare(done) && seen.sr & Z != 0 {
-        let place = place_of_long(done.before, done.code[0] & 7);
+        let place = done.place_of_long(done.code[0] & 7);
         seen.registers[place.clone()].copy_from_slice(&done.before[place]);
     }
 }
 
 fn v_before_round(done: &Done, seen: &mut Seen) {
     if matches!(done.code, [0x83 | 0x85 | 0x93 | 0x95, 0x10..=0x13]) {
-        let count = value(done.before, place_of_long(done.before, BC)) & 0xFFFF;
+        let count = done.long(BC) & 0xFFFF;
         seen.set_flag(V, count != 0);
     }
 }
@@ -151,8 +170,8 @@ fn exts_with_zeros(done: &Done, seen: &mut Seen) {
 
 fn push_by_two(done: &Done, seen: &mut Seen) {
     if matches!(done.code, [0x38..=0x3E]) {
-        let place = place_of_long(done.before, XSP);
-        let moved = done.stack().wrapping_sub(2);
+        let place = done.place_of_long(XSP);
+        let moved = done.long(XSP).wrapping_sub(2);
         seen.registers[place].copy_from_slice(&moved.to_le_bytes());
     }
 }
@@ -164,16 +183,50 @@ fn remainder_of_divisor(done: &Done, seen: &mut Seen) {
     let Some((quotient, remainder)) = division.exact() else {
         return;
     };
-    let divisor = division.divisor_with_sign();
+    let (_, divisor) = division.numbers();
     if division.fits(quotient) && remainder * divisor < 0 {
-        division.leave(seen, quotient, remainder + divisor);
+        let right = division.leaves(quotient, remainder);
+        right.turn_over(done, seen);
+        let wrong = division.leaves(quotient, remainder + divisor);
+        wrong.turn_over(done, seen);
+    }
+}
+
+fn zero_divisor_clears(done: &Done, seen: &mut Seen) {
+    if let Some(division) = rows::division(done).filter(|one| one.exact().is_none()) {
+        division.leaves(0, 0).turn_over(done, seen);
+    }
+}
+
+fn goes_on(done: &Done, seen: &mut Seen, up: bool) {
+    let step = rows::modulo_step(done).filter(|(step, ..)| (step.by > 0) == up);
+    if let Some((step, place, _)) = step {
+        let on = value(done.before, place.clone()) as i32 + step.by;
+        seen.registers[place].copy_from_slice(&(on as u16).to_le_bytes());
     }
 }
 
 fn minc_goes_on(done: &Done, seen: &mut Seen) {
-    if let Some((step, place, _)) = rows::modulo_step(done).filter(|(step, _, _)| step.by > 0) {
-        let on = value(done.before, place.clone()) as i32 + step.by;
-        seen.registers[place].copy_from_slice(&(on as u16).to_le_bytes());
+    goes_on(done, seen, true);
+}
+
+fn mdec_goes_on(done: &Done, seen: &mut Seen) {
+    goes_on(done, seen, false);
+}
+
+fn ret_one_short(done: &Done, seen: &mut Seen) {
+    if done.code == [0x0E] {
+        seen.counter = seen.counter.wrapping_sub(1) & 0xFF_FFFF;
+    }
+}
+
+fn call_pushes_itself(done: &Done, seen: &mut Seen) {
+    if matches!(done.code[0], 0x1C..=0x1E) {
+        let length = done.code.len() as u8;
+        let low = done.long(XSP).wrapping_sub(4) & 0xFF_FFFF;
+        if let Some(byte) = seen.memory.get_mut(&low) {
+            *byte = byte.wrapping_sub(length);
+        }
     }
 }
 
@@ -198,30 +251,33 @@ fn mask_of_level(done: &Done, seen: &mut Seen) {
     }
 }
 
-fn one_bit_as_popped(done: &Done, seen: &mut Seen) {
-    if done.code == [0x19] {
-        seen.sr |= done.on_stack(0, 1) & 1 << 5;
+fn one_bit_as_popped(done: &Done, _: &Seen) -> Apart {
+    let popped = done.code == [0x19];
+    Apart {
+        sr: if popped {
+            done.on_stack(0, 1) & 1 << 5
+        } else {
+            0
+        },
+        ..Apart::default()
     }
 }
 
-fn low_half_always(done: &Done, seen: &mut Seen) {
-    if let Some(division) = rows::division(done).filter(|one| one.divisor == 0) {
-        let (low, high) = division.halves();
-        division.leave(seen, !i64::from(high), i64::from(low));
+fn low_half_always(done: &Done, _: &Seen) -> Apart {
+    match rows::division(done).filter(|one| one.exact().is_none()) {
+        Some(division) => {
+            let (dividend, _) = division.numbers();
+            division.leaves(!(dividend >> division.bits()), dividend)
+        }
+        None => Apart::default(),
     }
 }
 
-fn lowest_bit_asked(done: &Done, seen: &mut Seen) {
-    let Some((step, place, last)) = rows::modulo_step(done).filter(|(step, _, _)| step.by < 0)
-    else {
-        return;
-    };
-    let before = value(done.before, place.clone());
-    let lowest = last & last.wrapping_neg();
-    let after = if before & lowest == lowest {
-        before.wrapping_add(last)
-    } else {
-        before.wrapping_sub(step.by.unsigned_abs())
-    };
-    seen.registers[place].copy_from_slice(&(after as u16).to_le_bytes());
+fn turned_by_lowest_bit(done: &Done, _: &Seen) -> Apart {
+    match rows::modulo_step(done).filter(|(step, ..)| step.by < 0) {
+        Some((step, place, last)) => {
+            rows::turned(done, step, place, last, last & last.wrapping_neg())
+        }
+        None => Apart::default(),
+    }
 }

@@ -4,11 +4,11 @@
 //! register must do by K1's form what one of 01's does by 01's.
 
 use super::Bench;
+use crate::judge::Answer;
 use draw::aim::{self, Layout};
 use draw::case::{Call, Case};
 use draw::chance::Chance;
 use draw::image::Image;
-use crate::judge::Answer;
 use forms::banks::{overlap, place_written, stand_ins, Size, SIZES};
 use forms::{feed, marks, Form};
 use second::record::{BANK, COUNTER, F, MARKS};

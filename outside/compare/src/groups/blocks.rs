@@ -2,11 +2,11 @@
 
 use super::codes::aimed_case;
 use super::Bench;
+use crate::judge::Answer;
 use draw::aim::{self, Layout, BC};
 use draw::case::{Call, Case};
 use draw::chance::Chance;
 use draw::image::Image;
-use crate::judge::Answer;
 use forms::Form;
 use second::record::{COUNTER, F};
 use second::{Machine, Width};

@@ -2,10 +2,10 @@
 //! and those worked by hand, with the marks and the requests and without.
 
 use super::Bench;
+use crate::judge::Answer;
 use draw::aim;
 use draw::case::{Call, Case};
 use draw::image::Image;
-use crate::judge::Answer;
 use second::examples::{self, Example};
 
 /// Each as it stands, and then from another nesting count.

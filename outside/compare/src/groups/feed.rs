@@ -10,10 +10,10 @@ pub use codes::{cut_codes, every_operand};
 pub use modulo::{every_number, every_word};
 
 use super::Bench;
+use crate::judge::Answer;
 use draw::aim::{self, Layout};
 use draw::case::{Call, Case};
 use draw::chance::Chance;
-use crate::judge::Answer;
 use forms::banks::{Size, SIZES};
 use forms::feed::{self, Scale, DIV, DIVS, SCALES};
 use forms::marks;

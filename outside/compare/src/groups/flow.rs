@@ -1,10 +1,10 @@
 //! Jumps, calls and flags.
 
 use super::Bench;
+use crate::judge::Answer;
 use draw::aim::{self, Layout, FLAGS, XSP};
 use draw::case::{Call, Case};
 use draw::image::Image;
-use crate::judge::Answer;
 use forms::requests;
 use second::record::{BANK, COUNTER, F, F_PRIME, SR};
 

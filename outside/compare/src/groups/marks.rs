@@ -9,9 +9,9 @@ mod operation;
 
 use super::runs::{self, skip, string};
 use super::Bench;
+use crate::judge::Answer;
 use draw::aim::{self, XSP};
 use draw::case::{Call, Case};
-use crate::judge::Answer;
 use forms::{marks, Form};
 use met::{Met, Sort};
 use operation::{operations, prepared, Prepared, LAYOUT, MIDDLE};

@@ -5,11 +5,11 @@
 use super::records::{marks, near};
 use super::requests::{a_turn, program};
 use super::Bench;
+use crate::judge::{Answer, Tally};
 use draw::aim::{self, Layout};
 use draw::case::{Call, Case};
 use draw::chance::Chance;
 use draw::image::Image;
-use crate::judge::{Answer, Tally};
 use forms::records::{self, NEW, OLD};
 use second::record::{MARKS, NESTING};
 use std::collections::BTreeSet;

@@ -6,12 +6,12 @@ mod among;
 mod met;
 
 use super::Bench;
+use crate::judge::Answer;
+pub use among::{a_turn, between_steps, in_repeats, program};
 use draw::aim::{self, Layout, XSP};
 use draw::case::{Call, Case};
 use draw::chance::Chance;
 use draw::image::Image;
-use crate::judge::Answer;
-pub use among::{a_turn, between_steps, in_repeats, program};
 use forms::{marks as listed, requests};
 use library::Empty;
 use met::Met;

@@ -1,11 +1,11 @@
 //! Runs of many steps.
 
 use super::Bench;
+use crate::judge::Answer;
 use draw::aim::{self, Layout};
 use draw::case::{Call, Case};
 use draw::chance::Chance;
 use draw::image::Image;
-use crate::judge::Answer;
 use forms::Form;
 use second::record::COUNTER;
 

@@ -8,12 +8,12 @@ mod met;
 mod scene;
 
 use super::Bench;
+use crate::judge::Answer;
+use access::{tried, Aim, Kind, Tried};
 use draw::aim::{self, Layout};
 use draw::case::{Call, Case};
 use draw::chance::Chance;
 use draw::image::Image;
-use crate::judge::Answer;
-use access::{tried, Aim, Kind, Tried};
 use library::Empty;
 use met::{Met, Mode, Sort};
 use scene::{Scene, MOST_LED, ROOM};

@@ -2,12 +2,12 @@
 //! second byte, in every bank; what is refused, and what is cut off.
 
 use super::{hold, put_code, set_value, value, Work, LAYOUT};
-use draw::aim;
-use draw::case::{Call, Case};
-use draw::chance::Chance;
 use crate::groups::banks::{coded_number, cut_there};
 use crate::groups::Bench;
 use crate::judge::Answer;
+use draw::aim;
+use draw::case::{Call, Case};
+use draw::chance::Chance;
 use forms::banks::{place_written, Size, SIZES};
 use forms::feed::{self, STEPS};
 use forms::Form;

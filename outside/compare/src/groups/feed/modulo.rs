@@ -2,12 +2,12 @@
 //! as a number.
 
 use super::{put_code, set_value, step_of, value, WORD};
+use crate::groups::Bench;
+use crate::judge::Answer;
 use draw::aim::{self, Layout};
 use draw::case::{Call, Case};
 use draw::chance::Chance;
-use crate::groups::Bench;
 use draw::image::Image;
-use crate::judge::Answer;
 use forms::feed::{Step, STEPS};
 use second::record::{BANK, COUNTER};
 

@@ -2,11 +2,11 @@
 //! byte: a dividend in each of many registers, and F pushed behind each division.
 
 use super::{set_value, value, BYTE, V};
+use crate::groups::Bench;
+use crate::judge::Answer;
 use draw::aim::{self, Layout};
 use draw::case::{Call, Case};
-use crate::groups::Bench;
 use draw::image::Image;
-use crate::judge::Answer;
 use forms::feed::Scale;
 use forms::marks;
 use second::record::{BANK, BANK_SIZE, COUNTER, F, MARKS, SHARED};

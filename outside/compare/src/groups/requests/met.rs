@@ -1,8 +1,8 @@
 //! What a group has met: without it, a group that tries nothing would agree.
 
 use super::{FRAME, TOP, VECTOR};
-use draw::aim::Layout;
 use crate::judge::{Answer, Judge};
+use draw::aim::Layout;
 use std::collections::BTreeSet;
 
 /// Which operand of a request.
