@@ -132,7 +132,16 @@ local function stretch()
   return string.pack("<d", took) .. table.concat(bytes) .. seen()
 end
 
-local answer = { s = steps, l = lay, t = stretch }
+-- As it stands before its first instruction, with the ROM that it was reset from.
+local at_reset = seen()
+
+local function reset()
+  local bytes = {}
+  for i = 0, 65535 do bytes[i + 1] = string.char(board_rom:read_u8(i)) end
+  return table.concat(bytes) .. at_reset
+end
+
+local answer = { r = reset, s = steps, l = lay, t = stretch }
 
 local function serve()
   -- so that there is time to set back

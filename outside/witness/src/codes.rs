@@ -1,7 +1,7 @@
 //! The listed codes one by one, and trials of each.
 
 use crate::mame::{self, UNMASKED};
-use crate::trial::{Ground, Trial, FULL};
+use crate::trial::{Ground, Trial, FULL, MOST_STEPS};
 use draw::aim;
 use draw::case::Call;
 use draw::chance::Chance;
@@ -53,8 +53,9 @@ pub fn kinds_of(name: &str) -> usize {
 
 /// The forms of which some repeat.
 const REPEATING: [&str; 2] = ["LDI LDIR LDD LDDR", "CPI CPIR CPD CPDR"];
-/// The most steps that a repeating one is followed.
-const MOST_STEPS: u32 = 12;
+/// The most steps that a repeating one is followed, but for one in so many.
+const FEW_STEPS: u32 = 12;
+const ONE_IN: u32 = 64;
 const NOP: u8 = 0x00;
 const RETI: u8 = 0x07;
 
@@ -79,45 +80,58 @@ impl Code {
         REPEATING.contains(&self.name)
     }
 
-    /// A step of this code.
-    pub fn trial(&self, chance: &mut Chance) -> Trial {
+    /// A step of this code in a bank.
+    pub fn trial(&self, chance: &mut Chance, bank: u8) -> Trial {
         let bytes = aim::code(chance, &self.form, FULL);
-        aimed(chance, bytes)
+        let mut trial = aimed(chance, bytes);
+        trial.set_bank(bank);
+        trial
     }
 
-    /// Some steps of a repeating form. For a compare what is looked for is often
+    /// Some steps of a repeating form in a bank. For a compare what is looked for is often
     /// among the first elements; a copy goes over its own code now and then.
-    pub fn repeated(&self, chance: &mut Chance, ground: &Ground) -> Trial {
-        let mut trial = self.trial(chance);
+    pub fn repeated(&self, chance: &mut Chance, ground: &Ground, bank: u8) -> Trial {
+        let mut trial = self.trial(chance, bank);
         let (counter, code) = &trial.puts[0];
         let (counter, first) = (*counter, code[0]);
         let record = &mut trial.record;
+        let most = if chance.once_in(ONE_IN) {
+            MOST_STEPS
+        } else {
+            FEW_STEPS
+        };
         if chance.below(4) < 3 {
-            aim::set_word(record, aim::BC, 1 + chance.below(MOST_STEPS) as u16);
+            aim::set_word(record, aim::BC, 1 + chance.below(most) as u16);
         }
         if self.name == REPEATING[1] {
             if chance.once_in(2) {
-                look_for_what_is_there(chance, ground, record, first);
+                look_for_what_is_there(chance, ground, record, first, most);
             }
         } else if chance.once_in(4) {
             let near = counter.wrapping_add(chance.below(9)).wrapping_sub(4);
             aim::set_long(record, (first & 7) - 1, near);
         }
-        trial.call = Call::Run(1 + chance.below(MOST_STEPS));
+        trial.call = Call::Run(1 + chance.below(most));
         trial
     }
 }
 
-/// Sets A or WA to what an element near the pointer holds, on one side or the
-/// other; the first byte of the code says which pointer and how large.
-fn look_for_what_is_there(chance: &mut Chance, ground: &Ground, record: &mut [u8], first: u8) {
+/// Sets A or WA to what an element at most so far from the pointer holds, on one side
+/// or the other; the first byte of the code says which pointer and how large.
+fn look_for_what_is_there(
+    chance: &mut Chance,
+    ground: &Ground,
+    record: &mut [u8],
+    first: u8,
+    most: u32,
+) {
     let pointer = aim::get_long(record, aim::place_of_long(record, first & 7));
     let (code, width) = if first < 0x90 {
         (1, Width::Byte)
     } else {
         (0, Width::Word)
     };
-    let away = width.bytes() as u32 * chance.below(MOST_STEPS);
+    let away = width.bytes() as u32 * chance.below(most);
     let at = if chance.once_in(2) {
         pointer.wrapping_add(away)
     } else {

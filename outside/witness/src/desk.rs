@@ -5,7 +5,7 @@ use crate::trial::{byte_at, Ground, Trial, FULL};
 use draw::aim::{self, get_long, XSP};
 use draw::case::Call;
 use library::{Empty, Library};
-use second::record::{BANK, COUNTER, SR};
+use second::record::{BANK, COUNTER, LENGTH, SR};
 use std::collections::BTreeMap;
 use std::ops::Range;
 
@@ -78,6 +78,13 @@ impl Done<'_> {
     }
 }
 
+/// What the library has after a reset from this ROM; `None` if it refuses.
+pub fn reset(rom: &[u8]) -> Option<Seen> {
+    let mut record = vec![0; LENGTH];
+    let number = LIBRARY.reset(&mut record, &[], rom);
+    (number == 0).then(|| Seen::of_record(&record, BTreeMap::new()))
+}
+
 /// The memories, and RAM once more as it was before the step.
 pub struct Desk {
     ram: Vec<u8>,
@@ -128,7 +135,7 @@ impl Desk {
     fn step(
         &mut self,
         call: Call,
-        record: &mut Vec<u8>,
+        record: &mut [u8],
         hand: &mut impl FnMut(&Done, Seen),
     ) -> Option<Vec<u32>> {
         let asked = match call {
@@ -136,7 +143,7 @@ impl Desk {
             _ => None,
         };
         let pushed = asked.as_ref().map(|_| self.ram.clone());
-        let before = record.clone();
+        let before = record.to_vec();
         let code = self.code(&before);
         if LIBRARY.step(record, &mut self.ram, &self.rom) != (0, 0) {
             self.ram.copy_from_slice(&self.past);

@@ -77,46 +77,46 @@ impl<'a> Prepared<'a> {
         match work.clone() {
             Work::Steps(range, times) => {
                 for index in range {
-                    self.draw_code(desk, times, index, |code, _| code.trial(chance));
+                    self.draw_code(desk, times, index, |code, _, bank| code.trial(chance, bank));
                 }
             }
             Work::Repeats(range, times) => {
                 for index in range {
-                    self.draw_code(desk, times, index, |code, ground| {
-                        code.repeated(chance, ground)
+                    self.draw_code(desk, times, index, |code, ground, bank| {
+                        code.repeated(chance, ground, bank)
                     });
                 }
             }
-            Work::Requests(times) => self.draw(desk, times, |_| codes::request(chance)),
+            Work::Requests(times) => self.draw(desk, times, |_, _| codes::request(chance)),
             Work::Every(every, numbers) => {
                 for number in numbers {
-                    self.draw(desk, 1, |_| (every.trial)(chance, number));
+                    self.draw(desk, 1, |_, _| (every.trial)(chance, number));
                 }
             }
             Work::Again(_) => {}
         }
     }
 
-    /// Draws trials of a code.
+    /// Draws trials of a code, in one bank after another.
     fn draw_code(
         &mut self,
         desk: &mut Desk,
         times: u32,
         index: usize,
-        mut drawn: impl FnMut(&Code, &Ground) -> Trial,
+        mut drawn: impl FnMut(&Code, &Ground, u8) -> Trial,
     ) {
         let code = &self.house.codes[index];
-        self.draw(desk, times, |ground| Trial {
+        self.draw(desk, times, |ground, time| Trial {
             code: Some(index),
-            ..drawn(code, ground)
+            ..drawn(code, ground, (time % 4) as u8)
         });
     }
 
     /// Draws trials until so many were not refused, or it has to be given up.
-    fn draw(&mut self, desk: &mut Desk, times: u32, mut drawn: impl FnMut(&Ground) -> Trial) {
-        for _ in 0..times {
+    fn draw(&mut self, desk: &mut Desk, times: u32, mut drawn: impl FnMut(&Ground, u32) -> Trial) {
+        for time in 0..times {
             for _ in 0..MOST_DRAWS {
-                let trial = drawn(&self.ground);
+                let trial = drawn(&self.ground, time);
                 if self.add(desk, trial) {
                     break;
                 }

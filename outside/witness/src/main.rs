@@ -16,17 +16,19 @@
 //! `--whole` divides every word by every byte too, and `--wrong` sees that wrong
 //! answers would show. `--case` does a printed case again. `--speed` times both on the
 //! same loops; the next two are for who counts machine instructions. `--rows` prints
-//! the table of where the witness parts from the book. `--brief` asks no witness: it
-//! sees that there are cases of every listed code which the library does.
+//! the table of where the witness parts from the book, as `rows.md` has it. `--brief`
+//! asks no witness: it sees that every listed code has a case which the library does.
 
 #![forbid(unsafe_code)]
 
 mod codes;
+mod crew;
 mod desk;
 mod every;
 mod hold;
 mod loops;
 mod mame;
+mod operands;
 mod plan;
 mod rows;
 mod seen;
@@ -35,6 +37,7 @@ mod tally;
 mod trial;
 mod wrong;
 
+use crew::side_by_side;
 use hold::{House, Prepared};
 use mame::Mame;
 use plan::{Batch, Work};
@@ -42,15 +45,10 @@ use rows::ROWS;
 use std::io;
 use std::path::Path;
 use std::process::ExitCode;
-use std::sync::atomic::{AtomicUsize, Ordering};
-use std::sync::Mutex;
-use std::thread;
 use std::time::{Duration, Instant};
 use tally::Tally;
 
 const SEED: u64 = 900;
-/// How often it is told how far a run is.
-const TELLING: Duration = Duration::from_secs(10);
 
 fn main() -> ExitCode {
     let words: Vec<String> = std::env::args().skip(1).collect();
@@ -87,8 +85,9 @@ fn obey(words: &[&str]) -> io::Result<bool> {
     }
 }
 
-fn trouble(what: &str) -> io::Error {
-    io::Error::other(what.to_string())
+/// An error that ends the program.
+pub fn trouble(what: &str) -> io::Error {
+    io::Error::new(io::ErrorKind::Other, what)
 }
 
 fn named(name: &str) -> io::Result<&'static loops::Loop> {
@@ -100,8 +99,17 @@ fn number<T: std::str::FromStr>(word: &str) -> io::Result<T> {
     parsed.map_err(|_| trouble(&format!("{word} is not a number")))
 }
 
+const ROWS_HEAD: &str = "\
+# Where the witness parts from the book
+
+The witness is MAME 0.251 (outside/README.md). A row says what the book has and where, and exactly what the witness has
+instead. 01 and 02 are the request's documents, 000 and 003 Toshiba's books. `witness --rows` printed this.
+
+| Code | The book | The witness |
+|---|---|---|";
+
 fn print_rows() -> bool {
-    println!("| Code | The book | The witness |\n|---|---|---|");
+    println!("{ROWS_HEAD}");
     for row in ROWS {
         println!("| {} | {} | {} |", row.code, row.book, row.witness);
     }
@@ -120,8 +128,12 @@ fn again(folder: &Path, batch: Batch) -> io::Result<bool> {
     let house = house(SEED, false);
     let tally = side_by_side(folder, &house, &[batch])?;
     tell_differences(&tally);
-    println!("{} steps compared", tally.steps);
-    Ok(tally.unexplained == 0 && tally.steps > 0)
+    let (steps, unexplained) = (tally.steps, tally.unexplained);
+    println!("witness: {steps} steps compared, {unexplained} differences left unexplained");
+    if steps == 0 {
+        println!("witness: the library refuses it");
+    }
+    Ok(unexplained == 0 && steps > 0)
 }
 
 /// Compares, and tells how it went.
@@ -145,11 +157,29 @@ fn run(folder: &Path, words: &[&str]) -> io::Result<bool> {
         plan.len()
     );
     let start = Instant::now();
+    let reset = reset_agrees(folder)?;
     let tally = side_by_side(folder, &house, &plan)?;
     tell_differences(&tally);
     tell_rows(&tally);
     let caught = tell_slips(&house, &tally);
-    Ok(tell_all(&house, &tally, start.elapsed()) && caught)
+    Ok(tell_all(&house, &tally, start.elapsed()) && caught && reset)
+}
+
+/// Whether both are the same after a reset.
+fn reset_agrees(folder: &Path) -> io::Result<bool> {
+    let mut mame = Mame::start(folder)?;
+    let (rom, seen) = mame.reset()?;
+    mame.end()?;
+    let ours = desk::reset(&rom).ok_or_else(|| trouble("the library refuses the reset"))?;
+    let same = ours == seen;
+    match same {
+        true => println!("witness: the same after a reset"),
+        false => println!(
+            "DIFFERENCE after a reset\n{}",
+            ours.differences("must be", &seen, "is")
+        ),
+    }
+    Ok(same)
 }
 
 fn tell_differences(tally: &Tally) {
@@ -190,8 +220,8 @@ fn tell_all(house: &House, tally: &Tally, took: Duration) -> bool {
         tally.cases, tally.requests, tally.steps, tally.refused
     );
     println!(
-        "witness: {covered} of {listed} listed codes covered, each by {} cases or more; {met} of {} rows met",
-        tally.codes.values().min().unwrap_or(&0),
+        "witness: {covered} of {listed} listed codes covered, each by {} cases or more in each bank; {met} of {} rows met",
+        tally.fewest(),
         ROWS.len()
     );
     println!(
@@ -199,79 +229,7 @@ fn tell_all(house: &House, tally: &Tally, took: Duration) -> bool {
         tally.unexplained,
         took.as_secs_f64()
     );
-    tally.unexplained == 0 && covered == listed && met == ROWS.len()
-}
-
-/// Does the batches, with as many emulators at a time as there are processors. What
-/// comes of it does not hang on which of them is first.
-fn side_by_side(folder: &Path, house: &House, plan: &[Batch]) -> io::Result<Tally> {
-    let next = AtomicUsize::new(0);
-    let tallies = Mutex::new(Vec::new());
-    let teller = Teller::new(plan.len());
-    let work = || -> io::Result<()> {
-        let mut mame = Mame::start(folder)?;
-        let mut asked: Option<(usize, Prepared)> = None;
-        loop {
-            let number = next.fetch_add(1, Ordering::Relaxed);
-            // the library does a batch while the witness does the one before
-            let prepared = plan.get(number).map(|batch| Prepared::new(house, batch));
-            if let Some((number, asked)) = asked.take() {
-                let tally = asked.compare(&mut mame)?;
-                teller.tell(number, tally.cases);
-                tallies
-                    .lock()
-                    .expect("no other failed")
-                    .push((number, tally));
-            }
-            let Some(prepared) = prepared else {
-                return mame.end();
-            };
-            let prepared = prepared.ok_or_else(|| trouble("this is no case"))?;
-            prepared.ask(&mut mame)?;
-            asked = Some((number, prepared));
-        }
-    };
-    let processors = thread::available_parallelism().map_or(1, usize::from);
-    thread::scope(|scope| {
-        let workers = 0..processors.min(plan.len());
-        let workers: Vec<_> = workers.map(|_| scope.spawn(&work)).collect();
-        let ended = |worker: thread::ScopedJoinHandle<'_, io::Result<()>>| {
-            worker.join().expect("a worker that ends")
-        };
-        workers.into_iter().try_for_each(ended)
-    })?;
-    let mut tallies = tallies.into_inner().expect("no other failed");
-    tallies.sort_by_key(|(number, _)| *number);
-    let mut all = Tally::new(house.slips.len());
-    tallies.into_iter().for_each(|(_, tally)| all.join(tally));
-    Ok(all)
-}
-
-/// Tells now and then how far a run is.
-struct Teller {
-    batches: usize,
-    so_far: Mutex<(u64, Instant)>,
-}
-
-impl Teller {
-    fn new(batches: usize) -> Teller {
-        Teller {
-            batches,
-            so_far: Mutex::new((0, Instant::now())),
-        }
-    }
-
-    fn tell(&self, batch: usize, cases: u64) {
-        let mut so_far = self.so_far.lock().expect("no other failed");
-        so_far.0 += cases;
-        if so_far.1.elapsed() > TELLING {
-            so_far.1 = Instant::now();
-            eprintln!(
-                "witness: {batch} of {} batches, {} cases",
-                self.batches, so_far.0
-            );
-        }
-    }
+    tally.unexplained == 0 && covered == listed && tally.fewest() > 0 && met == ROWS.len()
 }
 
 /// Sees, without a witness, that every listed code has a case which the library does.

@@ -5,6 +5,7 @@
 //! are low byte first. A state is the twenty registers in a record's order, the
 //! counter, SR and F', four bytes each.
 //!
+//! * `r`, how it was after its reset: the answer is the board's ROM and what was there.
 //! * `s`, steps of trials: RAM, ROM, in four bytes how many trials there are, and
 //!   the trials. A trial is a state; then in a byte each how many steps, which source
 //!   of interrupts asks (255 for none), with which level, and how many stretches of
@@ -20,7 +21,7 @@
 //! what was stored and the others are the address.
 
 use crate::seen::Seen;
-use crate::trial::{Ground, Trial};
+use crate::trial::{Ground, Trial, MOST};
 use draw::case::Call;
 use second::record::{BANK_SIZE, COUNTER, F_PRIME, SHARED, SR};
 use std::collections::BTreeMap;
@@ -94,7 +95,7 @@ impl Mame {
         while line != b"ready\n" {
             line.clear();
             if from.read_until(b'\n', &mut line)? == 0 {
-                return Err(io::Error::other("the emulator ended before it was ready"));
+                return Err(crate::trouble("the emulator ended before it was ready"));
             }
         }
         Ok(Mame { child, to, from })
@@ -105,6 +106,14 @@ impl Mame {
         self.to.write_all(&(message.len() as u32).to_le_bytes())?;
         self.to.write_all(message)?;
         self.to.flush()
+    }
+
+    /// The board's ROM, and how the witness was after its reset.
+    pub fn reset(&mut self) -> io::Result<(Vec<u8>, Seen)> {
+        self.say(b'r', &[])?;
+        let mut rom = vec![0; MOST];
+        self.from.read_exact(&mut rom)?;
+        Ok((rom, self.answer()?.seen))
     }
 
     /// Hands trials over, each with how many steps it has. The witness does them
@@ -141,7 +150,7 @@ impl Mame {
         }
         let [counter, sr, spare, bank, halted] = longs;
         if halted != 0 {
-            return Err(io::Error::other("the emulator's core has halted"));
+            return Err(crate::trouble("the emulator's core has halted"));
         }
         let seen = Seen {
             registers: by_bank(&by_name),

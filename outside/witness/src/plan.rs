@@ -4,7 +4,7 @@ use crate::codes::{self, Code};
 use crate::every::{Every, EVERY};
 use std::ops::Range;
 
-/// How many cases each listed code has in a round, and how many each kind of
+/// How many cases each listed code has in a round, and about how many each kind of
 /// instruction has at least.
 const EACH_CODE: u32 = 16;
 const EACH_KIND: u32 = 2_000;
@@ -39,23 +39,25 @@ pub struct Batch {
 /// All batches of so many rounds.
 pub fn plan(codes: &[Code], rounds: u32, whole: bool) -> Vec<Batch> {
     let mut plan = Vec::new();
-    for form in codes.chunk_by(|one, next| one.name == next.name) {
-        let first = plan_start(codes, form);
-        let range = first..first + form.len();
-        let name = form[0].name;
-        let least = EACH_KIND * codes::kinds_of(name) as u32;
-        let times = rounds * EACH_CODE.max(least.div_ceil(form.len() as u32));
+    let mut first = 0;
+    while let Some(code) = codes.get(first) {
+        let name = code.name;
+        let of_form = codes[first..].iter().take_while(|code| code.name == name);
+        let range = first..first + of_form.count();
+        first = range.end;
+        let least = EACH_KIND * codes::kinds_of(name) as u32 / range.len() as u32;
+        let times = rounds * EACH_CODE.max(least);
         lay_out(&mut plan, name, range.clone(), times, Work::Steps);
-        if form[0].may_repeat() {
+        if code.may_repeat() {
             let name = format!("{name}, several steps");
             lay_out(&mut plan, &name, range, rounds * EACH_REPEAT, Work::Repeats);
         }
     }
-    for (part, first) in (0..rounds * REQUESTS).step_by(BATCH as usize).enumerate() {
-        let count = BATCH.min(rounds * REQUESTS - first);
+    let requests = rounds * REQUESTS;
+    for (part, first) in (0..requests).step_by(BATCH as usize).enumerate() {
         plan.push(Batch {
             name: format!("requests, {part}"),
-            work: Work::Requests(count),
+            work: Work::Requests(BATCH.min(requests - first)),
         });
     }
     for every in EVERY.iter().filter(|every| whole || !every.long) {
@@ -68,12 +70,6 @@ pub fn plan(codes: &[Code], rounds: u32, whole: bool) -> Vec<Batch> {
         }
     }
     plan
-}
-
-/// Where the codes of a form begin among all.
-fn plan_start(codes: &[Code], form: &[Code]) -> usize {
-    let found = codes.iter().position(|code| code.name == form[0].name);
-    found.expect("a form of theirs")
 }
 
 /// Batches of these codes: some codes at once where each has few cases, and some

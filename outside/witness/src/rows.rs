@@ -6,9 +6,8 @@
 //! numbers are 000's.
 
 use crate::desk::Done;
+use crate::operands::{division, modulo, register_form, Division};
 use crate::seen::{value, Seen, H, V};
-use forms::banks::{Size, SIZES};
-use forms::feed;
 use second::record::F;
 use std::ops::Range;
 
@@ -31,7 +30,8 @@ impl Apart {
         }
     }
 
-    fn register(place: Range<usize>, one: u32, other: u32) -> Apart {
+    /// A register that has one value in place of the other.
+    pub fn register(place: Range<usize>, one: u32, other: u32) -> Apart {
         Apart {
             register: Some((place, one ^ other)),
             ..Apart::default()
@@ -269,94 +269,13 @@ fn signed(low_first: [u8; 2]) -> u32 {
     i32::from(i16::from_le_bytes(low_first)) as u32
 }
 
-/// A register form: its size, the bytes of r in a record, and the code behind r.
-pub fn register_form<'a>(done: &'a Done) -> Option<(Size, Range<usize>, &'a [u8])> {
-    let (&first, rest) = done.code.split_first()?;
-    let bank = done.bank();
-    for size in SIZES {
-        if first == size.any {
-            let (&code, rest) = rest.split_first()?;
-            return Some((size, size.named(code, bank)?, rest));
-        }
-        if (size.plain..size.plain + 8).contains(&first) {
-            return Some((size, size.plain(first - size.plain, bank), rest));
-        }
-    }
-    None
-}
-
-/// A division: which, its size, the bytes of the destination in a record, the
-/// dividend and the divisor.
-pub struct Division {
-    pub scale: feed::Scale,
-    size: Size,
-    place: Range<usize>,
-    dividend: u32,
-    divisor: u32,
-}
-
-pub fn division(done: &Done) -> Option<Division> {
-    let (size, r, rest) = register_form(done)?;
-    let scale = feed::scale(rest[0]).filter(|scale| scale.divides)?;
-    let (place, divisor) = if rest[0] == scale.with_constant {
-        (size.whole(r)?, value(rest, 1..rest.len()))
-    } else {
-        let low = size.plain(rest[0] & 7, done.bank());
-        (size.whole(low)?, value(done.before, r))
-    };
-    Some(Division {
-        scale,
-        size,
-        dividend: value(done.before, place.clone()),
-        place,
-        divisor,
-    })
-}
-
-impl Division {
-    pub fn bits(&self) -> u32 {
-        8 * self.size.bytes as u32
-    }
-
-    /// The dividend and the divisor as numbers, with a sign or without.
-    pub fn numbers(&self) -> (i64, i64) {
-        let number = |bytes, value| feed::number(bytes, value, self.scale.signed);
-        let bytes = self.size.bytes;
-        (
-            number(2 * bytes, self.dividend),
-            number(bytes, self.divisor),
-        )
-    }
-
-    /// The quotient and the remainder; none by 0.
-    pub fn exact(&self) -> Option<(i64, i64)> {
-        let (dividend, divisor) = self.numbers();
-        (divisor != 0).then(|| (dividend / divisor, dividend % divisor))
-    }
-
-    /// Whether a quotient fits its half.
-    pub fn fits(&self, quotient: i64) -> bool {
-        let all = 1 << self.bits();
-        let least = if self.scale.signed { -all / 2 } else { 0 };
-        (least..least + all).contains(&quotient)
-    }
-
-    /// The low bits of both, and not the old destination.
-    pub fn leaves(&self, quotient: i64, remainder: i64) -> Apart {
-        let low = |number: i64| number as u32 & ((1 << self.bits()) - 1);
-        let left = low(quotient) | low(remainder) << self.bits();
-        Apart::register(self.place.clone(), self.dividend, left)
-    }
-}
-
 fn divided_by_zero(done: &Done, _: &Seen) -> Apart {
-    let by_zero = |division: &Division| division.divisor == 0;
-    let Some(division) = division(done).filter(by_zero) else {
+    let Some(division) = division(done).filter(|one| one.exact().is_none()) else {
         return Apart::default();
     };
-    let high = division.dividend >> division.bits();
     let (dividend, _) = division.numbers();
-    division.leaves(!i64::from(high), if dividend < 0 { -1 } else { dividend })
+    let remainder = if dividend < 0 { -1 } else { dividend };
+    division.leaves(!i64::from(division.high()), remainder)
 }
 
 /// A division whose quotient does not fit, with that and the remainder.
@@ -390,46 +309,14 @@ fn signed_quotient_cut(done: &Done, _: &Seen) -> Apart {
     }
 }
 
-/// MINC or MDEC: the step, the bytes of r, and the number less the step.
-pub fn modulo_step(done: &Done) -> Option<(feed::Step, Range<usize>, u16)> {
-    let (_, place, rest) = register_form(done)?;
-    let &[second, low, high] = rest else {
-        return None;
-    };
-    let step = feed::step(second)?;
-    Some((step, place, u16::from_le_bytes([low, high])))
-}
-
-/// A value that turns where it has all of these bits, and by the book where it is
-/// at the table's end.
-pub fn turned(done: &Done, step: feed::Step, place: Range<usize>, last: u16, bits: u16) -> Apart {
-    let before = value(done.before, place.clone()) as u16;
-    let by = step.by.unsigned_abs() as u16;
-    let turns = before & bits == bits;
-    let left = match (step.by > 0, turns) {
-        (true, true) => before.wrapping_sub(last),
-        (true, false) => before.wrapping_add(by),
-        (false, true) => before.wrapping_add(last),
-        (false, false) => before.wrapping_sub(by),
-    };
-    let book = step.after(before, last + by);
-    Apart::register(place, u32::from(book), u32::from(left))
-}
-
-/// By the witness these are the bits of the number less the step, up and down.
-fn turned_by_bits(done: &Done, up: bool) -> Apart {
-    match modulo_step(done).filter(|(step, ..)| (step.by > 0) == up) {
-        Some((step, place, last)) => turned(done, step, place, last, last),
-        None => Apart::default(),
-    }
-}
-
 fn minc_by_bits(done: &Done, _: &Seen) -> Apart {
-    turned_by_bits(done, true)
+    let minc = modulo(done).filter(|modulo| modulo.goes_up());
+    minc.map_or_else(Apart::default, |minc| minc.turned_by(done, minc.last))
 }
 
 fn mdec_by_bits(done: &Done, _: &Seen) -> Apart {
-    turned_by_bits(done, false)
+    let mdec = modulo(done).filter(|modulo| !modulo.goes_up());
+    mdec.map_or_else(Apart::default, |mdec| mdec.turned_by(done, mdec.last))
 }
 
 /// EI, POP SR and RETI set it anew.

@@ -7,6 +7,7 @@
 
 use crate::loops::{self, Loop, LOOPS};
 use crate::mame::{Mame, Stretch, BOARD_LENGTH, BOARD_RAM};
+use crate::trouble;
 use library::{Empty, Library};
 use second::record::COUNTER;
 use std::io;
@@ -46,7 +47,7 @@ impl Ours {
             let (done, number, _) = LIBRARY.run(&mut self.record, &mut self.ram, &self.rom, asked);
             self.done += u64::from(done);
             if number != 0 {
-                return Err(trouble(format!("the library stops with {number}")));
+                return Err(trouble(&format!("the library stops with {number}")));
             }
         }
         Ok(())
@@ -74,13 +75,8 @@ impl Ours {
             }
             self.run(1)?;
         }
-        let what = "the library never comes to where the witness is";
-        Err(trouble(what.to_string()))
+        Err(trouble("the library never comes to where the witness is"))
     }
-}
-
-fn trouble(what: String) -> io::Error {
-    io::Error::other(what)
 }
 
 /// How many steps a turn of a loop has.

@@ -38,8 +38,8 @@ pub struct Tally {
     pub unexplained: u64,
     /// How often each row was met.
     pub rows: Vec<u64>,
-    /// How many cases each listed code has, by its number.
-    pub codes: HashMap<usize, u64>,
+    /// How many cases each listed code has, by its number, in each bank.
+    pub codes: HashMap<usize, [u64; 4]>,
     /// How often each slip showed.
     pub slips: Vec<Sighting>,
     pub printed: Vec<String>,
@@ -64,8 +64,14 @@ impl Tally {
         self.cases += 1;
         self.requests += u64::from(matches!(trial.call, Call::Request(..)));
         if let Some(code) = trial.code {
-            *self.codes.entry(code).or_default() += 1;
+            self.codes.entry(code).or_default()[usize::from(trial.bank())] += 1;
         }
+    }
+
+    /// The fewest cases that a code with any has in a bank.
+    pub fn fewest(&self) -> u64 {
+        let cases = self.codes.values().flatten();
+        cases.copied().min().unwrap_or(0)
     }
 
     pub fn join(&mut self, other: Tally) {
@@ -78,7 +84,8 @@ impl Tally {
             *row += times;
         }
         for (code, cases) in other.codes {
-            *self.codes.entry(code).or_default() += cases;
+            let so_far = self.codes.entry(code).or_default();
+            (0..4).for_each(|bank| so_far[bank] += cases[bank]);
         }
         for (slip, sighting) in self.slips.iter_mut().zip(other.slips) {
             slip.join(sighting);

@@ -5,8 +5,11 @@ use draw::aim::Layout;
 use draw::case::{Call, Case};
 use draw::chance::Chance;
 use draw::image::Image;
+use second::record::BANK;
 
 pub const MOST: usize = second::MOST_BYTES;
+/// The most steps of a trial: a byte says how many to the witness.
+pub const MOST_STEPS: u32 = 255;
 
 /// The witness has no missing memory, so both are as long as they may be.
 pub const FULL: Layout = Layout {
@@ -65,6 +68,14 @@ impl Trial {
         }
     }
 
+    pub fn bank(&self) -> u8 {
+        self.record[BANK] & 3
+    }
+
+    pub fn set_bank(&mut self, bank: u8) {
+        self.record[BANK] = self.record[BANK] & !3 | bank;
+    }
+
     /// Every byte that is put, with its address.
     pub fn bytes_put(&self) -> impl Iterator<Item = (u32, u8)> + '_ {
         self.puts.iter().flat_map(|(address, bytes)| {
@@ -93,7 +104,10 @@ impl Trial {
     /// The trial and the ground that a printed case tells of.
     pub fn of_case(case: Case) -> Option<(Ground, Trial)> {
         let full = case.ram.len() == MOST && case.rom.len() == MOST;
-        let known = matches!(case.call, Call::Step | Call::Run(_) | Call::Request(..));
+        let known = match case.call {
+            Call::Run(steps) => steps <= MOST_STEPS,
+            call => matches!(call, Call::Step | Call::Request(..)),
+        };
         let trial = Trial {
             call: case.call,
             record: case.record,

@@ -3,7 +3,8 @@
 //! same answers of the witness.
 
 use crate::desk::Done;
-use crate::rows::{self, register_form, Apart, Says, ROWS};
+use crate::operands::{division, modulo, register_form};
+use crate::rows::{self, Apart, Says, ROWS};
 use crate::seen::{value, Seen, H, S, V, Z};
 use draw::aim::{BC, XSP};
 use second::record::F;
@@ -177,7 +178,7 @@ fn push_by_two(done: &Done, seen: &mut Seen) {
 }
 
 fn remainder_of_divisor(done: &Done, seen: &mut Seen) {
-    let Some(division) = rows::division(done).filter(|one| one.scale.signed) else {
+    let Some(division) = division(done).filter(|one| one.scale.signed) else {
         return;
     };
     let Some((quotient, remainder)) = division.exact() else {
@@ -193,16 +194,15 @@ fn remainder_of_divisor(done: &Done, seen: &mut Seen) {
 }
 
 fn zero_divisor_clears(done: &Done, seen: &mut Seen) {
-    if let Some(division) = rows::division(done).filter(|one| one.exact().is_none()) {
+    if let Some(division) = division(done).filter(|one| one.exact().is_none()) {
         division.leaves(0, 0).turn_over(done, seen);
     }
 }
 
 fn goes_on(done: &Done, seen: &mut Seen, up: bool) {
-    let step = rows::modulo_step(done).filter(|(step, ..)| (step.by > 0) == up);
-    if let Some((step, place, _)) = step {
-        let on = value(done.before, place.clone()) as i32 + step.by;
-        seen.registers[place].copy_from_slice(&(on as u16).to_le_bytes());
+    if let Some(modulo) = modulo(done).filter(|modulo| modulo.goes_up() == up) {
+        let on = value(done.before, modulo.place.clone()) as i32 + modulo.step.by;
+        seen.registers[modulo.place].copy_from_slice(&(on as u16).to_le_bytes());
     }
 }
 
@@ -237,7 +237,7 @@ fn dashed_bank_above(done: &Done, seen: &mut Seen) {
     };
     let code = done.code[1];
     if done.code[0] == size.any && code >> 4 == 0xD {
-        let above = (done.bank() + 1) % 4 << 4 | code & 15;
+        let above = 16 * ((done.bank() + 1) % 4) + code % 16;
         let from = size.named(above, done.bank()).expect("a register");
         let to = size.plain(second & 7, done.bank());
         seen.registers[to].copy_from_slice(&done.before[from]);
@@ -264,20 +264,17 @@ fn one_bit_as_popped(done: &Done, _: &Seen) -> Apart {
 }
 
 fn low_half_always(done: &Done, _: &Seen) -> Apart {
-    match rows::division(done).filter(|one| one.exact().is_none()) {
-        Some(division) => {
-            let (dividend, _) = division.numbers();
-            division.leaves(!(dividend >> division.bits()), dividend)
-        }
-        None => Apart::default(),
-    }
+    let by_zero = division(done).filter(|one| one.exact().is_none());
+    by_zero.map_or_else(Apart::default, |division| {
+        let (dividend, _) = division.numbers();
+        division.leaves(!i64::from(division.high()), dividend)
+    })
 }
 
 fn turned_by_lowest_bit(done: &Done, _: &Seen) -> Apart {
-    match rows::modulo_step(done).filter(|(step, ..)| step.by < 0) {
-        Some((step, place, last)) => {
-            rows::turned(done, step, place, last, last & last.wrapping_neg())
-        }
-        None => Apart::default(),
-    }
+    let mdec = modulo(done).filter(|modulo| !modulo.goes_up());
+    mdec.map_or_else(Apart::default, |mdec| {
+        let lowest = mdec.last & mdec.last.wrapping_neg();
+        mdec.turned_by(done, lowest)
+    })
 }
