@@ -146,7 +146,7 @@ local answer = { r = reset, s = steps, l = lay, t = stretch }
 local function serve()
   -- so that there is time to set back
   emu.wait(1.5)
-  io.stdout:write("\nready\n")
+  io.stdout:write("\nready " .. emu.app_version() .. "\n")
   io.stdout:flush()
   while true do
     local head = io.stdin:read(5)

@@ -49,6 +49,8 @@ use std::time::{Duration, Instant};
 use tally::Tally;
 
 const SEED: u64 = 900;
+/// The version that the rows were seen to hold of.
+const ROWS_OF: &str = "0.251";
 
 fn main() -> ExitCode {
     let words: Vec<String> = std::env::args().skip(1).collect();
@@ -168,6 +170,7 @@ fn run(folder: &Path, words: &[&str]) -> io::Result<bool> {
 /// Whether both are the same after a reset.
 fn reset_agrees(folder: &Path) -> io::Result<bool> {
     let mut mame = Mame::start(folder)?;
+    println!("witness: MAME {}; the rows are of {ROWS_OF}", mame.version);
     let (rom, seen) = mame.reset()?;
     mame.end()?;
     let ours = desk::reset(&rom).ok_or_else(|| trouble("the library refuses the reset"))?;

@@ -29,6 +29,9 @@ use std::io::{self, BufRead, BufReader, Read, Write};
 use std::path::Path;
 use std::process::{Child, ChildStdin, ChildStdout, Command, Stdio};
 
+/// What its first line begins with; its version stands behind.
+const READY: &[u8] = b"ready ";
+
 /// Where the board's RAM begins, and how long it is.
 pub const BOARD_RAM: usize = 0x4000;
 pub const BOARD_LENGTH: usize = 0x3000;
@@ -77,6 +80,7 @@ pub struct Stretch {
 }
 
 pub struct Mame {
+    pub version: String,
     child: Child,
     to: ChildStdin,
     from: BufReader<ChildStdout>,
@@ -92,13 +96,19 @@ impl Mame {
         let to = child.stdin.take().expect("a pipe");
         let mut from = BufReader::new(child.stdout.take().expect("a pipe"));
         let mut line = Vec::new();
-        while line != b"ready\n" {
+        while !line.starts_with(READY) {
             line.clear();
             if from.read_until(b'\n', &mut line)? == 0 {
                 return Err(crate::trouble("the emulator ended before it was ready"));
             }
         }
-        Ok(Mame { child, to, from })
+        let version = String::from_utf8_lossy(&line[READY.len()..]);
+        Ok(Mame {
+            version: version.trim().to_string(),
+            child,
+            to,
+            from,
+        })
     }
 
     fn say(&mut self, kind: u8, message: &[u8]) -> io::Result<()> {
