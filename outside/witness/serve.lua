@@ -13,12 +13,12 @@ local unread, halted, look = variable("m_prefetch_clear"), variable("m_halted"),
 local asking, unmasked = variable("m_int_reg"), variable("m_nmi_state")
 local seconds, attoseconds = variable("m_localtime.seconds"), variable("m_localtime.attoseconds")
 
-local second = 10 ^ 18 // 1 | 0
+local second = 1000000000000000000
 local slice = 1.2 / 6144000
 local sources, unmasked_source = 22, 22
 
 -- Memory while stepping is what the case says, whatever the emulated board has there: RAM below, ROM on top, and bytes put over both.
--- What is stored does not reach the board, which would take it for an order to it.
+-- The board gets a 0 in place of each byte that is stored, so that nothing of it is switched on.
 local ram, rom, over, stored = "", "", {}, {}
 
 local function read(address)

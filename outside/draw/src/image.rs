@@ -11,7 +11,7 @@ pub const TURNING: [u8; 8] = [0x00, 0x01, 0x0F, 0x10, 0x7F, 0x80, 0xFE, 0xFF];
 enum Ground {
     Zeros,
     Noise(u64),
-    /// Noise, and every other eight bytes, by chance, turning ones.
+    /// Noise, but half of the eights of bytes, by chance, are turning ones.
     Turning(u64),
 }
 

@@ -85,7 +85,7 @@ impl Scale {
 
     /// Whether there is a quotient and it fits: without a sign below 2^8 or 2^16,
     /// with one below half of that, and down to as much below zero.
-    fn fits(self, size: Size, dividend: i64, divisor: i64) -> bool {
+    pub fn fits(self, size: Size, dividend: i64, divisor: i64) -> bool {
         let all = 1 << (8 * size.bytes);
         let most = match (self.signed, (dividend < 0) == (divisor < 0)) {
             (false, _) => all,

@@ -1,7 +1,7 @@
 //! The listed codes one by one, and trials of each.
 
-use crate::mame::{self, UNMASKED};
-use crate::trial::{Ground, Trial, FULL, MOST_STEPS};
+use crate::mame::{self, HIGHEST_LEVEL};
+use crate::trial::{Memories, Trial, FULL, MOST_STEPS};
 use draw::aim;
 use draw::case::Call;
 use draw::chance::Chance;
@@ -90,7 +90,7 @@ impl Code {
 
     /// Some steps of a repeating form in a bank. For a compare what is looked for is often
     /// among the first elements; a copy goes over its own code now and then.
-    pub fn repeated(&self, chance: &mut Chance, ground: &Ground, bank: u8) -> Trial {
+    pub fn repeated(&self, chance: &mut Chance, memories: &Memories, bank: u8) -> Trial {
         let mut trial = self.trial(chance, bank);
         let (counter, code) = &trial.puts[0];
         let (counter, first) = (*counter, code[0]);
@@ -105,7 +105,7 @@ impl Code {
         }
         if self.name == REPEATING[1] {
             if chance.once_in(2) {
-                look_for_what_is_there(chance, ground, record, first, most);
+                look_for_what_is_there(chance, memories, record, first, most);
             }
         } else if chance.once_in(4) {
             let near = counter.wrapping_add(chance.below(9)).wrapping_sub(4);
@@ -120,7 +120,7 @@ impl Code {
 /// or the other; the first byte of the code says which pointer and how large.
 fn look_for_what_is_there(
     chance: &mut Chance,
-    ground: &Ground,
+    memories: &Memories,
     record: &mut [u8],
     first: u8,
     most: u32,
@@ -139,14 +139,14 @@ fn look_for_what_is_there(
     };
     let place = record::register(width, code, record[BANK] & 3);
     for (i, byte) in record[place].iter_mut().enumerate() {
-        *byte = ground.byte(at.wrapping_add(i as u32));
+        *byte = memories.byte(at.wrapping_add(i as u32));
     }
 }
 
 /// A request of any level that the witness can be asked with, at any mask, and a
 /// step: NOP where the counter is, and NOP or RETI where the vector leads.
 pub fn request(chance: &mut Chance) -> Trial {
-    let level = 1 + chance.below(UNMASKED);
+    let level = 1 + chance.below(HIGHEST_LEVEL);
     let vector = chance.pick(&mame::vectors(level));
     let handler = aim::address(chance, FULL);
     let mut trial = aimed(chance, vec![NOP]);

@@ -1,7 +1,7 @@
 //! The proved library at work on trials, step by step.
 
 use crate::seen::{value, Seen};
-use crate::trial::{byte_at, Ground, Trial, FULL};
+use crate::trial::{byte_at, Memories, Trial, FULL};
 use draw::aim::{self, get_long, XSP};
 use draw::case::Call;
 use library::{Empty, Library};
@@ -9,7 +9,7 @@ use second::record::{BANK, COUNTER, LENGTH, SR};
 use std::collections::BTreeMap;
 use std::ops::Range;
 
-const LIBRARY: Library = Library {
+pub const LIBRARY: Library = Library {
     empty: Empty::Dangling,
 };
 /// RAM is looked through in pieces of this many bytes.
@@ -85,6 +85,9 @@ pub fn reset(rom: &[u8]) -> Option<Seen> {
     (number == 0).then(|| Seen::of_record(&record, BTreeMap::new()))
 }
 
+/// The number that something was refused with, if it was.
+pub type Refusal = Option<u8>;
+
 /// The memories, and RAM once more as it was before the step.
 pub struct Desk {
     ram: Vec<u8>,
@@ -93,41 +96,43 @@ pub struct Desk {
 }
 
 impl Desk {
-    pub fn on(ground: &Ground) -> Desk {
+    pub fn on(memories: &Memories) -> Desk {
         Desk {
-            ram: ground.ram.bytes.clone(),
-            rom: ground.rom.bytes.clone(),
-            past: ground.ram.bytes.clone(),
+            ram: memories.ram.bytes.clone(),
+            rom: memories.rom.bytes.clone(),
+            past: memories.ram.bytes.clone(),
         }
     }
 
     /// Does a trial, and hands over each step that is not refused, with what the
-    /// library leaves. Several steps end where the counter goes on. Gives how many
-    /// there were. Memory is then as before.
+    /// library leaves. Several steps end where the counter goes on. Gives the number that
+    /// it was refused with, if it was. Memory is then as before.
     pub fn work(
         &mut self,
-        ground: &Ground,
+        memories: &Memories,
         trial: &Trial,
         mut hand: impl FnMut(&Done, Seen),
-    ) -> u32 {
+    ) -> Refusal {
         for (address, byte) in trial.bytes_put() {
             self.put(address, byte);
         }
         let mut record = trial.record.clone();
         let mut written = Vec::new();
-        let mut steps = 0;
-        while steps < trial.steps() && record[COUNTER..SR] == trial.record[COUNTER..SR] {
+        let mut refusal = None;
+        for _ in 0..trial.steps() {
             match self.step(trial.call, &mut record, &mut hand) {
-                Some(mut addresses) => written.append(&mut addresses),
-                None => break,
+                Ok(mut addresses) => written.append(&mut addresses),
+                Err(number) => refusal = Some(number),
             }
-            steps += 1;
+            if refusal.is_some() || record[COUNTER..SR] != trial.record[COUNTER..SR] {
+                break;
+            }
         }
         let put = trial.bytes_put().map(|(address, _)| address);
         for address in put.chain(written) {
-            self.put(address, ground.byte(address));
+            self.put(address, memories.byte(address));
         }
-        steps
+        refusal
     }
 
     /// Does a step, with a request before it where the call is one, and gives the
@@ -137,7 +142,7 @@ impl Desk {
         call: Call,
         record: &mut [u8],
         hand: &mut impl FnMut(&Done, Seen),
-    ) -> Option<Vec<u32>> {
+    ) -> Result<Vec<u32>, u8> {
         let asked = match call {
             Call::Request(level, vector) => Some(self.ask(record, level, vector)?),
             _ => None,
@@ -145,9 +150,10 @@ impl Desk {
         let pushed = asked.as_ref().map(|_| self.ram.clone());
         let before = record.to_vec();
         let code = self.code(&before);
-        if LIBRARY.step(record, &mut self.ram, &self.rom) != (0, 0) {
+        let answer = LIBRARY.step(record, &mut self.ram, &self.rom);
+        if answer != (0, 0) {
             self.ram.copy_from_slice(&self.past);
-            return None;
+            return Err(answer.0);
         }
         let memory = changes(&self.past, &self.ram);
         let done = Done {
@@ -161,21 +167,21 @@ impl Desk {
         for (&address, &byte) in &memory {
             self.past[address as usize] = byte;
         }
-        Some(memory.into_keys().collect())
+        Ok(memory.into_keys().collect())
     }
 
-    /// Offers a request; `None` if it is refused.
-    fn ask(&mut self, record: &mut [u8], level: u32, vector: u32) -> Option<Asked> {
+    /// Offers a request.
+    fn ask(&mut self, record: &mut [u8], level: u32, vector: u32) -> Result<Asked, u8> {
         let mask = u32::from(aim::mask(record));
         let bytes = [0, 1, 2, 3].map(|i| byte_at(&self.ram, &self.rom, vector + i));
         match LIBRARY.request(record, &mut self.ram, &self.rom, level, vector) {
-            (taken, 0, 0) => Some(Asked {
+            (taken, 0, 0) => Ok(Asked {
                 level,
                 taken: taken == 1,
                 mask,
                 vector: u32::from_le_bytes(bytes),
             }),
-            _ => None,
+            (_, number, _) => Err(number),
         }
     }
 

@@ -7,18 +7,15 @@ use crate::plan::{Batch, Work};
 use crate::rows::ROWS;
 use crate::seen::Seen;
 use crate::tally::Tally;
-use crate::trial::{Ground, Trial, MOST};
+use crate::trial::{Memories, Trial, MOST};
 use crate::wrong::Slip;
-use draw::case::Case;
 use draw::chance::Chance;
 use draw::image::hex;
 use std::collections::BTreeMap;
 use std::io;
 
-/// How often a state is drawn anew for a code before it is given up.
+/// How often a state is drawn anew for a case before it is given up.
 const MOST_DRAWS: u32 = 200;
-/// How many differences a batch prints.
-const MOST_PRINTED: usize = 3;
 
 /// What the witness must have after a step.
 struct Expected {
@@ -32,7 +29,7 @@ struct Expected {
 }
 
 /// What the batches share.
-pub struct House {
+pub struct Setting {
     pub codes: Vec<Code>,
     pub slips: Vec<Slip>,
     pub seed: u64,
@@ -40,60 +37,53 @@ pub struct House {
 
 /// A batch that the library has done.
 pub struct Prepared<'a> {
-    house: &'a House,
+    setting: &'a Setting,
     name: &'a str,
-    ground: Ground,
+    memories: Memories,
     trials: Vec<(Trial, Vec<Expected>)>,
     refused: u64,
+    given_up: u64,
+    /// Refusals that there should not be, each with its case.
+    wrongly: Vec<String>,
 }
 
 impl<'a> Prepared<'a> {
-    /// Draws a batch and lets the library do it. `None` if there is no such case.
-    pub fn new(house: &'a House, batch: &'a Batch) -> Option<Prepared<'a>> {
-        let mut chance = Chance::for_purpose(house.seed, &batch.name);
-        let (ground, again) = match &batch.work {
-            Work::Again(text) => {
-                let (ground, trial) = Trial::of_case(Case::parse(text)?)?;
-                (ground, Some(trial))
-            }
-            _ => (Ground::drawn(&mut chance), None),
+    /// Draws a batch and lets the library do it.
+    pub fn new(setting: &'a Setting, batch: &'a Batch) -> Prepared<'a> {
+        let mut chance = Chance::for_purpose(setting.seed, &batch.name);
+        let memories = match &batch.work {
+            Work::Again(memories, _) => memories.clone(),
+            _ => Memories::drawn(&mut chance),
         };
-        let mut desk = Desk::on(&ground);
+        let mut desk = Desk::on(&memories);
         let mut prepared = Prepared {
-            house,
+            setting,
             name: &batch.name,
-            ground,
+            memories,
             trials: Vec::new(),
             refused: 0,
+            given_up: 0,
+            wrongly: Vec::new(),
         };
-        match again {
-            Some(trial) => _ = prepared.add(&mut desk, trial),
-            None => prepared.fill(&mut desk, &mut chance, &batch.work),
-        }
-        Some(prepared)
+        prepared.fill(&mut desk, &mut chance, &batch.work);
+        prepared
     }
 
     fn fill(&mut self, desk: &mut Desk, chance: &mut Chance, work: &Work) {
         match work.clone() {
-            Work::Steps(range, times) => {
-                for index in range {
-                    self.draw_code(desk, times, index, |code, _, bank| code.trial(chance, bank));
-                }
-            }
-            Work::Repeats(range, times) => {
-                for index in range {
-                    self.draw_code(desk, times, index, |code, ground, bank| {
-                        code.repeated(chance, ground, bank)
-                    });
-                }
-            }
+            Work::Steps(range, times) => range.for_each(|index| {
+                self.draw_code(desk, times, index, |code, _, bank| code.trial(chance, bank));
+            }),
+            Work::Repeats(range, times) => range.for_each(|index| {
+                self.draw_code(desk, times, index, |code, memories, bank| {
+                    code.repeated(chance, memories, bank)
+                });
+            }),
             Work::Requests(times) => self.draw(desk, times, |_, _| codes::request(chance)),
-            Work::Every(every, numbers) => {
-                for number in numbers {
-                    self.draw(desk, 1, |_, _| (every.trial)(chance, number));
-                }
-            }
-            Work::Again(_) => {}
+            Work::Every(every, numbers) => numbers.for_each(|number| {
+                self.draw(desk, 1, |_, _| (every.trial)(chance, number));
+            }),
+            Work::Again(_, trial) => _ = self.settle(desk, trial),
         }
     }
 
@@ -103,44 +93,57 @@ impl<'a> Prepared<'a> {
         desk: &mut Desk,
         times: u32,
         index: usize,
-        mut drawn: impl FnMut(&Code, &Ground, u8) -> Trial,
+        mut drawn: impl FnMut(&Code, &Memories, u8) -> Trial,
     ) {
-        let code = &self.house.codes[index];
-        self.draw(desk, times, |ground, time| Trial {
+        let code = &self.setting.codes[index];
+        self.draw(desk, times, |memories, time| Trial {
             code: Some(index),
-            ..drawn(code, ground, (time % 4) as u8)
+            ..drawn(code, memories, (time % 4) as u8)
         });
     }
 
-    /// Draws trials until so many were not refused, or it has to be given up.
-    fn draw(&mut self, desk: &mut Desk, times: u32, mut drawn: impl FnMut(&Ground, u32) -> Trial) {
+    /// Draws so many cases, each anew until it is settled or has to be given up.
+    fn draw(
+        &mut self,
+        desk: &mut Desk,
+        times: u32,
+        mut drawn: impl FnMut(&Memories, u32) -> Trial,
+    ) {
         for time in 0..times {
-            for _ in 0..MOST_DRAWS {
-                let trial = drawn(&self.ground, time);
-                if self.add(desk, trial) {
-                    break;
-                }
-            }
+            let mut draws = 0..MOST_DRAWS;
+            let settled = draws.any(|_| {
+                let trial = drawn(&self.memories, time);
+                self.settle(desk, trial)
+            });
+            self.given_up += u64::from(!settled);
         }
     }
 
-    /// Lets the library do a trial; whether it did a step.
-    fn add(&mut self, desk: &mut Desk, trial: Trial) -> bool {
+    /// Lets the library do a trial. Whether it is settled: a step was done, or it was
+    /// refused as it should not be.
+    fn settle(&mut self, desk: &mut Desk, trial: Trial) -> bool {
         let mut steps = Vec::new();
-        desk.work(&self.ground, &trial, |done, ours| {
-            steps.push(expect(done, ours, &self.house.slips));
+        let refusal = desk.work(&self.memories, &trial, |done, ours| {
+            steps.push(expect(done, ours, &self.setting.slips));
         });
-        let did = !steps.is_empty();
-        if did {
+        if !steps.is_empty() {
             self.trials.push((trial, steps));
+            return true;
         }
-        self.refused += u64::from(!did);
-        did
+        self.refused += 1;
+        let wrongly = refusal.filter(|&number| !trial.may_be_refused_with(number));
+        if let Some(number) = wrongly {
+            let case = trial.case(&self.memories).text();
+            let text = format!("REFUSED with {number} in {}: '{case}'", self.name);
+            self.wrongly.push(text);
+        }
+        wrongly.is_some()
     }
 
-    /// How many cases the library did.
-    pub fn cases(&self) -> usize {
-        self.trials.len()
+    /// Whether the library did a case of each that was asked for, and refused none that
+    /// it should not.
+    pub fn is_whole(&self) -> bool {
+        self.given_up == 0 && self.wrongly.is_empty()
     }
 
     /// Hands the batch to the witness.
@@ -149,18 +152,21 @@ impl<'a> Prepared<'a> {
             .trials
             .iter()
             .map(|(trial, steps)| (trial, steps.len()));
-        mame.ask(&self.ground, trials)
+        mame.ask(&self.memories, trials)
     }
 
     /// Reads the witness's answers and compares.
     pub fn compare(&self, mame: &mut Mame) -> io::Result<Tally> {
-        let mut tally = Tally::new(self.house.slips.len());
+        let mut tally = Tally::new(self.setting.slips.len());
         tally.refused = self.refused;
+        tally.given_up = self.given_up;
+        tally.unexplained = self.wrongly.len() as u64;
+        tally.printed = self.wrongly.clone();
         for (trial, steps) in &self.trials {
             tally.count(trial);
             let mut memory: BTreeMap<u32, u8> = trial.bytes_put().collect();
             for (number, expected) in steps.iter().enumerate() {
-                let seen = settle(&self.ground, &mut memory, mame.answer()?);
+                let seen = changed(&self.memories, &mut memory, mame.answer()?);
                 self.judge(&mut tally, trial, number, expected, &seen);
             }
         }
@@ -181,16 +187,14 @@ impl<'a> Prepared<'a> {
             return;
         }
         tally.unexplained += 1;
-        if tally.printed.len() < MOST_PRINTED {
-            tally.printed.push(format!(
-                "DIFFERENCE in {}, step {}, code {}\n{}  to do it again: --case '{}'",
-                self.name,
-                step + 1,
-                hex(&must.code),
-                must.seen.differences("must be", seen, "is"),
-                trial.case(&self.ground).text()
-            ));
-        }
+        tally.printed.push(format!(
+            "DIFFERENCE in {}, step {}, code {}\n{}  to do it again: --case '{}'",
+            self.name,
+            step + 1,
+            hex(&must.code),
+            must.seen.differences("must be", seen, "is"),
+            trial.case(&self.memories).text()
+        ));
     }
 }
 
@@ -215,12 +219,12 @@ fn expect(done: &Done, ours: Seen, slips: &[Slip]) -> Expected {
 
 /// What the witness has, with the bytes of memory that are not as before; these
 /// are put down for the next step. A store where there is no RAM always counts.
-fn settle(ground: &Ground, memory: &mut BTreeMap<u32, u8>, answer: Answer) -> Seen {
+fn changed(memories: &Memories, memory: &mut BTreeMap<u32, u8>, answer: Answer) -> Seen {
     let mut seen = answer.seen;
     let stored: BTreeMap<u32, u8> = answer.stored.into_iter().collect();
     for (&address, &byte) in &stored {
         let put = memory.get(&address).copied();
-        let before = put.unwrap_or_else(|| ground.byte(address));
+        let before = put.unwrap_or_else(|| memories.byte(address));
         if address as usize >= MOST || before != byte {
             seen.memory.insert(address, byte);
         }

@@ -15,7 +15,7 @@
 //! The first compares; `--rounds` draws the drawn cases that many times over,
 //! `--whole` divides every word by every byte too, and `--wrong` sees that wrong
 //! answers would show. `--case` does a printed case again. `--speed` times both on the
-//! same loops; the next two are for who counts machine instructions. `--rows` prints
+//! same loops; the next two are for those who count machine instructions. `--rows` prints
 //! the table of where the witness parts from the book, as `rows.md` has it. `--brief`
 //! asks no witness: it sees that every listed code has a case which the library does.
 
@@ -38,7 +38,8 @@ mod trial;
 mod wrong;
 
 use crew::side_by_side;
-use hold::{House, Prepared};
+use draw::case::Case;
+use hold::{Prepared, Setting};
 use mame::Mame;
 use plan::{Batch, Work};
 use rows::ROWS;
@@ -47,6 +48,7 @@ use std::path::Path;
 use std::process::ExitCode;
 use std::time::{Duration, Instant};
 use tally::Tally;
+use trial::Trial;
 
 const SEED: u64 = 900;
 /// The version that the rows were seen to hold of.
@@ -69,19 +71,13 @@ fn obey(words: &[&str]) -> io::Result<bool> {
     let done = |()| true;
     match *words {
         ["--rows"] => Ok(print_rows()),
-        ["--brief"] => brief(),
+        ["--brief"] => Ok(brief()),
         ["--ours", name, steps] => speed::ours(named(name)?, number(steps)?).map(done),
         [folder, "--speed"] => speed::table(Path::new(folder)).map(done),
         [folder, "--theirs", name, count] => {
             speed::theirs(Path::new(folder), named(name)?, number(count)?).map(done)
         }
-        [folder, "--case", text] => {
-            let batch = Batch {
-                name: "the case".to_string(),
-                work: Work::Again(text.to_string()),
-            };
-            again(Path::new(folder), batch)
-        }
+        [folder, "--case", text] => again(Path::new(folder), text),
         [folder, ref rest @ ..] if !folder.starts_with('-') => run(Path::new(folder), rest),
         _ => Err(trouble("see the head of its source for what it takes")),
     }
@@ -105,7 +101,8 @@ const ROWS_HEAD: &str = "\
 # Where the witness parts from the book
 
 The witness is MAME 0.251 (outside/README.md). A row says what the book has and where, and exactly what the witness has
-instead. 01 and 02 are the request's documents, 000 and 003 Toshiba's books. `witness --rows` printed this.
+instead. 01 and 02 are the request's documents, 000 and 003 Toshiba's books, with lines of their text as they were given to us.
+`witness --rows` printed this.
 
 | Code | The book | The witness |
 |---|---|---|";
@@ -118,17 +115,23 @@ fn print_rows() -> bool {
     true
 }
 
-fn house(seed: u64, wrong: bool) -> House {
-    House {
+fn setting(seed: u64, wrong: bool) -> Setting {
+    Setting {
         codes: codes::listed(),
         slips: if wrong { wrong::slips() } else { Vec::new() },
         seed,
     }
 }
 
-fn again(folder: &Path, batch: Batch) -> io::Result<bool> {
-    let house = house(SEED, false);
-    let tally = side_by_side(folder, &house, &[batch])?;
+fn again(folder: &Path, text: &str) -> io::Result<bool> {
+    let case = Case::parse(text).and_then(Trial::of_case);
+    let (memories, trial) = case.ok_or_else(|| trouble("this is no case of the witness's"))?;
+    let batch = Batch {
+        name: "the case".to_string(),
+        work: Work::Again(memories, trial),
+    };
+    let setting = setting(SEED, false);
+    let tally = side_by_side(folder, &setting, &[batch])?;
     tell_differences(&tally);
     let (steps, unexplained) = (tally.steps, tally.unexplained);
     println!("witness: {steps} steps compared, {unexplained} differences left unexplained");
@@ -152,25 +155,28 @@ fn run(folder: &Path, words: &[&str]) -> io::Result<bool> {
             _ => return Err(trouble(&format!("{word} is not known"))),
         }
     }
-    let house = house(seed, wrong);
-    let plan = plan::plan(&house.codes, rounds, whole);
+    let setting = setting(seed, wrong);
+    let plan = plan::plan(&setting.codes, rounds, whole);
     println!(
         "witness: seed {seed}, rounds {rounds}, {} batches",
         plan.len()
     );
     let start = Instant::now();
     let reset = reset_agrees(folder)?;
-    let tally = side_by_side(folder, &house, &plan)?;
+    let tally = side_by_side(folder, &setting, &plan)?;
     tell_differences(&tally);
     tell_rows(&tally);
-    let caught = tell_slips(&house, &tally);
-    Ok(tell_all(&house, &tally, start.elapsed()) && caught && reset)
+    let caught = tell_slips(&setting, &tally);
+    Ok(tell_all(&setting, &tally, start.elapsed()) && caught && reset)
 }
 
 /// Whether both are the same after a reset.
 fn reset_agrees(folder: &Path) -> io::Result<bool> {
     let mut mame = Mame::start(folder)?;
-    println!("witness: MAME {}; the rows are of {ROWS_OF}", mame.version);
+    println!("witness: MAME {}", mame.version);
+    if mame.version != ROWS_OF {
+        println!("witness: the table of rows is of {ROWS_OF}, and may not fit");
+    }
     let (rom, seen) = mame.reset()?;
     mame.end()?;
     let ours = desk::reset(&rom).ok_or_else(|| trouble("the library refuses the reset"))?;
@@ -201,8 +207,8 @@ fn tell_rows(tally: &Tally) {
 }
 
 /// Tells which wrong answers the witness would have shown, and whether all.
-fn tell_slips(house: &House, tally: &Tally) -> bool {
-    for (slip, seen) in house.slips.iter().zip(&tally.slips) {
+fn tell_slips(setting: &Setting, tally: &Tally) -> bool {
+    for (slip, seen) in setting.slips.iter().zip(&tally.slips) {
         match seen.times {
             0 => println!("NOT CAUGHT: {}", slip.what),
             times => println!(
@@ -215,12 +221,12 @@ fn tell_slips(house: &House, tally: &Tally) -> bool {
 }
 
 /// Tells the figures of a run, and whether it is right.
-fn tell_all(house: &House, tally: &Tally, took: Duration) -> bool {
-    let (covered, listed) = (tally.codes.len(), house.codes.len());
+fn tell_all(setting: &Setting, tally: &Tally, took: Duration) -> bool {
+    let (covered, listed) = (tally.codes.len(), setting.codes.len());
     let met = tally.rows.iter().filter(|&&times| times > 0).count();
     println!(
-        "witness: {} cases, {} of them requests; {} steps compared; {} draws that the library refuses",
-        tally.cases, tally.requests, tally.steps, tally.refused
+        "witness: {} cases, {} of them requests; {} steps compared; {} draws were refused and drawn anew, {} cases given up",
+        tally.cases, tally.requests, tally.steps, tally.refused, tally.given_up
     );
     println!(
         "witness: {covered} of {listed} listed codes covered, each by {} cases or more in each bank; {met} of {} rows met",
@@ -232,20 +238,23 @@ fn tell_all(house: &House, tally: &Tally, took: Duration) -> bool {
         tally.unexplained,
         took.as_secs_f64()
     );
-    tally.unexplained == 0 && covered == listed && tally.fewest() > 0 && met == ROWS.len()
+    let all_done = covered == listed && tally.fewest() > 0 && tally.given_up == 0;
+    tally.unexplained == 0 && all_done && met == ROWS.len()
 }
 
-/// Sees, without a witness, that every listed code has a case which the library does.
-fn brief() -> io::Result<bool> {
-    let house = house(SEED, true);
+/// Sees, without a witness, that every listed code has a case which the library does
+/// in each bank.
+fn brief() -> bool {
+    let setting = setting(SEED, false);
+    let listed = setting.codes.len();
     let batch = Batch {
         name: "brief".to_string(),
-        work: Work::Steps(0..house.codes.len(), 1),
+        work: Work::Steps(0..listed, 4),
     };
-    let done = Prepared::new(&house, &batch).map_or(0, |prepared| prepared.cases());
-    println!(
-        "witness: {done} of {} listed codes have a case",
-        house.codes.len()
-    );
-    Ok(done == house.codes.len())
+    let whole = Prepared::new(&setting, &batch).is_whole();
+    match whole {
+        true => println!("witness: each of {listed} listed codes has its cases"),
+        false => println!("witness: not every listed code has its cases"),
+    }
+    whole
 }

@@ -21,7 +21,7 @@
 //! what was stored and the others are the address.
 
 use crate::seen::Seen;
-use crate::trial::{Ground, Trial, MOST};
+use crate::trial::{Memories, Trial, MOST};
 use draw::case::Call;
 use second::record::{BANK_SIZE, COUNTER, F_PRIME, SHARED, SR};
 use std::collections::BTreeMap;
@@ -43,13 +43,13 @@ const VECTORS: [u8; 23] = [
     0x68, 0x6C, 0x74, 0x78, 0x7C, 0x80, 0x20,
 ];
 const NO_SOURCE: u8 = 255;
-/// The level of that line. No other source can have it.
-pub const UNMASKED: u32 = 7;
+/// The level of that line, which no other source can have.
+pub const HIGHEST_LEVEL: u32 = 7;
 
 /// The vector addresses of a level.
 pub fn vectors(level: u32) -> Vec<u32> {
     let (last, others) = VECTORS.split_last().expect("some sources");
-    let lows = if level == UNMASKED {
+    let lows = if level == HIGHEST_LEVEL {
         std::slice::from_ref(last)
     } else {
         others
@@ -130,12 +130,12 @@ impl Mame {
     /// meanwhile.
     pub fn ask<'a>(
         &mut self,
-        ground: &Ground,
+        memories: &Memories,
         trials: impl ExactSizeIterator<Item = (&'a Trial, usize)>,
     ) -> io::Result<()> {
         let mut message = Vec::new();
-        message.extend_from_slice(&ground.ram.bytes);
-        message.extend_from_slice(&ground.rom.bytes);
+        message.extend_from_slice(&memories.ram.bytes);
+        message.extend_from_slice(&memories.rom.bytes);
         message.extend_from_slice(&(trials.len() as u32).to_le_bytes());
         for (trial, steps) in trials {
             lay(&mut message, trial, steps);

@@ -79,11 +79,10 @@ impl Division {
         (divisor != 0).then(|| (dividend / divisor, dividend % divisor))
     }
 
-    /// Whether a quotient fits its half.
-    pub fn fits(&self, quotient: i64) -> bool {
-        let all = 1 << self.bits();
-        let least = if self.scale.signed { -all / 2 } else { 0 };
-        (least..least + all).contains(&quotient)
+    /// Whether there is a quotient and it fits its half.
+    pub fn fits(&self) -> bool {
+        let (dividend, divisor) = self.numbers();
+        self.scale.fits(self.size, dividend, divisor)
     }
 
     /// The low bits of both in the destination, where it should have been kept.
@@ -118,19 +117,32 @@ impl Modulo {
         self.step.by > 0
     }
 
+    /// How far it steps.
+    pub fn by(&self) -> u16 {
+        self.step.by.unsigned_abs() as u16
+    }
+
+    pub fn number(&self) -> u16 {
+        self.last + self.by()
+    }
+
+    /// The value before the step.
+    pub fn before(&self, done: &Done) -> u16 {
+        value(done.before, self.place.clone()) as u16
+    }
+
     /// A value that turns where it has all of these bits, and should have turned at
     /// the end of its table.
     pub fn turned_by(&self, done: &Done, bits: u16) -> Apart {
-        let before = value(done.before, self.place.clone()) as u16;
-        let by = self.step.by.unsigned_abs() as u16;
+        let before = self.before(done);
         let turns = before & bits == bits;
         let left = match (self.goes_up(), turns) {
             (true, true) => before.wrapping_sub(self.last),
-            (true, false) => before.wrapping_add(by),
+            (true, false) => before.wrapping_add(self.by()),
             (false, true) => before.wrapping_add(self.last),
-            (false, false) => before.wrapping_sub(by),
+            (false, false) => before.wrapping_sub(self.by()),
         };
-        let book = self.step.after(before, self.last + by);
+        let book = self.step.after(before, self.number());
         Apart::register(self.place.clone(), u32::from(book), u32::from(left))
     }
 }

@@ -2,6 +2,7 @@
 
 use crate::codes::{self, Code};
 use crate::every::{Every, EVERY};
+use crate::trial::{Memories, Trial};
 use std::ops::Range;
 
 /// How many cases each listed code has in a round, and about how many each kind of
@@ -27,7 +28,7 @@ pub enum Work {
     /// Trials of which none is left out, by their numbers.
     Every(&'static Every, Range<u32>),
     /// A printed case.
-    Again(String),
+    Again(Memories, Trial),
 }
 
 pub struct Batch {

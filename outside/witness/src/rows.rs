@@ -2,11 +2,11 @@
 //!
 //! A row says in which bits the witness has something else than the book says, and
 //! no more: these are turned over in what the library leaves. So a row explains no
-//! wrong answer of the library away, and with it every bit is still compared. Line
-//! numbers are 000's.
+//! wrong answer of the library away, and with it every bit is still compared. A
+//! number behind 000 or 003 is a line of that book's text.
 
 use crate::desk::Done;
-use crate::operands::{division, modulo, register_form, Division};
+use crate::operands::{division, modulo, register_form, Division, Modulo};
 use crate::seen::{value, Seen, H, V};
 use second::record::F;
 use std::ops::Range;
@@ -76,13 +76,13 @@ pub struct Row {
 pub const ROWS: &[Row] = &[
     Row {
         code: "INCF, DECF",
-        book: "the bank goes round in four (01, the listed codes); bit 10 of SR stays 0 (003)",
+        book: "the bank goes round in four (01, the listed codes; 003, 306), and bit 10 of SR stays 0 (003, 185)",
         witness: "bits 8 to 10 of SR go round in eight; the registers used, in four",
         says: bank_of_eight,
     },
     Row {
         code: "LDF 4 to 7",
-        book: "sets the low two bits alone (02, K2; 003)",
+        book: "sets the low two bits alone (02, K2), and bit 10 of SR stays 0 (003, 185)",
         witness: "SR has all three bits; the registers used are those of the low two",
         says: bank_loaded_whole,
     },
@@ -106,13 +106,13 @@ pub const ROWS: &[Row] = &[
     },
     Row {
         code: "SLA SRA SLL SRL of longs",
-        book: "V is undefined (000, the four pages); 0 is the house's (01, flags)",
+        book: "V is undefined (000, 4491, 4536, 4579 and 4631); 0 is the house's (01, flags)",
         witness: "V is the parity of all 32 bits",
         says: parity_of_long,
     },
     Row {
         code: "CPI CPIR CPD CPDR",
-        book: "H is the borrow (000, the four pages; 01, flags)",
+        book: "H is the borrow (000, 1419, 1461, 1506 and 1548; 01, flags)",
         witness: "H is 0",
         says: no_borrow,
     },
@@ -130,33 +130,33 @@ pub const ROWS: &[Row] = &[
     },
     Row {
         code: "DIV, DIVS by 0",
-        book: "no value is given (000, the two pages), so the destination is kept (02, K7)",
-        witness: "the low half is the old high half with every bit turned over, the high half the old low half, or all ones for DIVS of a negative dividend",
+        book: "V is 1 and no value is given (000, 2334 and 2449), so the destination is kept (02, K7)",
+        witness: "V is 1; the low half is the old high half with every bit turned over, the high half the old low half, or all ones for DIVS of a negative dividend",
         says: divided_by_zero,
     },
     Row {
         code: "DIV, the quotient does not fit",
-        book: "no value is given (000, the page), so the destination is kept (02, K7)",
-        witness: "the low bits of the quotient, and the remainder; but of a word x by a byte y with a quotient from 512 on, \
+        book: "V is 1 and no value is given (000, 2334), so the destination is kept (02, K7)",
+        witness: "V is 1; the low bits of the quotient, and the remainder; but of a word x by a byte y with a quotient from 512 on, \
                   where d is x - 512y and s is 256 - y, the low bits of 511 - d div s, and d mod s + y",
         says: quotient_cut,
     },
     Row {
         code: "DIVS, the quotient does not fit",
-        book: "V is 1; no value is given (000, the page), so the destination is kept (02, K7)",
+        book: "V is 1 and no value is given (000, 2449), so the destination is kept (02, K7)",
         witness: "the low bits of quotient and remainder; V is 1 only where the quotient is above 255, for words 65,535: never where it is negative",
         says: signed_quotient_cut,
     },
     Row {
         code: "MINC",
-        book: "turns where the value modulo the number is the number less the step (000, the page)",
-        witness: "turns where the value has every bit of the number less the step; another thing only where the step does not divide the value",
+        book: "turns where the value modulo the number is the number less the step (000, 2570, 2612 and 2654)",
+        witness: "for a value that the step does not divide: turns where it has every bit of the number less the step; else as the book",
         says: minc_by_bits,
     },
     Row {
         code: "MDEC",
-        book: "turns where the value modulo the number is 0 (000, the page and its examples)",
-        witness: "turns where the value has every bit of the number less the step",
+        book: "turns where the value modulo the number is 0, and nowhere else (000, 2698, 2742 and 2786, and its examples)",
+        witness: "turns where the value has every bit of the number less the step, and nowhere else",
         says: mdec_by_bits,
     },
     Row {
@@ -280,9 +280,9 @@ fn divided_by_zero(done: &Done, _: &Seen) -> Apart {
 
 /// A division whose quotient does not fit, with that and the remainder.
 fn overflow(done: &Done, signed: bool) -> Option<(Division, i64, i64)> {
-    let division = division(done).filter(|division| division.scale.signed == signed)?;
+    let division = division(done).filter(|one| one.scale.signed == signed && !one.fits())?;
     let (quotient, remainder) = division.exact()?;
-    (!division.fits(quotient)).then_some((division, quotient, remainder))
+    Some((division, quotient, remainder))
 }
 
 fn quotient_cut(done: &Done, _: &Seen) -> Apart {
@@ -310,12 +310,17 @@ fn signed_quotient_cut(done: &Done, _: &Seen) -> Apart {
 }
 
 fn minc_by_bits(done: &Done, _: &Seen) -> Apart {
-    let minc = modulo(done).filter(|modulo| modulo.goes_up());
+    let between = |one: &Modulo| one.goes_up() && one.before(done) % one.by() != 0;
+    let minc = modulo(done).filter(between);
     minc.map_or_else(Apart::default, |minc| minc.turned_by(done, minc.last))
 }
 
 fn mdec_by_bits(done: &Done, _: &Seen) -> Apart {
-    let mdec = modulo(done).filter(|modulo| !modulo.goes_up());
+    let turns = |one: &Modulo| {
+        let value = one.before(done);
+        !one.goes_up() && (value % one.number() == 0 || value & one.last == one.last)
+    };
+    let mdec = modulo(done).filter(turns);
     mdec.map_or_else(Apart::default, |mdec| mdec.turned_by(done, mdec.last))
 }
 

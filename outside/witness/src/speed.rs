@@ -5,18 +5,15 @@
 //! steps: it must come to the same registers, counter and RAM. (F is left out: there
 //! the witness parts from the book.)
 
+use crate::desk::LIBRARY;
 use crate::loops::{self, Loop, LOOPS};
 use crate::mame::{Mame, Stretch, BOARD_LENGTH, BOARD_RAM};
 use crate::trouble;
-use library::{Empty, Library};
 use second::record::COUNTER;
 use std::io;
 use std::path::Path;
 use std::time::Instant;
 
-const LIBRARY: Library = Library {
-    empty: Empty::Dangling,
-};
 /// The most steps of a call.
 const CALL: u64 = 1_000_000;
 const STRETCHES: u32 = 31;
@@ -128,7 +125,7 @@ fn middle(mut paces: Vec<f64>) -> f64 {
 }
 
 /// Lets the witness do so many stretches of a loop, and prints how many steps they
-/// were: for who counts its machine instructions.
+/// were: for those who count its machine instructions.
 pub fn theirs(folder: &Path, one: &Loop, stretches: u32) -> io::Result<()> {
     let mut mame = Mame::start(folder)?;
     let mut ours = Ours::at_the_start(one);
@@ -143,7 +140,7 @@ pub fn theirs(folder: &Path, one: &Loop, stretches: u32) -> io::Result<()> {
     Ok(())
 }
 
-/// Lets the library do so many steps of a loop: for who counts its machine
+/// Lets the library do so many steps of a loop: for those who count its machine
 /// instructions.
 pub fn ours(one: &Loop, steps: u64) -> io::Result<()> {
     Ours::at_the_start(one).run(steps)

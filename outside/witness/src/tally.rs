@@ -33,8 +33,11 @@ pub struct Tally {
     pub steps: u64,
     /// Draws that the library refuses, so that there is nothing to compare.
     pub refused: u64,
+    /// Cases for which every draw was refused.
+    pub given_up: u64,
     pub requests: u64,
-    /// Steps in which the witness has something else than it must have.
+    /// Steps in which the witness has something else than it must have, and refusals
+    /// that there should not be.
     pub unexplained: u64,
     /// How often each row was met.
     pub rows: Vec<u64>,
@@ -51,6 +54,7 @@ impl Tally {
             cases: 0,
             steps: 0,
             refused: 0,
+            given_up: 0,
             requests: 0,
             unexplained: 0,
             rows: vec![0; ROWS.len()],
@@ -78,6 +82,7 @@ impl Tally {
         self.cases += other.cases;
         self.steps += other.steps;
         self.refused += other.refused;
+        self.given_up += other.given_up;
         self.requests += other.requests;
         self.unexplained += other.unexplained;
         for (row, times) in self.rows.iter_mut().zip(other.rows) {

@@ -5,7 +5,7 @@ use draw::aim::Layout;
 use draw::case::{Call, Case};
 use draw::chance::Chance;
 use draw::image::Image;
-use second::record::BANK;
+use second::record::{BANK, LENGTH};
 
 pub const MOST: usize = second::MOST_BYTES;
 /// The most steps of a trial: a byte says how many to the witness.
@@ -18,14 +18,15 @@ pub const FULL: Layout = Layout {
 };
 
 /// The two memories under a batch of trials.
-pub struct Ground {
+#[derive(Clone)]
+pub struct Memories {
     pub ram: Image,
     pub rom: Image,
 }
 
-impl Ground {
-    pub fn drawn(chance: &mut Chance) -> Ground {
-        Ground {
+impl Memories {
+    pub fn drawn(chance: &mut Chance) -> Memories {
+        Memories {
             ram: Image::turning(MOST, chance.wide()),
             rom: Image::turning(MOST, chance.wide()),
         }
@@ -60,6 +61,16 @@ pub struct Trial {
 }
 
 impl Trial {
+    /// The numbers that it may be refused with: code that the end of a memory cuts, an
+    /// operand that is missing, a store to ROM, a marked flag. All codes are listed, but
+    /// what is put for a request may lie across its code.
+    pub fn may_be_refused_with(&self, number: u8) -> bool {
+        match self.call {
+            Call::Request(..) => [3, 4, 5, 6, 8].contains(&number),
+            _ => [3, 5, 6, 8].contains(&number),
+        }
+    }
+
     /// How many steps are asked for.
     pub fn steps(&self) -> u32 {
         match self.call {
@@ -85,8 +96,8 @@ impl Trial {
     }
 
     /// The same with everything it stands on, to be printed.
-    pub fn case(&self, ground: &Ground) -> Case {
-        let (mut ram, mut rom) = (ground.ram.clone(), ground.rom.clone());
+    pub fn case(&self, memories: &Memories) -> Case {
+        let (mut ram, mut rom) = (memories.ram.clone(), memories.rom.clone());
         for (address, byte) in self.bytes_put() {
             match address.checked_sub(FULL.rom_start()) {
                 Some(place) => rom.put(place as usize, &[byte]),
@@ -101,8 +112,8 @@ impl Trial {
         }
     }
 
-    /// The trial and the ground that a printed case tells of.
-    pub fn of_case(case: Case) -> Option<(Ground, Trial)> {
+    /// The trial and the memories that a printed case tells of, if it can be one here.
+    pub fn of_case(case: Case) -> Option<(Memories, Trial)> {
         let full = case.ram.len() == MOST && case.rom.len() == MOST;
         let known = match case.call {
             Call::Run(steps) => steps <= MOST_STEPS,
@@ -114,10 +125,11 @@ impl Trial {
             puts: Vec::new(),
             code: None,
         };
-        let ground = Ground {
+        let memories = Memories {
             ram: case.ram,
             rom: case.rom,
         };
-        (full && known).then_some((ground, trial))
+        let whole = trial.record.len() == LENGTH;
+        (full && known && whole).then_some((memories, trial))
     }
 }

@@ -84,9 +84,9 @@ pub fn slips() -> Vec<Slip> {
         what: format!("no row for {}", left_out.code),
         wrong: Wrong::Without(row),
     });
-    let changed = OTHER_ROWS.iter().map(|&(code, what, gives)| Slip {
+    let changed = OTHER_ROWS.iter().map(|&(code, what, says)| Slip {
         what: format!("the row for {code}: {what}"),
-        wrong: Wrong::Row(rows::place_of(code), gives),
+        wrong: Wrong::Row(rows::place_of(code), says),
     });
     answers.chain(without).chain(changed).collect()
 }
@@ -178,14 +178,15 @@ fn push_by_two(done: &Done, seen: &mut Seen) {
 }
 
 fn remainder_of_divisor(done: &Done, seen: &mut Seen) {
-    let Some(division) = division(done).filter(|one| one.scale.signed) else {
-        return;
-    };
-    let Some((quotient, remainder)) = division.exact() else {
+    let signed = division(done).filter(|one| one.scale.signed && one.fits());
+    let Some((division, (quotient, remainder))) = signed.and_then(|one| {
+        let exact = one.exact()?;
+        Some((one, exact))
+    }) else {
         return;
     };
     let (_, divisor) = division.numbers();
-    if division.fits(quotient) && remainder * divisor < 0 {
+    if remainder * divisor < 0 {
         let right = division.leaves(quotient, remainder);
         right.turn_over(done, seen);
         let wrong = division.leaves(quotient, remainder + divisor);
@@ -201,7 +202,7 @@ fn zero_divisor_clears(done: &Done, seen: &mut Seen) {
 
 fn goes_on(done: &Done, seen: &mut Seen, up: bool) {
     if let Some(modulo) = modulo(done).filter(|modulo| modulo.goes_up() == up) {
-        let on = value(done.before, modulo.place.clone()) as i32 + modulo.step.by;
+        let on = i32::from(modulo.before(done)) + modulo.step.by;
         seen.registers[modulo.place].copy_from_slice(&(on as u16).to_le_bytes());
     }
 }
