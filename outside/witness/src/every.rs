@@ -82,20 +82,23 @@ fn change(chance: &mut Chance, number: u32) -> Trial {
     trial
 }
 
-/// C by A to BC: eight bits each, and whether with a sign.
+/// C by A to BC.
 fn product(chance: &mut Chance, number: u32) -> Trial {
-    let signed = (number >> 16) as u8;
-    let mut trial = codes::aimed(chance, vec![WITH_A, 0x40 | signed << 3 | C]);
-    set(&mut trial, Width::Byte, C, number);
-    set(&mut trial, Width::Byte, A, number >> 8);
-    trial
+    by_a(chance, 0x40, Width::Byte, C, number)
 }
 
-/// BC by A: sixteen bits, eight, and whether with a sign.
+/// BC by A.
 fn quotient(chance: &mut Chance, number: u32) -> Trial {
-    let signed = (number >> 24) as u8;
-    let mut trial = codes::aimed(chance, vec![WITH_A, 0x50 | signed << 3 | C]);
-    set(&mut trial, Width::Word, BC, number);
-    set(&mut trial, Width::Byte, A, number >> 16);
+    by_a(chance, 0x50, Width::Word, BC, number)
+}
+
+/// What is multiplied or divided, as many bits as it has; A, eight; and whether with
+/// a sign. In both BC is named by C.
+fn by_a(chance: &mut Chance, second: u8, width: Width, code: u8, number: u32) -> Trial {
+    let bits = 8 * width.bytes();
+    let signed = (number >> (bits + 8)) as u8;
+    let mut trial = codes::aimed(chance, vec![WITH_A, second | signed << 3 | C]);
+    set(&mut trial, width, code, number);
+    set(&mut trial, Width::Byte, A, number >> bits);
     trial
 }

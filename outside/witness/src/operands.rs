@@ -1,5 +1,5 @@
-//! What a code works on, by the state before it: register forms, divisions and
-//! modulo steps.
+//! What a code works on, by the state before it: compares, register forms, divisions
+//! and modulo steps.
 
 use crate::desk::Done;
 use crate::rows::Apart;
@@ -7,6 +7,14 @@ use crate::seen::value;
 use forms::banks::{Size, SIZES};
 use forms::feed;
 use std::ops::Range;
+
+/// The code of the pointer of CPI, CPIR, CPD or CPDR.
+pub fn compare_pointer(done: &Done) -> Option<u8> {
+    match done.code {
+        &[first @ (0x82..=0x87 | 0x92..=0x97), 0x14..=0x17] => Some(first & 7),
+        _ => None,
+    }
+}
 
 /// A register form: its size, the bytes of r in a record, and the code behind r.
 pub fn register_form<'a>(done: &'a Done) -> Option<(Size, Range<usize>, &'a [u8])> {

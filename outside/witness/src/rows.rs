@@ -6,7 +6,7 @@
 //! number behind 000 or 003 is a line of that book's text.
 
 use crate::desk::Done;
-use crate::operands::{division, modulo, register_form, Division, Modulo};
+use crate::operands::{compare_pointer, division, modulo, register_form, Division, Modulo};
 use crate::seen::{value, Seen, H, V};
 use second::record::F;
 use std::ops::Range;
@@ -221,10 +221,10 @@ fn parity_of_long(done: &Done, seen: &Seen) -> Apart {
 
 /// The borrow of A or WA less the element, into its lowest four bits.
 fn no_borrow(done: &Done, _: &Seen) -> Apart {
-    let &[first @ (0x82..=0x87 | 0x92..=0x97), 0x14..=0x17] = done.code else {
+    let Some(pointer) = compare_pointer(done) else {
         return Apart::default();
     };
-    let element = done.byte(done.long(first & 7));
+    let element = done.byte(done.long(pointer));
     let borrow = done.long(0) & 15 < u32::from(element & 15);
     Apart::sr(if borrow { H } else { 0 })
 }

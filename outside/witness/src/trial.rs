@@ -5,11 +5,14 @@ use draw::aim::Layout;
 use draw::case::{Call, Case};
 use draw::chance::Chance;
 use draw::image::Image;
-use second::record::{BANK, LENGTH};
+use second::record::{BANK, LENGTH, MARKS};
 
 pub const MOST: usize = second::MOST_BYTES;
 /// The most steps of a trial: a byte says how many to the witness.
 pub const MOST_STEPS: u32 = 255;
+
+/// The marks of F among those of a record.
+const MARKS_OF_F: u8 = 3;
 
 /// The witness has no missing memory, so both are as long as they may be.
 pub const FULL: Layout = Layout {
@@ -61,14 +64,28 @@ pub struct Trial {
 }
 
 impl Trial {
-    /// The numbers that it may be refused with: code that the end of a memory cuts, an
-    /// operand that is missing, a store to ROM, a marked flag. All codes are listed, but
-    /// what is put for a request may lie across its code.
+    /// Whether it may be refused with a number: code that the end of a memory cuts, an
+    /// operand that is missing, a store to ROM, a marked flag. All codes are listed; but
+    /// what is put for a request may lie across its code, which can then be any.
     pub fn may_be_refused_with(&self, number: u8) -> bool {
-        match self.call {
-            Call::Request(..) => [3, 4, 5, 6, 8].contains(&number),
-            _ => [3, 5, 6, 8].contains(&number),
+        let any = matches!(self.call, Call::Request(..));
+        match number {
+            3 => any || self.code_is_cut(),
+            4 => any,
+            5 | 6 => true,
+            8 => self.record[MARKS] & MARKS_OF_F != 0,
+            _ => false,
         }
+    }
+
+    /// Whether the code that is put lies in no memory, or not wholly in one.
+    fn code_is_cut(&self) -> bool {
+        self.puts.iter().take(1).any(|(first, code)| {
+            let end = first + code.len() as u32;
+            let in_ram = end <= MOST as u32;
+            let in_rom = *first >= FULL.rom_start() && end <= 1 << 24;
+            !in_ram && !in_rom
+        })
     }
 
     /// How many steps are asked for.

@@ -3,7 +3,7 @@
 //! same answers of the witness.
 
 use crate::desk::Done;
-use crate::operands::{division, modulo, register_form};
+use crate::operands::{compare_pointer, division, modulo, register_form};
 use crate::rows::{self, Apart, Says, ROWS};
 use crate::seen::{value, Seen, H, S, V, Z};
 use draw::aim::{BC, XSP};
@@ -111,13 +111,10 @@ impl Slip {
     }
 }
 
-fn is_compare(done: &Done) -> bool {
-    matches!(done.code, [0x82..=0x87 | 0x92..=0x97, 0x14..=0x17])
-}
-
 fn pointer_at_match(done: &Done, seen: &mut Seen) {
-    if is_compare(done) && seen.sr & Z != 0 {
-        let place = done.place_of_long(done.code[0] & 7);
+    let equal = seen.sr & Z != 0;
+    if let Some(pointer) = compare_pointer(done).filter(|_| equal) {
+        let place = done.place_of_long(pointer);
         seen.registers[place.clone()].copy_from_slice(&done.before[place]);
     }
 }
@@ -178,19 +175,16 @@ fn push_by_two(done: &Done, seen: &mut Seen) {
 }
 
 fn remainder_of_divisor(done: &Done, seen: &mut Seen) {
-    let signed = division(done).filter(|one| one.scale.signed && one.fits());
-    let Some((division, (quotient, remainder))) = signed.and_then(|one| {
-        let exact = one.exact()?;
-        Some((one, exact))
-    }) else {
+    let Some(division) = division(done).filter(|one| one.scale.signed && one.fits()) else {
         return;
     };
-    let (_, divisor) = division.numbers();
+    let (dividend, divisor) = division.numbers();
+    let (quotient, remainder) = (dividend / divisor, dividend % divisor);
     if remainder * divisor < 0 {
-        let right = division.leaves(quotient, remainder);
-        right.turn_over(done, seen);
-        let wrong = division.leaves(quotient, remainder + divisor);
-        wrong.turn_over(done, seen);
+        // the right one out, the wrong one in
+        for remainder in [remainder, remainder + divisor] {
+            division.leaves(quotient, remainder).turn_over(done, seen);
+        }
     }
 }
 
