@@ -1,0 +1,74 @@
+# The proved code for C, compiled with other words than the kit's own. sh and bash read it in, at the top of the repository.
+
+# What C sees of the library: three crates, and an object of each.
+surface='module look moves'
+
+# The archives of dist/, 'NAME: WORDS' a line. A word that does not begin with '-' is an option of LLVM's own. What each gives in bytes and
+# in steps, 'outside/size --tried' prints.
+library_ways() {
+  cat <<'END'
+fast: bonus-inst-threshold=0 inline-threshold=275 two-entry-phi-node-folding-threshold=2
+flash: bonus-inst-threshold=0 inline-threshold=275 two-entry-phi-node-folding-threshold=2 vectorize-slp=false disable-block-placement tail-merge-size=2 tail-dup-size=1 min-jump-table-entries=6 disable-licm-promotion
+END
+}
+
+doc=$(rt doc)
+kit=${doc%/docs/*}
+own=$kit/on/$(uname -m)
+
+# An archive of objects, or of those in archives.
+archive() { # FILE FROM...
+  "$own/toolchain/bin/llvm-ar" qcsDL "$@"
+}
+
+# Makes the objects in each way of standard input, in INTO/NAME: all in one reading of the crates, side by side. Where FIRST is given, the
+# proved libraries in it stand before those of target/rlib.
+in_ways() { # INTO [FIRST]
+  rm -rf "$1"
+  mkdir -p "$1"
+  into=$(cd "$1" && pwd) first=${2:-target/rlib} working=
+  cat >"$into/ways"
+  for crate in $surface; do
+    tools_for "$crate" "$into/$crate.tools"
+    prove_crate "$crate" "crates/$crate" --toolchain "$into/$crate.tools" --crate-type staticlib -o "$into/lib$crate.a" >"$into/$crate.said" 2>&1 &
+    working="$working $!"
+  done
+  failed=
+  for process in $working; do wait "$process" || failed=yes; done
+  [ -z "$failed" ] || { cat "$into"/*.said >&2; return 1; }
+}
+
+# Proves a crate over target/rlib and makes something of it, with the words that rt has.
+prove_crate() { # CRATE FOLDER WORDS...
+  crate=$1 folder=$2
+  shift 2
+  for library in $(sed -nE "s/^$crate: *//p" crates.txt); do set -- "$@" --extern "$library=target/rlib/$library.rlib"; done
+  "$own/bin/rattle" build --crate-name "$crate" "$folder/src/lib.rt" --extern "std=$own/rlib/std.rlib" "$@" \
+    -L "dependency=${first:-target/rlib}" -L dependency=target/rlib -L "dependency=$own/rlib" \
+    --antt-project "$kit/logic/antt-project.json" --logic-built "$own/logic-built"
+}
+
+# A folder of tools for the prover: scripts that call the kit's. Its compiler does what it is told, once for each way with the way's words
+# behind, and then without. The scripts have all paths in them, since the prover hands them nothing else.
+tools_for() { # CRATE FOLDER
+  mkdir -p "$2/bin"
+  ln -s "$own/toolchain/lib" "$2/lib"
+  for tool in clang llvm-ar ld.lld; do
+    {
+      echo '#!/bin/sh'
+      [ "$tool" != clang ] || cat <<END
+while IFS=: read -r name words; do
+  mkdir -p "$into/\$name"
+  (
+    for word in \$words; do
+      case \$word in -*) set -- "\$@" "\$word" ;; *) set -- "\$@" -mllvm "-\$word" ;; esac
+    done
+    exec "$own/toolchain/bin/clang" "\$@" -o "$into/\$name/$1.o" </dev/null
+  ) || exit
+done <"$into/ways"
+END
+      echo "exec \"$own/toolchain/bin/$tool\" \"\$@\""
+    } >"$2/bin/$tool"
+    chmod +x "$2/bin/$tool"
+  done
+}
