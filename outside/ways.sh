@@ -3,14 +3,15 @@
 # What C sees of the library: three crates, and an object of each.
 surface='module look moves'
 
-# The archives of dist/, 'NAME: WORDS' a line. A word that does not begin with '-' is an option of LLVM's own. What each gives in bytes and
-# in steps, 'outside/size --tried' prints.
+# The archives of dist/, 'NAME: WORDS' a line. A word is an option of LLVM's own, unless it begins with '-'. What each gives in bytes and in
+# steps, 'outside/size --tried' prints. `apart` is a word of ours: these functions are not laid into their caller, though they have but one.
 library_ways() {
   cat <<'END'
-fast: bonus-inst-threshold=0 inline-threshold=275 two-entry-phi-node-folding-threshold=2
-flash: bonus-inst-threshold=0 inline-threshold=275 two-entry-phi-node-folding-threshold=2 vectorize-slp=false disable-block-placement tail-merge-size=2 tail-dup-size=1 min-jump-table-entries=6 disable-licm-promotion
+fast: apart bonus-inst-threshold=0 inline-threshold=275 two-entry-phi-node-folding-threshold=2
+flash: apart bonus-inst-threshold=0 inline-threshold=275 two-entry-phi-node-folding-threshold=2 vectorize-slp=false disable-block-placement tail-merge-size=2 tail-dup-size=1 min-jump-table-entries=6 disable-licm-promotion
 END
 }
+apart=run::run
 
 doc=$(rt doc)
 kit=${doc%/docs/*}
@@ -28,6 +29,7 @@ in_ways() { # INTO [FIRST]
   mkdir -p "$1"
   into=$(cd "$1" && pwd) first=${2:-target/rlib} working=
   cat >"$into/ways"
+  printf '%s,noinline\n' $apart >"$into/apart"
   for crate in $surface; do
     tools_for "$crate" "$into/$crate.tools"
     prove_crate "$crate" "crates/$crate" --toolchain "$into/$crate.tools" --crate-type staticlib -o "$into/lib$crate.a" >"$into/$crate.said" 2>&1 &
@@ -61,7 +63,11 @@ while IFS=: read -r name words; do
   mkdir -p "$into/\$name"
   (
     for word in \$words; do
-      case \$word in -*) set -- "\$@" "\$word" ;; *) set -- "\$@" -mllvm "-\$word" ;; esac
+      case \$word in
+      -*) set -- "\$@" "\$word" ;;
+      apart) set -- "\$@" -mllvm "-forceattrs-csv-path=$into/apart" ;;
+      *) set -- "\$@" -mllvm "-\$word" ;;
+      esac
     done
     exec "$own/toolchain/bin/clang" "\$@" -o "$into/\$name/$1.o" </dev/null
   ) || exit

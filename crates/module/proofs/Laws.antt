@@ -26,7 +26,7 @@ use Rattle.saved.proofs.Laws.{load-done}
 use Rattle.saved.proofs.Refusals as saved
 use Rattle.saved.proofs.RoundTrip.{good-says}
 use Rattle.step.specs.declared.Stepped.{Stepped}
-use Rattle.operand.specs.Try.{Try, did, no, Outcome, after, leaves}
+use Rattle.operand.specs.Try.{did, Outcome, after, leaves}
 use Rattle.step.specs.Result.{refusedWith}
 use Rattle.step.specs.Step.{tooLong, tryOf, stepOf}
 use Rattle.step.specs.Reset.{resetFrom, resetOf}
@@ -36,7 +36,7 @@ use Rattle.request.specs.Request.{requestOf, tookOf, RequestMeets}
 use Rattle.turn.specs.declared.Ran.{Ran}
 use Rattle.turn.specs.Many.{Result, result}
 use Rattle.run.specs.Run.{runOf}
-use Rattle.run.proofs.Joins.{Began, none, first, began, run-zero, one-step-run}
+use Rattle.run.proofs.Joins.{Began, none, first, began, run-zero}
 use Rattle.module.specs.Calls.{resetAnswer, resetBytes, openedOf, stepLeft, runLeft, runDone, requestLeft, requestTaken}
 use Rattle.module.specs.Calls.{CResetMeets, CStepMeets, CRunMeets, CRequestMeets}
 use Rattle.between.proofs.Offer.{offer-valid}
@@ -51,16 +51,8 @@ reset-valid ram rom = go (tooLong (length ram) (length rom)) (access.loadOf ram 
     go false (loaded.Value v) = valid-reset v
     go false (loaded.Missing x) = valid-zero
 
--- what every accepted step keeps, every step and every run keep
+-- what every accepted step keeps, every run keeps
 module _ (P : State → Type 0) (kept : (s : State) (ram rom : List ℕ) (t : State) (m : List ℕ) → tryOf s ram rom ≡ did t m → P s → P t) where
-  step-keeps : (s : State) (ram rom : List ℕ) → P s → P (stepOf s ram rom .state)
-  unfolding stepOf
-  step-keeps s ram rom ok = go (tryOf s ram rom) refl
-    where
-      go : (t : Try) → tryOf s ram rom ≡ t → P (leaves s ram t .state)
-      go (did u m) e = kept s ram rom u m e ok
-      go (no w) e = ok
-
   run-keeps : (n : ℕ) (s : State) (ram rom : List ℕ) → P s → P (runOf n s ram rom .state)
   run-keeps zero s ram rom ok = subst (λ (r : Result). P (r .state)) (sym (run-zero s ram rom .1)) ok
   run-keeps (suc n) s ram rom ok = go (λ u m v. run-keeps n u m rom v) (began n s ram rom)
@@ -77,9 +69,6 @@ try-keeps s ram rom t m e =
       subst (λ (o : Outcome). Valid (o .state)) f (valid-says _ (k .0)),
       λ ok. subst (λ (o : Outcome). Sound (o .state)) f (k .2 ok),
     )
-
-step-valid : (s : State) (ram rom : List ℕ) → Valid s → Valid (stepOf s ram rom .state)
-step-valid = step-keeps Valid (λ s ram rom t m e ok. try-keeps s ram rom t m e .0)
 
 pub run-valid : (n : ℕ) (s : State) (ram rom : List ℕ) → Valid s → Valid (runOf n s ram rom .state)
 run-valid = run-keeps Valid (λ s ram rom t m e ok. try-keeps s ram rom t m e .0)
@@ -152,28 +141,9 @@ module _ (b ram rom : List ℕ) (o : Restored) (is : o ≡ openedOf b (length ra
   saved-over s good f = let v = opened-done b (length ram) (length rom) (opened-answer good) in saved-whole s b (f (v .0)) (v .1)
 
   -- ---- one step
-  -- what a run leaves, but for its count
-  abbrev uncounted : Result → Outcome
-  uncounted r = after (r .answer) (r .state) (r .ram)
-
   pub step-stops : {n x : ℕ} (w : Why) → o .answer ≡ Refused w → n ≡ numberOf (o .answer) → x ≡ atOf (o .answer) → CStepMeets b ram rom n x b ram
   unfolding stepLeft
   step-stops {n} {x} w a e f = subst (λ (y : ℕ). CStepMeets b ram rom n y b ram) (sym f) (rw (opened-answer a, e, a) refl)
-
-  module _ (r : Ran) (m : List ℕ) (good : o .answer ≡ Done) (e : result r m ≡ runOf 1 (o .state) ram rom) where
-    here : uncounted (result r m) ≡ stepOf (held .state) ram rom
-    here = ap uncounted e ∙ one-step-run (o .state) ram rom ∙ ap (λ (x : Restored). stepOf (x .state) ram rom) is
-
-    pub step-no : {n x : ℕ} (w : Why) → r .answer ≡ Refused w → n ≡ numberOf (r .answer) → x ≡ atOf (r .answer) → CStepMeets b ram rom n x b m
-    unfolding stepLeft
-    step-no {n} {x} w a f g = subst (λ (y : ℕ). CStepMeets b ram rom n y b m) (sym g) (rw (opened-answer good, sym here, f, a) refl)
-
-    pub step-did : {n x : ℕ} {y : Answer} {b' : List ℕ} → r .answer ≡ Done → y ≡ saveAnswer (r .state) (length b) → b' ≡ saveBytes (r .state) b →
-        n ≡ numberOf y → x ≡ atOf y → CStepMeets b ram rom n x b' m
-    unfolding stepLeft
-    step-did {n} {x} {y} {b'} a f g h i =
-        let k = saved-over (r .state) good (λ v. subst (λ (x : Outcome). Valid (x .state)) (sym here) (step-valid _ ram rom v)) in
-        subst (λ (z : ℕ). CStepMeets b ram rom n z b' m) (sym i) (rw (opened-answer good, sym here, a, h, f, g, k .0, k .1) refl)
 
   -- ---- a request
   module _ (level vector : ℕ) where

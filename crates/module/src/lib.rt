@@ -42,25 +42,6 @@ pub extern "C" fn tlcs900h_reset(bytes: &mut [u8], ram: &[u8], rom: &[u8]) -> u8
     answer::number(saved::save(s.state, bytes))
 }
 
-// One step of the state that the record holds, by a run of one. A refusal leaves the record and RAM as they were.
-#[no_mangle]
-pub extern "C" fn tlcs900h_step(bytes: &mut [u8], ram: &mut [u8], rom: &[u8], at: &mut u32) -> u8
-    ensures { λ r. ⌜ CStepMeets (now (bytes .entry)) (now (ram .entry)) (now (rom .entry))
-        r (now (at .exit)) (now (bytes .exit)) (now (ram .exit)) ⌝ }
-{
-    let o = opened(&*bytes, ram.len(), rom.len());
-    let a = o.answer;
-    if let Answer::Refused(_) = a {
-        return told(a, at);
-    }
-    let r = run::run(o.state, ram, rom, 1);
-    let b = r.answer;
-    if let Answer::Refused(_) = b {
-        return told(b, at);
-    }
-    told(saved::save(r.state, bytes), at)
-}
-
 // Up to a million steps. Where a step is refused, the record, RAM and `done` say what was done before it, and `at` the byte that it lacked or could not store.
 #[no_mangle]
 pub extern "C" fn tlcs900h_run(
@@ -88,6 +69,16 @@ pub extern "C" fn tlcs900h_run(
     let b = r.answer;
     saved::save(r.state, bytes);
     told(b, at)
+}
+
+// One step of the state that the record holds: a run of one, which writes the record of a refused step again as it was.
+#[no_mangle]
+pub extern "C" fn tlcs900h_step(bytes: &mut [u8], ram: &mut [u8], rom: &[u8], at: &mut u32) -> u8
+    ensures { λ r. ⌜ CStepMeets (now (bytes .entry)) (now (ram .entry)) (now (rom .entry))
+        r (now (at .exit)) (now (bytes .exit)) (now (ram .exit)) ⌝ }
+{
+    let mut done = 0;
+    tlcs900h_run(bytes, ram, rom, 1, &mut done, at)
 }
 
 // Offers a request for an interrupt. `taken` is 1 where it is taken; else it is 0, and the record and RAM are as they were.
