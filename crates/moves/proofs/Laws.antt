@@ -1,27 +1,28 @@
 -- What is promised is settled; what each call answers and leaves, by its cases, and the bytes of a moved record.
-use Prim.Native.Nat.{ℕ}
-use mathlib.Core.Path.{_≡_, refl, ap, sym, _∙_}
+use Prim.Native.Nat.{ℕ, _+_, _≤_}
+use native.Mathlib.Omega.{arith}
+use mathlib.Core.Path.{_≡_, refl, ap, sym, _∙_, subst}
 use mathlib.Core.Logic.{_⊎_, inl, inr}
-use mathlib.Core.Bool.{Bool, true, false, _&&_, not}
+use mathlib.Core.Bool.{Bool, true, false, not}
 use mathlib.Core.List.{List}
 use lib.ListN.{length}
-use lib.Dec.{eqb}
-use borrow.Author.Tests.{eq-eqb, eqb-true, eqb-false, not-true, not-false}
+use borrow.Author.Tests.{eq-eqb, not-true, not-false}
 use Rattle.little.specs.Bytes.{Bytes}
 use Rattle.answer.specs.declared.Answer.{Answer}
 use Rattle.answer.specs.declared.Answer.the-variants.{Done, Refused}
 use Rattle.answer.specs.declared.Why.{Why}
 use Rattle.answer.specs.declared.Why.the-variants.{Invalid, NoOldForm}
 use Rattle.answer.specs.Number.{whyNumber, numberOf}
-use Rattle.state.proofs.Valid.{and-true}
 use Rattle.saved.specs.declared.Restored.{Restored}
 use Rattle.saved.specs.Record.{recordLength, oldLength, recordOf, oldRecordOf, widened, narrowed, fitsOld, stateAt}
-use Rattle.saved.specs.Record.{isRecord, isOldRecord, SaveMeets, OldSaveMeets, restoredOf, oldRestoredOf}
+use Rattle.saved.specs.Record.{isRecord, isOldRecord, restoredOf, oldRestoredOf}
 use Rattle.saved.proofs.Laws.{load-done, load-refused}
-use Rattle.saved.proofs.Refusals.{either-fails, saves, old-saves, alike}
+use Rattle.saved.proofs.Refusals.{either-fails, alike}
 use Rattle.saved.proofs.RoundTrip.{front-is-old, sound-at, good-says, read-saves-back, old-records-are-of-states}
 use Rattle.moves.specs.Moves.{widenAnswer, widenBytes, narrowAnswer, narrowBytes, CWidenMeets, CNarrowMeets}
 use Rattle.moves.specs.Statements.{Widens, Settled}
+use Rattle.moves.specs.inner.Filled.{filled}
+use Rattle.moves.proofs.Filling.{filled-long, filled-short}
 
 -- ---- what is promised is settled
 pub settled : Settled
@@ -72,57 +73,40 @@ pub widen-stops :
     (old room : List ℕ) {o : Restored} {n : ℕ} → o ≡ oldRestoredOf old → (w : Why) → o .answer ≡ Refused w → n ≡ whyNumber w → CWidenMeets old room n room
 widen-stops old room e w r k = let l = load-refused oldLength old e w r in told k (l .1) refl (widens old room .1 (inl (l .0)))
 
--- the state in a good record, saved in the other form
-wide-saved :
-    (old room : List ℕ) {a : Answer} {b : List ℕ} {n : ℕ} → Bytes old → isOldRecord old ≡ true → SaveMeets (stateAt old) room a b → n ≡ numberOf a →
-    CWidenMeets old room n b
-wide-saved old room {a = a} {b = b} {n = n} h g m k = go (eqb (length room) recordLength) refl
-  where
-    go : (x : Bool) → eqb (length room) recordLength ≡ x → CWidenMeets old room n b
-    go true x =
-        let fit = eqb-true _ _ x in
-        let s = saves (stateAt old) room .0 (good-says oldLength old g .1) fit in
-        told k (m .0 ∙ s .0) (m .1 ∙ s .1 ∙ wide-bytes old h g) (widens old room .0 g fit)
-    go false x =
-        let s = saves (stateAt old) room .1 (inr (eqb-false _ _ x)) in
-        told k (m .0 ∙ s .0) (m .1 ∙ s .1) (widens old room .1 (inr (eqb-false _ _ x)))
+-- a good record, and a room of another length
+pub widen-small :
+    (old room : List ℕ) {n : ℕ} → (length room ≡ recordLength → ⊥) → n ≡ whyNumber Invalid → CWidenMeets old room n room
+widen-small old room h k = told k refl refl (widens old room .1 (inr h))
 
-pub widen-saves :
-    (old room : List ℕ) {o : Restored} {a : Answer} {b : List ℕ} {n : ℕ} → Bytes old → o ≡ oldRestoredOf old → o .answer ≡ Done →
-    SaveMeets (o .state) room a b → n ≡ numberOf a → CWidenMeets old room n b
-widen-saves old room h e r m k = let l = load-done oldLength old e r in wide-saved old room h (l .0) (rw (l .1) at m) k
+pub widen-fills :
+    (old room : List ℕ) {o : Restored} {b : List ℕ} {n : ℕ} → o ≡ oldRestoredOf old → o .answer ≡ Done → length room ≡ recordLength →
+    b ≡ filled (length room) old → n ≡ numberOf Done → CWidenMeets old room n b
+widen-fills old room e r fit f k =
+    let g = load-done oldLength old e r .0 in
+    let long : filled (length room) old ≡ widened old =
+    ap (λ (m : ℕ). filled m old) (fit ∙ ap (λ (m : ℕ). m + 4) (sym (good-says oldLength old g .0))) ∙ filled-long old 4 in
+    told k refl (f ∙ long) (widens old room .0 g fit)
 
 pub narrow-stops :
     (new room : List ℕ) {o : Restored} {n : ℕ} → o ≡ restoredOf new → (w : Why) → o .answer ≡ Refused w → n ≡ whyNumber w → CNarrowMeets new room n room
 narrow-stops new room e w r k = let l = load-refused recordLength new e w r in told k (l .1) refl (narrow-two new room (inl (l .0)))
 
--- the room is an old record's, and the state has no old form
-pub narrow-turned :
-    (new room : List ℕ) {o : Restored} {f : Bool} {n : ℕ} → o ≡ restoredOf new → o .answer ≡ Done → f ≡ fitsOld (o .state) →
-    eqb (length room) oldLength && not f ≡ true → n ≡ whyNumber NoOldForm → CNarrowMeets new room n room
-narrow-turned new room {f = f} e r q t k =
-    let l = load-done recordLength new e r in
-    let a = and-true (eqb (length room) oldLength) _ t in
-    told k refl refl (narrow-ten new room (l .0) (eqb-true _ _ (a .0)) (rw (l .1) at (sym q ∙ not-true f (a .1))))
+pub narrow-small :
+    (new room : List ℕ) {n : ℕ} → (length room ≡ oldLength → ⊥) → n ≡ whyNumber Invalid → CNarrowMeets new room n room
+narrow-small new room h k = told k refl refl (narrow-two new room (inr h))
 
-narrow-saved :
-    (new room : List ℕ) {a : Answer} {b : List ℕ} {n : ℕ} → Bytes new → isRecord new ≡ true → eqb (length room) oldLength && not (fitsOld (stateAt new)) ≡ false →
-    OldSaveMeets (stateAt new) room a b → n ≡ numberOf a → CNarrowMeets new room n b
-narrow-saved new room {a = a} {b = b} {n = n} h g t m k = go (eqb (length room) oldLength) refl
-  where
-    go : (x : Bool) → eqb (length room) oldLength ≡ x → CNarrowMeets new room n b
-    go true x =
-        let fit = eqb-true _ _ x in
-        let fits = not-false (fitsOld (stateAt new)) (rw x at t) in
-        let s = old-saves (stateAt new) room .0 (good-says recordLength new g .1) fits fit in
-        told k (m .0 ∙ s .0) (m .1 ∙ s .1 ∙ narrow-bytes new h g) (narrow-done new room g fit fits)
-    go false x =
-        let s = old-saves (stateAt new) room .1 (inr (inr (eqb-false _ _ x))) in
-        told k (m .0 ∙ s .0) (m .1 ∙ s .1) (narrow-two new room (inr (eqb-false _ _ x)))
+module _ (new room : List ℕ) {o : Restored} {f : Bool} (e : o ≡ restoredOf new) (r : o .answer ≡ Done) (fit : length room ≡ oldLength) (q : f ≡ fitsOld (o .state)) where
+  good : isRecord new ≡ true
+  good = load-done recordLength new e r .0
 
-pub narrow-saves :
-    (new room : List ℕ) {o : Restored} {f : Bool} {a : Answer} {b : List ℕ} {n : ℕ} → Bytes new → o ≡ restoredOf new → o .answer ≡ Done →
-    f ≡ fitsOld (o .state) → eqb (length room) oldLength && not f ≡ false → OldSaveMeets (o .state) room a b → n ≡ numberOf a → CNarrowMeets new room n b
-narrow-saves new room h e r q t m k =
-    let l = load-done recordLength new e r in
-    narrow-saved new room h (l .0) (rw (q, l .1) at t) (rw (l .1) at m) k
+  fits : {x : Bool} → f ≡ x → fitsOld (stateAt new) ≡ x
+  fits h = ap fitsOld (sym (load-done recordLength new e r .1)) ∙ sym q ∙ h
+
+  -- the state has no old form
+  pub narrow-turned : {n : ℕ} → not f ≡ true → n ≡ whyNumber NoOldForm → CNarrowMeets new room n room
+  narrow-turned t k = told k refl refl (narrow-ten new room good fit (fits (not-true f t)))
+
+  pub narrow-fills : {b : List ℕ} {n : ℕ} → not f ≡ false → b ≡ filled (length room) new → n ≡ numberOf Done → CNarrowMeets new room n b
+  narrow-fills t m k =
+      let l : oldLength ≤ length new = subst (λ (x : ℕ). oldLength ≤ x) (sym (good-says recordLength new good .0)) (omega arith) in
+      told k refl (m ∙ ap (λ (x : ℕ). filled x new) fit ∙ filled-short oldLength new l) (narrow-done new room good fit (fits (not-false f t)))

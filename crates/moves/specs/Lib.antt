@@ -1,2 +1,3 @@
 pub mod Moves
 pub mod Statements
+pub mod inner

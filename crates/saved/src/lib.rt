@@ -22,7 +22,7 @@ pub struct Restored {
 }
 
 // How many bytes a record has.
-const LENGTH: usize = 92;
+pub const LENGTH: usize = 92;
 
 // The same of the old record, which is the front of the new one and has no count and no marks.
 pub const OLD_LENGTH: usize = 88;

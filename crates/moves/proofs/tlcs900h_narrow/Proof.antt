@@ -1,5 +1,4 @@
-use native.Mathlib.Omega.{arith}
-use Rattle.moves.proofs.Laws.{narrow-stops, narrow-turned, narrow-saves}
+use Rattle.moves.proofs.Laws.{narrow-stops, narrow-small, narrow-turned, narrow-fills}
 use borrow.Author.Needs.{needs}
 use Rattle.moves.proofs.tlcs900h_narrow.Statement.{statement}
 use Rattle.moves.proofs.tlcs900h_narrow.Tie as tie
@@ -23,23 +22,31 @@ returns c =
 enum-told : tie.Need-enum-told
 enum-told c = search needs
 
-fits-old-requires : tie.Need-fits-old-requires
-fits-old-requires c κs = search needs
-
 why-number-requires-2 : tie.Need-why-number-requires-2
 why-number-requires-2 c κs = search needs
 
 returns-2 : tie.Need-returns-2
 returns-2 c =
+    let a = c .before .before .before .before .before .before .before .args in
+    narrow-small (a .new .now) (a .old .now) (c .before .if1 .taken) (c .why-number2 .ensures)
+
+fits-old-requires : tie.Need-fits-old-requires
+fits-old-requires c κs = search needs
+
+why-number-requires-3 : tie.Need-why-number-requires-3
+why-number-requires-3 c κs = search needs
+
+returns-3 : tie.Need-returns-3
+returns-3 c =
     let f = c .before .before in
-    let t = f .before in
+    let i = f .before in
+    let t = i .before in
     let l = t .before .before in
     let a = l .before .before .before .args in
-    narrow-turned (a .new .now) (a .old .now) (l .load .ensures) (t .enum-told .given .1) (f .fits-old .ensures) (c .before .if1 .taken)
-    (c .why-number2 .ensures)
+    narrow-turned (a .new .now) (a .old .now) (l .load .ensures) (t .enum-told .given .1) (i .if1 .left) (f .fits-old .ensures) (c .before .if2 .taken) (c .why-number3 .ensures)
 
-save-old-requires : tie.Need-save-old-requires
-save-old-requires c κs = search needs
+fill-requires : tie.Need-fill-requires
+fill-requires c κs = search needs
 
 number-requires : tie.Need-number-requires
 number-requires c κs = search needs
@@ -47,17 +54,16 @@ number-requires c κs = search needs
 same-length : tie.Need-same-length
 same-length c = search needs
 
-returns-3 : tie.Need-returns-3
-returns-3 c =
-    let s = c .before .before .before in
-    let i = s .before .before in
-    let f = i .before in
-    let t = f .before in
+returns-4 : tie.Need-returns-4
+returns-4 c =
+    let m = c .before .before .before in
+    let j = m .before .before in
+    let f = j .before in
+    let i = f .before in
+    let t = i .before in
     let l = t .before .before in
-    let k = l .before .before in
-    let a = k .before .args in
-    narrow-saves (a .new .now) (a .old .now) (λ j. omega (arith, k .shared-slice-known .given j)) (l .load .ensures) (t .enum-told .given .1)
-    (f .fits-old .ensures) (i .if1 .left) (s .save-old .ensures) (c .number .ensures)
+    let a = l .before .before .before .args in
+    narrow-fills (a .new .now) (a .old .now) (l .load .ensures) (t .enum-told .given .1) (i .if1 .left) (f .fits-old .ensures) (j .if2 .left) (m .fill .ensures) (c .number .ensures)
 
 pub tlcs900h-narrow-spec : {M : Type 1} → statement M
 tlcs900h-narrow-spec =
@@ -68,10 +74,12 @@ tlcs900h-narrow-spec =
     why-number-requires
     returns
     enum-told
-    fits-old-requires
     why-number-requires-2
     returns-2
-    save-old-requires
+    fits-old-requires
+    why-number-requires-3
+    returns-3
+    fill-requires
     number-requires
     same-length
-    returns-3)
+    returns-4)

@@ -1,5 +1,4 @@
-use native.Mathlib.Omega.{arith}
-use Rattle.moves.proofs.Laws.{widen-stops, widen-saves}
+use Rattle.moves.proofs.Laws.{widen-stops, widen-small, widen-fills}
 use borrow.Author.Needs.{needs}
 use Rattle.moves.proofs.tlcs900h_widen.Statement.{statement}
 use Rattle.moves.proofs.tlcs900h_widen.Tie as tie
@@ -23,8 +22,16 @@ returns c =
 enum-told : tie.Need-enum-told
 enum-told c = search needs
 
-save-requires : tie.Need-save-requires
-save-requires c κs = search needs
+why-number-requires-2 : tie.Need-why-number-requires-2
+why-number-requires-2 c κs = search needs
+
+returns-2 : tie.Need-returns-2
+returns-2 c =
+    let a = c .before .before .before .before .before .before .before .args in
+    widen-small (a .old .now) (a .new .now) (c .before .if1 .taken) (c .why-number2 .ensures)
+
+fill-requires : tie.Need-fill-requires
+fill-requires c κs = search needs
 
 number-requires : tie.Need-number-requires
 number-requires c κs = search needs
@@ -32,15 +39,14 @@ number-requires c κs = search needs
 same-length : tie.Need-same-length
 same-length c = search needs
 
-returns-2 : tie.Need-returns-2
-returns-2 c =
-    let s = c .before .before .before in
-    let t = s .before .before in
+returns-3 : tie.Need-returns-3
+returns-3 c =
+    let f = c .before .before .before in
+    let i = f .before .before in
+    let t = i .before in
     let l = t .before .before in
-    let k = l .before .before in
-    let a = k .before .args in
-    widen-saves (a .old .now) (a .new .now) (λ i. omega (arith, k .shared-slice-known .given i)) (l .load-old .ensures) (t .enum-told .given .1)
-    (s .save .ensures) (c .number .ensures)
+    let a = l .before .before .before .args in
+    widen-fills (a .old .now) (a .new .now) (l .load-old .ensures) (t .enum-told .given .1) (i .if1 .left) (f .fill .ensures) (c .number .ensures)
 
 pub tlcs900h-widen-spec : {M : Type 1} → statement M
 tlcs900h-widen-spec =
@@ -51,7 +57,9 @@ tlcs900h-widen-spec =
     why-number-requires
     returns
     enum-told
-    save-requires
+    why-number-requires-2
+    returns-2
+    fill-requires
     number-requires
     same-length
-    returns-2)
+    returns-3)
