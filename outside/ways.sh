@@ -29,7 +29,7 @@ in_ways() { # INTO [FIRST]
   mkdir -p "$1"
   into=$(cd "$1" && pwd) first=${2:-target/rlib} working=
   cat >"$into/ways"
-  printf '%s,noinline\n' $apart >"$into/apart"
+  printf '%s,noinline\n' $apart >"$into/ways.apart"
   for crate in $surface; do
     tools_for "$crate" "$into/$crate.tools"
     prove_crate "$crate" "crates/$crate" --toolchain "$into/$crate.tools" --crate-type staticlib -o "$into/lib$crate.a" >"$into/$crate.said" 2>&1 &
@@ -65,7 +65,7 @@ while IFS=: read -r name words; do
     for word in \$words; do
       case \$word in
       -*) set -- "\$@" "\$word" ;;
-      apart) set -- "\$@" -mllvm "-forceattrs-csv-path=$into/apart" ;;
+      apart) set -- "\$@" -mllvm "-forceattrs-csv-path=$into/ways.apart" ;;
       *) set -- "\$@" -mllvm "-\$word" ;;
       esac
     done
