@@ -2,10 +2,12 @@
  * A proved TLCS-900/H core: reset, one step, many steps, requests for an interrupt, the length of an instruction, and records
  * of the old form moved to the new one and back.
  *
- * Link with libtlcs900h.a (x86-64 Linux). It calls no other function, keeps nothing between calls and allocates nothing:
- * two threads may call it at once, each with its own record and RAM. A call takes less than TLCS900H_STACK bytes of stack
- * (measured over every kind of instruction, not proved). What tlcs900h_show needs is linked only where it is called, and so is
- * what tlcs900h_widen and tlcs900h_narrow need.
+ * Link with libtlcs900h.a (x86-64 Linux), or, where flash is short, with the archive of that name in the folder flash: the same
+ * calls with the same answers, in fewer bytes, and slower by up to a fifth. Either calls no other function, keeps nothing between
+ * calls and allocates nothing: two threads may call it at once, each with its own record and RAM. A call takes less than
+ * TLCS900H_STACK bytes of stack (measured over every kind of instruction, not proved). What tlcs900h_show needs is linked only
+ * where it is called, and so is what tlcs900h_widen and tlcs900h_narrow need. With --gc-sections a linker of GNU's kind also
+ * leaves out each of the other calls that the program does not make.
  *
  * The machine
  *   RAM  holds the addresses 0 to ram_len - 1.

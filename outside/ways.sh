@@ -8,7 +8,7 @@ surface='module look moves'
 library_ways() {
   cat <<'END'
 fast: apart bonus-inst-threshold=0 inline-threshold=275 two-entry-phi-node-folding-threshold=2
-flash: apart bonus-inst-threshold=0 inline-threshold=275 two-entry-phi-node-folding-threshold=2 vectorize-slp=false disable-block-placement tail-merge-size=2 tail-dup-size=1 min-jump-table-entries=6 disable-licm-promotion
+flash: apart bonus-inst-threshold=0 inline-threshold=275 two-entry-phi-node-folding-threshold=2 vectorize-slp=false disable-block-placement tail-merge-size=2 tail-dup-size=1 min-jump-table-entries=6 disable-licm-promotion twoaddr-reschedule=false
 END
 }
 apart=run::run
