@@ -111,7 +111,7 @@ extern "C" {
 #endif
 
 /*
- * The version of this header and of the archive beside it. The first number grows where a program that was right before
+ * The version of this header and of the archives beside it. The first number grows where a program that was right before
  * has to be changed; the second where something was added.
  *   1.0  the first
  *   1.1  LDF with 04 to 07 is done, where it was refused with 4: it selects the bank of the number's low two bits, 0 to 3

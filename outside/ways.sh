@@ -3,8 +3,8 @@
 # What C sees of the library: three crates, and an object of each.
 surface='module look moves'
 
-# The archives of dist/, 'NAME: WORDS' a line. A word is an option of LLVM's own, unless it begins with '-'. What each gives in bytes and in
-# steps, 'outside/size --tried' prints. `apart` is a word of ours: these functions are not laid into their caller, though they have but one.
+# The archives of dist/, 'NAME: WORDS' a line. A word is an option of LLVM's own, unless it begins with '-'. What each gives, in bytes and in
+# machine instructions a step, 'outside/size --tried' prints. `apart` is a word of ours: these functions are not laid into their caller, though they have but one.
 library_ways() {
   cat <<'END'
 fast: apart bonus-inst-threshold=0 inline-threshold=275 two-entry-phi-node-folding-threshold=2
@@ -23,35 +23,41 @@ archive() { # FILE FROM...
 }
 
 # Makes the objects in each way of standard input, in INTO/NAME: all in one reading of the crates, side by side. Where FIRST is given, the
-# proved libraries in it stand before those of target/rlib.
+# proved libraries in it stand before those of target/rlib. It works in a folder of its own, since one that was broken off may still go on.
 in_ways() { # INTO [FIRST]
-  rm -rf "$1"
-  mkdir -p "$1"
-  into=$(cd "$1" && pwd) first=${2:-target/rlib} working=
+  mkdir -p target
+  into=$(mktemp -d "$PWD/target/ways.XXXXXX")
+  goal=$1 first=${2:-target/rlib} working= broken=
   cat >"$into/ways"
   printf '%s,noinline\n' $apart >"$into/ways.apart"
   for crate in $surface; do
     tools_for "$crate" "$into/$crate.tools"
-    prove_crate "$crate" "crates/$crate" --toolchain "$into/$crate.tools" --crate-type staticlib -o "$into/lib$crate.a" >"$into/$crate.said" 2>&1 &
+    prove_crate "$crate" "crates/$crate" "$first" --toolchain "$into/$crate.tools" --crate-type staticlib -o "$into/lib$crate.a" \
+      >"$into/$crate.said" 2>&1 &
     working="$working $!"
   done
-  failed=
-  for process in $working; do wait "$process" || failed=yes; done
-  [ -z "$failed" ] || { cat "$into"/*.said >&2; return 1; }
+  for process in $working; do wait "$process" || broken=yes; done
+  if [ -n "$broken" ]; then
+    cat "$into"/*.said >&2
+    rm -rf "$into"
+    return 1
+  fi
+  rm -rf "$goal"
+  mv "$into" "$goal"
 }
 
-# Proves a crate over target/rlib and makes something of it, with the words that rt has.
-prove_crate() { # CRATE FOLDER WORDS...
-  crate=$1 folder=$2
-  shift 2
+# Proves a crate and makes something of it, with the words that rt has: CRATE FOLDER FIRST WORDS...
+prove_crate() {
+  crate=$1 folder=$2 before=$3
+  shift 3
   for library in $(sed -nE "s/^$crate: *//p" crates.txt); do set -- "$@" --extern "$library=target/rlib/$library.rlib"; done
   "$own/bin/rattle" build --crate-name "$crate" "$folder/src/lib.rt" --extern "std=$own/rlib/std.rlib" "$@" \
-    -L "dependency=${first:-target/rlib}" -L dependency=target/rlib -L "dependency=$own/rlib" \
+    -L "dependency=$before" -L dependency=target/rlib -L "dependency=$own/rlib" \
     --antt-project "$kit/logic/antt-project.json" --logic-built "$own/logic-built"
 }
 
 # A folder of tools for the prover: scripts that call the kit's. Its compiler does what it is told, once for each way with the way's words
-# behind, and then without. The scripts have all paths in them, since the prover hands them nothing else.
+# behind, and then without. The prover calls them with an empty environment, so that they have all paths in them.
 tools_for() { # CRATE FOLDER
   mkdir -p "$2/bin"
   ln -s "$own/toolchain/lib" "$2/lib"
@@ -61,6 +67,7 @@ tools_for() { # CRATE FOLDER
       [ "$tool" != clang ] || cat <<END
 while IFS=: read -r name words; do
   mkdir -p "$into/\$name"
+  [ ! -e "$into/\$name/$1.o" ] || exit 1 # it is called once
   (
     for word in \$words; do
       case \$word in

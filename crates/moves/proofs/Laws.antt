@@ -73,10 +73,10 @@ pub widen-stops :
     (old room : List ℕ) {o : Restored} {n : ℕ} → o ≡ oldRestoredOf old → (w : Why) → o .answer ≡ Refused w → n ≡ whyNumber w → CWidenMeets old room n room
 widen-stops old room e w r k = let l = load-refused oldLength old e w r in told k (l .1) refl (widens old room .1 (inl (l .0)))
 
--- a good record, and a room of another length
-pub widen-small :
+-- a room of another length
+pub widen-other-room :
     (old room : List ℕ) {n : ℕ} → (length room ≡ recordLength → ⊥) → n ≡ whyNumber Invalid → CWidenMeets old room n room
-widen-small old room h k = told k refl refl (widens old room .1 (inr h))
+widen-other-room old room h k = told k refl refl (widens old room .1 (inr h))
 
 pub widen-fills :
     (old room : List ℕ) {o : Restored} {b : List ℕ} {n : ℕ} → o ≡ oldRestoredOf old → o .answer ≡ Done → length room ≡ recordLength →
@@ -91,9 +91,9 @@ pub narrow-stops :
     (new room : List ℕ) {o : Restored} {n : ℕ} → o ≡ restoredOf new → (w : Why) → o .answer ≡ Refused w → n ≡ whyNumber w → CNarrowMeets new room n room
 narrow-stops new room e w r k = let l = load-refused recordLength new e w r in told k (l .1) refl (narrow-two new room (inl (l .0)))
 
-pub narrow-small :
+pub narrow-other-room :
     (new room : List ℕ) {n : ℕ} → (length room ≡ oldLength → ⊥) → n ≡ whyNumber Invalid → CNarrowMeets new room n room
-narrow-small new room h k = told k refl refl (narrow-two new room (inr h))
+narrow-other-room new room h k = told k refl refl (narrow-two new room (inr h))
 
 module _ (new room : List ℕ) {o : Restored} {f : Bool} (e : o ≡ restoredOf new) (r : o .answer ≡ Done) (fit : length room ≡ oldLength) (q : f ≡ fitsOld (o .state)) where
   good : isRecord new ≡ true

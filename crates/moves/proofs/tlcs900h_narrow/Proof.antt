@@ -1,4 +1,4 @@
-use Rattle.moves.proofs.Laws.{narrow-stops, narrow-small, narrow-turned, narrow-fills}
+use Rattle.moves.proofs.Laws.{narrow-stops, narrow-other-room, narrow-turned, narrow-fills}
 use borrow.Author.Needs.{needs}
 use Rattle.moves.proofs.tlcs900h_narrow.Statement.{statement}
 use Rattle.moves.proofs.tlcs900h_narrow.Tie as tie
@@ -28,7 +28,7 @@ why-number-requires-2 c κs = search needs
 returns-2 : tie.Need-returns-2
 returns-2 c =
     let a = c .before .before .before .before .before .before .before .args in
-    narrow-small (a .new .now) (a .old .now) (c .before .if1 .taken) (c .why-number2 .ensures)
+    narrow-other-room (a .new .now) (a .old .now) (c .before .if1 .taken) (c .why-number2 .ensures)
 
 fits-old-requires : tie.Need-fits-old-requires
 fits-old-requires c κs = search needs

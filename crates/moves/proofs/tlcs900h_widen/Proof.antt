@@ -1,4 +1,4 @@
-use Rattle.moves.proofs.Laws.{widen-stops, widen-small, widen-fills}
+use Rattle.moves.proofs.Laws.{widen-stops, widen-other-room, widen-fills}
 use borrow.Author.Needs.{needs}
 use Rattle.moves.proofs.tlcs900h_widen.Statement.{statement}
 use Rattle.moves.proofs.tlcs900h_widen.Tie as tie
@@ -28,7 +28,7 @@ why-number-requires-2 c κs = search needs
 returns-2 : tie.Need-returns-2
 returns-2 c =
     let a = c .before .before .before .before .before .before .before .args in
-    widen-small (a .old .now) (a .new .now) (c .before .if1 .taken) (c .why-number2 .ensures)
+    widen-other-room (a .old .now) (a .new .now) (c .before .if1 .taken) (c .why-number2 .ensures)
 
 fill-requires : tie.Need-fill-requires
 fill-requires c κs = search needs
