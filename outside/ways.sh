@@ -4,7 +4,8 @@
 surface='module look moves'
 
 # The archives of dist/, 'NAME: WORDS' a line. A word is an option of LLVM's own, unless it begins with '-'. What each gives, in bytes and in
-# machine instructions a step, 'outside/size --tried' prints. `apart` is a word of ours: these functions are not laid into their caller, though they have but one.
+# machine instructions a step, 'outside/size --tried' prints. `apart` is a word of ours: the functions below are not laid into their caller,
+# though they have but one.
 library_ways() {
   cat <<'END'
 fast: apart bonus-inst-threshold=0 inline-threshold=275 two-entry-phi-node-folding-threshold=2

@@ -5,7 +5,8 @@ use mathlib.Core.Path.{_≡_, refl, ap, sym, _∙_, subst}
 use mathlib.Core.Logic.{_⊎_, inl, inr}
 use mathlib.Core.Bool.{Bool, true, false, not}
 use mathlib.Core.List.{List}
-use lib.ListN.{length}
+use lib.ListN.{length, replicate}
+use lib.Seq.{take-append-le}
 use borrow.Author.Tests.{eq-eqb, not-true, not-false}
 use Rattle.little.specs.Bytes.{Bytes}
 use Rattle.answer.specs.declared.Answer.{Answer}
@@ -22,7 +23,7 @@ use Rattle.saved.proofs.RoundTrip.{front-is-old, sound-at, good-says, read-save
 use Rattle.moves.specs.Moves.{widenAnswer, widenBytes, narrowAnswer, narrowBytes, CWidenMeets, CNarrowMeets}
 use Rattle.moves.specs.Statements.{Widens, Settled}
 use Rattle.moves.specs.inner.Filled.{filled}
-use Rattle.moves.proofs.Filling.{filled-long, filled-short}
+use Rattle.moves.proofs.Filling.{filled-long}
 
 -- ---- what is promised is settled
 pub settled : Settled
@@ -109,4 +110,4 @@ module _ (new room : List ℕ) {o : Restored} {f : Bool} (e : o ≡ restoredOf n
   pub narrow-fills : {b : List ℕ} {n : ℕ} → not f ≡ false → b ≡ filled (length room) new → n ≡ numberOf Done → CNarrowMeets new room n b
   narrow-fills t m k =
       let l : oldLength ≤ length new = subst (λ (x : ℕ). oldLength ≤ x) (sym (good-says recordLength new good .0)) (omega arith) in
-      told k refl (m ∙ ap (λ (x : ℕ). filled x new) fit ∙ filled-short oldLength new l) (narrow-done new room good fit (fits (not-false f t)))
+      told k refl (m ∙ ap (λ (x : ℕ). filled x new) fit ∙ take-append-le oldLength new (replicate oldLength 0) l) (narrow-done new room good fit (fits (not-false f t)))

@@ -4,22 +4,20 @@ use Prim.Native.Nat.{_≤_, _-_}
 use mathlib.Core.Path.{_≡_, refl, sym, _∙_}
 use mathlib.Core.Logic.{⊎-elim}
 use mathlib.Core.List.{_++_}
-use lib.ListN.{length, getD, take, drop, length-set, List·getD-eq-default}
-use native.Mathlib.Nat.{sub-zero}
-use Rattle.moves.specs.inner.Filled.{filled}
+use lib.ListN.{length, getD, take, replicate, length-set, List·getD-eq-default}
 use Rattle.moves.proofs.Filling.{fill-more, fill-done}
 use Rattle.moves.proofs.fill.Statement.{statement}
 use Rattle.moves.proofs.fill.Tie as tie
 
 abbrev Inv-loop : tie.InvT-loop
 Inv-loop room₀ from i₀ room i =
-    (i ≤ length room) × ((length room ≡ length room₀) × (take i room ++ filled (length room - i) (drop i from) ≡ filled (length room₀) from))
+    (i ≤ length room) × ((length room ≡ length room₀) × (take i room ≡ take i (from ++ replicate (length room₀) 0)))
 
 abbrev μ-loop : tie.MeasureT-loop
 μ-loop room₀ from i₀ room i = length room - i
 
 loop-holds : tie.Need-loop-holds Inv-loop μ-loop
-loop-holds c = (search needs, (refl, simp sub-zero))
+loop-holds c = (search needs, (refl, refl))
 
 shared-slice-read-room : tie.Need-shared-slice-read-room Inv-loop μ-loop
 shared-slice-read-room c = search needs
@@ -39,7 +37,7 @@ loop-again c =
     let from = c .before .before .before .args .from .now in
     let byte : c .if1 .room ≡ getD from (l .i) 0 =
     ⊎-elim (λ t. t .2) (λ t. t .1 ∙ sym (List·getD-eq-default from 0 (t .0 .left))) (c .if1 .came) in
-    (simp length-set (omega arith), (simp length-set (l .inv .1 .0), fill-more (l .room) from (l .i) _ (c .before .loop-test .taken) byte (l .inv .1 .1)))
+    (simp length-set (omega arith), (simp length-set (l .inv .1 .0), fill-more (l .room) from _ (l .i) _ (c .before .loop-test .taken) (l .inv .1 .0) byte (l .inv .1 .1)))
 
 same-length : tie.Need-same-length Inv-loop μ-loop
 same-length c = search needs
@@ -47,7 +45,7 @@ same-length c = search needs
 returns : tie.Need-returns Inv-loop μ-loop
 returns c =
     let l = c .before .loop in
-    fill-done (l .room) _ (l .i) (c .loop-test .left) (l .inv .1 .1)
+    fill-done (l .room) (c .before .before .args .from .now) _ (l .i) (c .loop-test .left) (l .inv .0) (l .inv .1 .0) (l .inv .1 .1)
 
 pub fill-spec : {M : Type 1} → statement M
 fill-spec =

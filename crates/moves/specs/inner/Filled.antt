@@ -1,7 +1,6 @@
 -- What a room is filled with.
-use Rattle.little.specs.Words.{ℕ, zero, suc, List, [], _∷_, getD, drop}
+use Rattle.little.specs.Words.{ℕ, List, _++_, take, replicate}
 
 -- n bytes: those of a record, and zeros past its end
-unfoldable pub filled : ℕ → List ℕ → List ℕ
-filled zero l = []
-filled (suc n) l = getD l 0 0 ∷ filled n (drop 1 l)
+abbrev pub filled : ℕ → List ℕ → List ℕ
+filled n l = take n (l ++ replicate n 0)
