@@ -2,6 +2,7 @@ pub mod Ones
 pub mod Shifts
 pub mod Ranges
 pub mod Shifting
+pub mod Twice
 pub mod Depends
 pub mod Results
 pub mod Order

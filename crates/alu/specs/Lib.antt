@@ -6,5 +6,6 @@ pub mod Count
 pub mod Extend
 pub mod Change
 pub mod Meaning
+pub mod Twice
 pub mod Cases
 pub mod inner

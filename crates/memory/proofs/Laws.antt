@@ -5,8 +5,8 @@ use mathlib.Core.Bool.{Bool, true, false, cond, _&&_}
 use mathlib.Core.List.{List, [], _∷_, _++_}
 use native.Mathlib.Omega.{arith}
 use lib.Dec.{leb}
-use lib.ListN.{length, getD, take, drop, length-drop, length-take}
-use lib.Seq.{take-all}
+use lib.ListN.{length, getD, take, drop, length-append, length-drop, length-take}
+use lib.Seq.{take-all, drop-drop, drop-append-seam}
 use borrow.Author.Tests.{le-leb, lt-leb, leb-true, leb-false}
 use Rattle.answer.specs.declared.Answer.the-variants as answer
 use Rattle.answer.specs.declared.Why.{Why}
@@ -108,6 +108,36 @@ bytes-le Long = omega arith
 pub code-in : (ram rom : List ℕ) (a : ℕ) {p : Place} → placeOf (length ram) (length rom) a 1 ≡ p → codeAt ram rom a ≡ codeFrom p ram rom
 unfolding codeAt
 code-in ram rom a e = ap (λ (p : Place). codeFrom p ram rom) e
+
+-- and it goes on behind what stands first in it
+module _ (ram rom : List ℕ) (a : ℕ) (p : List ℕ) (x : ℕ) (q : List ℕ) (h : length ram ≤ 2 ^ 24) where
+  many : (l : List ℕ) (o : ℕ) → drop o l ≡ p ++ x ∷ q → length l - o ≡ length p + (length q + 1)
+  many l o f = sym (length-drop o l) ∙ ap length f ∙ length-append p (x ∷ q) ∙ omega arith
+
+  later : (l : List ℕ) (o : ℕ) → drop o l ≡ p ++ x ∷ q → drop (o + length p) l ≡ x ∷ q
+  later l o f = sym (drop-drop (length p) o l) ∙ ap (drop (length p)) f ∙ drop-append-seam p (x ∷ q)
+
+  pub code-on : codeAt ram rom a ≡ p ++ x ∷ q → (a + length p < 2 ^ 24) × (codeAt ram rom (a + length p) ≡ x ∷ q)
+  unfolding codeAt
+  code-on e = go (at (length ram) (length rom) a 1) e
+    where
+      b : ℕ
+      b = a + length p
+
+      go : {w : Place} → At (length ram) (length rom) a 1 w → codeFrom w ram rom ≡ p ++ x ∷ q → (b < 2 ^ 24) × (codeFrom (placeOf (length ram) (length rom) b 1) ram rom ≡ x ∷ q)
+      go (in-ram i) f =
+          let m = many ram a f in
+          (omega arith, ap (λ (w : Place). codeFrom w ram rom) (place-ram (length ram) (length rom) b 1 (omega arith)) ∙ later ram a f)
+      go (in-rom i j k) f =
+          let o = a + length rom - 2 ^ 24 in
+          let m = many rom o f in
+          let d : b + length rom - 2 ^ 24 ≡ o + length p = omega arith in (
+            omega arith,
+            ap (λ (w : Place). codeFrom w ram rom) (place-rom (length ram) (length rom) b 1 (omega arith) (omega arith) (omega arith))
+            ∙ ap (λ (n : ℕ). drop n rom) d
+            ∙ later rom o f,
+          )
+      go (nowhere i j) f = let m : 0 ≡ length p + (length q + 1) = ap length f ∙ length-append p (x ∷ q) ∙ omega arith in absurd (omega arith)
 
 module _ (ram rom : List ℕ) (a : ℕ) (z : Size) (n : ℕ) (size : n ≡ bytesOf z) where
   pub load-in : {p : Place} → placeOf (length ram) (length rom) a n ≡ p → loadOf ram rom a z ≡ loadFrom p ram rom n

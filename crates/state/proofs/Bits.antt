@@ -2,7 +2,7 @@
 use Prim.Native.Nat.{ℕ, _+_, _*_, _/_, _%_, _^_, _<_, _≤_}
 use mathlib.Core.Path.{_≡_, refl, ap, sym, _∙_, subst}
 use native.Mathlib.Omega.{arith}
-use native.Mathlib.Nat.{mod-lt, div-one, div-eq-of-lt}
+use native.Mathlib.Nat.{mod-lt, mod-mod, div-add-mod', div-one, div-eq-of-lt}
 use lib.Pow.{pow-pos, pow-mono, pow-add, high, low, shr-lt, shr-shr, field, mod-mod-pow}
 use lib.Arith.{digits-lt}
 use Rattle.state.specs.Register.{getBits, setBits, startOf, widthOf}
@@ -30,6 +30,20 @@ unfolding setBits
 set-above o k x v =
     rw (high (x / 2 ^ o / 2 ^ k * 2 ^ k + v % 2 ^ k) o (mod-lt x (pow-pos o)))
     (high (x / 2 ^ o / 2 ^ k) k (mod-lt v (pow-pos k)))
+
+-- its three parts
+set-is : (o k x v : ℕ) → setBits o k x v ≡ (x / 2 ^ o / 2 ^ k * 2 ^ k + v % 2 ^ k) * 2 ^ o + x % 2 ^ o
+unfolding setBits
+set-is o k x v = refl
+
+-- of two writes the last one counts, and what is there may be written there
+pub set-again : (o k x v w : ℕ) → setBits o k (setBits o k x v) w ≡ setBits o k x w
+set-again o k x v w = set-is o k (setBits o k x v) w ∙ rw (set-above o k x v, set-below o k x v) (sym (set-is o k x w))
+
+pub set-same : (o k x : ℕ) → setBits o k x (getBits o k x) ≡ x
+unfolding setBits getBits
+set-same o k x =
+    rw (mod-mod (x / 2 ^ o) (2 ^ k), div-add-mod' (x / 2 ^ o) (2 ^ k)) (div-add-mod' x (2 ^ o))
 
 -- a part that ends at or below the start of the one written, and one that starts at or above its end, keep their bits
 pub get-below : (m o k p q x v : ℕ) → o ≡ m + (q + p) → getBits p q (setBits o k x v) ≡ getBits p q x

@@ -7,7 +7,8 @@ use mathlib.Core.Logic.{_⊎_, inl, inr, _↔_}
 use native.Mathlib.Omega.{arith}
 use native.Mathlib.Nat.{mod-lt}
 use lib.Dec.{ltb, leb, eqb}
-use lib.ListN.{getD}
+use lib.ListN.{getD, set}
+use lib.Seq.{set-set, set-getD}
 use borrow.Author.Tests.{lt-ltb, le-ltb, le-leb, eq-eqb, ne-eqb, eqb-true, eqb-false, ltb-true, leb-true}
 use Rattle.little.specs.declared.Size.{Size}
 use Rattle.little.specs.declared.Size.the-variants.{Byte, Word, Long}
@@ -20,8 +21,8 @@ use Rattle.state.specs.State.{banked, longOf, withLong}
 use Rattle.state.specs.Register.{getBits, setBits, startOf, widthOf, slotOf, slotIn, setSlot, registerAt, setRegister}
 use Rattle.state.specs.Named.{sixteenOf, byteNamed, isNamed, Bits, bits, nowhere, named, heldIn, withHeld, codeFor}
 use Rattle.state.specs.Sound.{Sound}
-use Rattle.state.specs.Naming.{CodesAre, byteIn, Names, Share, PlainNames, PartWrites, PartsOverlap, PartsApart}
-use Rattle.state.proofs.Bits.{get-set, set-lt}
+use Rattle.state.specs.Naming.{CodesAre, byteIn, Names, Share, PlainNames, PartWrites, PartRewrites, PartsOverlap, PartsApart}
+use Rattle.state.proofs.Bits.{get-set, set-again, set-same, set-lt}
 use Rattle.state.proofs.Laws.{long-same, long-other, part-apart, sound-with}
 use Rattle.state.proofs.Fields.{byte-current, byte-field, long-field}
 
@@ -278,6 +279,29 @@ part-writes s bank z code v ok h = (
   only-registers s (named bank (bytesOf z) code) v,
   sound-held s bank z code v ok,
 )
+
+-- ---- a part that is written again
+written-twice : (s : State) (i o k v w : ℕ) → Sound s → i < 20 → withHeld (withHeld s (bits i o k) v) (bits i o k) w ≡ withHeld s (bits i o k) w
+unfolding withHeld withLong
+written-twice s i o k v w ok h =
+    let x = longOf s i in
+    ap (λ (y : ℕ). banked s (set (set (s .registers) i (setBits o k x v)) i (setBits o k y w)) (s .bank)) (long-same s i (setBits o k x v) ok h)
+    ∙ ap (λ (l : List ℕ). banked s l (s .bank)) (set-set (s .registers) i (setBits o k x v) (setBits o k (setBits o k x v) w))
+    ∙ ap (λ (y : ℕ). banked s (set (s .registers) i y) (s .bank)) (set-again o k x v w)
+
+written-same : (s : State) (i o k : ℕ) → withHeld s (bits i o k) (heldIn (s .registers) (bits i o k)) ≡ s
+unfolding withHeld withLong heldIn longOf
+written-same s i o k =
+    ap (λ (y : ℕ). banked s (set (s .registers) i y) (s .bank)) (set-same o k (getD (s .registers) i 0))
+    ∙ ap (λ (l : List ℕ). banked s l (s .bank)) (set-getD (s .registers) i 0)
+
+pub part-rewrites : PartRewrites
+part-rewrites s bank z code v w ok h =
+    let a = byteNamed bank code in
+    rw (is-bits bank z code (h .2)) (
+      written-twice s (a / 4) (8 * (a % 4)) (8 * bytesOf z) v w ok (byte-lt bank code (h .0)),
+      written-same s (a / 4) (8 * (a % 4)) (8 * bytesOf z),
+    )
 
 pub parts-apart : PartsApart
 parts-apart s bank z y c d v ok h k far =

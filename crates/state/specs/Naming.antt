@@ -34,6 +34,13 @@ PartWrites =
     × (after ≡ banked s (after .registers) (s .bank))
     × Sound after
 
+-- of two writes to it the last one counts, and it may be written with what it holds
+abbrev pub PartRewrites : Type 0
+PartRewrites =
+    (s : State) (bank : ℕ) (z : Size) (code v w : ℕ) → Sound s → Names bank z code →
+    let part = named bank (bytesOf z) code in
+    (withHeld (withHeld s part v) part w ≡ withHeld s part w) × (withHeld s part (heldIn (s .registers) part) ≡ s)
+
 -- two parts share a bit
 abbrev pub Share : Bits → Bits → Type 0
 Share (bits i o k) (bits j p l) = (i ≡ j) × ((o < p + l) × (p < o + k))
