@@ -1,0 +1,180 @@
+-- Rows of instructions (specs/Row.antt), proved.
+use Prim.Native.Nat.{ℕ, suc, _+_, _%_, _^_, _<_, _≤_}
+use mathlib.Core.Path.{_≡_, refl, sym, ap, _∙_, subst}
+use mathlib.Core.List.{List, [], _∷_, _++_, append-nil, append-assoc}
+use mathlib.Core.Bool.{true}
+use native.Mathlib.Omega.{arith}
+use native.Mathlib.Nat.{mod-lt, mod-mod, mod-add-mod, mod-eq-of-lt, add-zero, add-assoc}
+use native.Mathlib.Numerals.{add-one}
+use lib.ListN.{length, length-append}
+use Rattle.answer.specs.declared.Answer.the-variants.{Done}
+use Rattle.memory.specs.Access.{codeAt, codeFrom}
+use Rattle.memory.specs.Place.{placeOf}
+use Rattle.memory.specs.declared.Place.{Place}
+use Rattle.memory.proofs.Laws.{place-ram, code-in, code-on}
+use Rattle.little.specs.declared.Size.{Size}
+use Rattle.state.specs.declared.State.{State}
+use Rattle.state.specs.State.{lent, validOf, withCounter}
+use Rattle.state.specs.Sound.{Sound}
+use Rattle.state.proofs.Valid.{valid-says, valid-from, valid-counter}
+use Rattle.code.specs.declared.Op.{Op}
+use Rattle.code.specs.declared.Operand.{Operand}
+use Rattle.code.specs.declared.Instruction.{Instruction}
+use Rattle.code.specs.declared.Decoded.the-variants as decoded
+use Rattle.code.specs.Range.{InRange}
+use Rattle.code.specs.Listed.{decodeOf}
+use Rattle.code.specs.Written.{codeOf}
+use Rattle.code.proofs.Exact.{reads-back, range-test}
+use Rattle.operand.specs.Try.{Try, did, no}
+use Rattle.exec.specs.Exec.{pastOf, effectOf, executedOf}
+use Rattle.turn.specs.Once.{onceOf}
+use Rattle.turn.specs.Many.{Result, ends}
+use Rattle.turn.proofs.ManySteps.{many-none}
+use Rattle.step.specs.Step.{tryOf}
+use Rattle.facts.specs.Statements.{Within}
+use Rattle.facts.proofs.Statements.{not-long}
+use Rattle.run.specs.Run.{mostSteps, runOf}
+use Rattle.run.specs.Statements.{later}
+use Rattle.run.proofs.Laws.{try-once, run-goes, still-passes}
+use Rattle.run.proofs.Joins.{run-is-steps}
+use Rattle.patch.specs.Row.{Row, inARow, StandAt, Makes, RowMakes, Fit, RowSettled, RowRuns, Ready, PatchKeeps}
+
+-- ---- the counter
+again : (s : State) (a b : ℕ) → withCounter (withCounter s a) b ≡ withCounter s b
+unfolding withCounter
+again s a b = refl
+
+same-counter : (s : State) (a b : ℕ) → a % 2 ^ 24 ≡ b % 2 ^ 24 → withCounter s a ≡ withCounter s b
+unfolding withCounter
+same-counter s a b e = ap (λ (c : ℕ). lent s (s .registers) c (s .bank .0) (s .flags) (s .spare)) e
+
+counter-is : (s : State) (a : ℕ) → a < 2 ^ 24 → withCounter s a .counter ≡ a
+unfolding withCounter
+counter-is s a h = mod-eq-of-lt h
+
+-- ---- a step
+-- the instruction that an operation of a size is with its operand
+abbrev instruction : Op → Size → Operand → Instruction
+instruction op z o = record { op = op; size = z; operand = o; length = length (codeOf op z o) }
+
+once-whole : (s : State) (ram rom : List ℕ) (i : Instruction) → decodeOf (codeAt ram rom (s .counter)) ≡ decoded.Whole i → onceOf s ram rom ≡ executedOf i s ram rom
+unfolding onceOf
+once-whole s ram rom i e = rw e refl
+
+past-is : (s : State) (at n : ℕ) → pastOf n (withCounter s at) ≡ withCounter s (withCounter s at .counter + n)
+unfolding pastOf withCounter
+past-is s at n = refl
+
+passes : (s : State) (ram rom : List ℕ) → Within ram rom → validOf s ≡ true → tryOf s ram rom ≡ onceOf s ram rom
+passes s ram rom w v = try-once s ram rom (not-long (length ram) (length rom) (w .0) (w .1)) v
+
+valid-at : (s : State) (at : ℕ) → validOf s ≡ true → validOf (withCounter s at) ≡ true
+valid-at s at v = valid-from (withCounter s at) (valid-counter s at (valid-says s v))
+
+-- an operation within its range that makes t of s wherever the counter is
+pub makes :
+    (op : Op) (z : Size) (o : Operand) (s t : State) → InRange op z o → validOf s ≡ true →
+    ((at c : ℕ) (ram rom : List ℕ) → effectOf op z o at (withCounter s c) ram rom ≡ did (withCounter t c) ram) → Makes (codeOf op z o) s t
+unfolding executedOf
+makes op z o s t r v e ram rom at w l (rest, stands) =
+    let u = withCounter s at in
+    let n = length (codeOf op z o) in
+    let c = counter-is s at l in
+    let d : decodeOf (codeAt ram rom (u .counter)) ≡ decoded.Whole (instruction op z o) =
+    ap (λ (x : ℕ). decodeOf (codeAt ram rom x)) c ∙ ap decodeOf stands ∙ reads-back op z o rest (range-test op z o .1 r) in
+    passes u ram rom w (valid-at s at v)
+    ∙ once-whole u ram rom (instruction op z o) d
+    ∙ ap (λ (x : State). effectOf op z o (u .counter) x ram rom) (past-is s at n)
+    ∙ e (u .counter) (u .counter + n) ram rom
+    ∙ ap (λ (x : ℕ). did (withCounter t (x + n)) ram) c
+
+-- ---- one outcome
+-- code that fits into a memory can stand in one
+alone : (code : List ℕ) → StandAt code [] 0 code
+unfolding codeAt placeOf
+alone [] = ([], refl)
+alone (b ∷ code) = ([], ap (λ (p : Place). codeFrom p (b ∷ code) []) (place-ram (length (b ∷ code)) 0 0 1 (omega arith)) ∙ sym (append-nil (b ∷ code)))
+
+-- the state that a step that is done leaves
+abbrev stateIn : State → Try → State
+stateIn s (did t m) = t
+stateIn s (no w) = s
+
+module _ (s s′ : State) (e : withCounter s 0 ≡ withCounter s′ 0) where
+  same-at : (at : ℕ) → withCounter s at ≡ withCounter s′ at
+  same-at at = sym (again s 0 at) ∙ ap (λ (x : State). withCounter x at) e ∙ again s′ 0 at
+
+  one-made : (code : List ℕ) (t u : State) → length code ≤ 2 ^ 16 → Makes code s t → Makes code s′ u → withCounter t 0 ≡ withCounter u 0
+  one-made code t u h p q =
+      let n = 0 + length code in
+      let w : Within code [] = (h, omega arith) in
+      let d = sym (p code [] 0 w (omega arith) (alone code)) ∙ (ap (λ (x : State). tryOf x code []) (same-at 0) ∙ q code [] 0 w (omega arith) (alone code)) in
+      sym (again t n 0) ∙ ap (λ (x : Try). withCounter (stateIn s x) 0) d ∙ again u n 0
+
+one-outcome : (row : Row) (s s′ t u : State) → Fit row → withCounter s 0 ≡ withCounter s′ 0 → RowMakes row s t → RowMakes row s′ u → withCounter t 0 ≡ withCounter u 0
+unfolding RowMakes Fit
+one-outcome [] s s′ t u h e p q = ap (λ (x : State). withCounter x 0) (sym p) ∙ e ∙ ap (λ (x : State). withCounter x 0) q
+one-outcome (code ∷ row) s s′ t u h e (v, p, ps) (w, q, qs) = one-outcome row v w t u (h .1) (one-made s s′ e code v w (h .0) p q) ps qs
+
+pub row-settled : RowSettled
+row-settled row s t u h p q = one-outcome row s s t u h refl p q
+
+-- ---- rows that stand in a row
+-- what stands behind code
+behind :
+    (ram rom : List ℕ) (at : ℕ) (code more : List ℕ) → length ram ≤ 2 ^ 16 → StandAt ram rom at (code ++ more) →
+    StandAt ram rom ((at + length code) % 2 ^ 24) more
+behind ram rom at code [] h (rest, e) = (codeAt ram rom ((at + length code) % 2 ^ 24), refl)
+behind ram rom at code (x ∷ more) h (rest, e) =
+    let o = code-on ram rom at code x (more ++ rest) (omega arith) (e ∙ append-assoc code (x ∷ more) rest) in
+    (rest, ap (codeAt ram rom) (mod-eq-of-lt (o .0)) ∙ o .1)
+
+module _ (ram rom : List ℕ) (w : Within ram rom) where
+  run-none : (s : State) → validOf s ≡ true → runOf 0 s ram rom ≡ ends 0 s ram Done
+  run-none s v = run-goes s ram rom 0 (omega arith) (not-long (length ram) (length rom) (w .0) (w .1)) v ∙ many-none 0 s ram rom
+
+  runs :
+      (row : Row) (s t : State) (at : ℕ) → RowMakes row s t → validOf (withCounter s at) ≡ true → length row ≤ mostSteps → at < 2 ^ 24 →
+      StandAt ram rom at (inARow row) → runOf (length row) (withCounter s at) ram rom ≡ ends (length row) (withCounter t (at + length (inARow row))) ram Done
+  unfolding RowMakes inARow
+  runs [] s t at e v n l stands =
+      run-none (withCounter s at) v
+      ∙ ap (λ (x : State). ends 0 (withCounter x at) ram Done) e
+      ∙ ap (λ (x : ℕ). ends 0 (withCounter t x) ram Done) (sym (add-zero at))
+  runs (code ∷ row) s t at (u, p, ps) v n l (rest, e) =
+      let c = at + length code in
+      let d = c % 2 ^ 24 in
+      let first = p ram rom at w l (inARow row ++ rest, e ∙ append-assoc code (inARow row) rest) in
+      let once = sym (passes (withCounter s at) ram rom w v) ∙ first in
+      let valid = still-passes (withCounter s at) ram rom (withCounter u c) ram v once .0 in
+      let moved : withCounter u c ≡ withCounter u d = same-counter u c d (sym (mod-mod c (2 ^ 24))) in
+      let k = length row in
+      let rests = runs row u t d ps (subst (λ (x : State). validOf x ≡ true) moved valid) (omega arith) (mod-lt c (omega arith)) (behind ram rom at code (inARow row) (w .0) (rest, e)) in
+      let far : (d + length (inARow row)) % 2 ^ 24 ≡ (at + length (code ++ inARow row)) % 2 ^ 24 =
+      mod-add-mod c (2 ^ 24) (length (inARow row)) ∙ ap (λ (x : ℕ). x % 2 ^ 24) (add-assoc at (length code) (length (inARow row)) ∙ ap (λ (x : ℕ). at + x) (sym (length-append code (inARow row)))) in
+      ap (λ (x : ℕ). runOf x (withCounter s at) ram rom) (sym (add-one k))
+      ∙ run-is-steps (withCounter s at) ram rom k (omega arith) .0 (withCounter u c) ram first
+      ∙ ap (λ (x : State). later 1 (runOf k x ram rom)) moved
+      ∙ ap (later 1) rests
+      ∙ ap (λ (x : State). ends (1 + k) x ram Done) (same-counter t (d + length (inARow row)) (at + length (code ++ inARow row)) far)
+      ∙ ap (λ (x : ℕ). ends x (withCounter t (at + length (code ++ inARow row))) ram Done) (omega arith)
+
+-- a state at its own counter
+own-counter : (s : State) → s .counter < 2 ^ 24 → withCounter s (s .counter) ≡ s
+unfolding withCounter
+own-counter s h = ap (λ (c : ℕ). lent s (s .registers) c (s .bank .0) (s .flags) (s .spare)) (mod-eq-of-lt h)
+
+pub row-runs : RowRuns
+row-runs row s t ram rom p ok n stands =
+    let l = valid-says s (ok .1) .counter in
+    let e = own-counter s l in
+    ap (λ (x : State). runOf (length row) x ram rom) (sym e)
+    ∙ runs ram rom (ok .0) row s t (s .counter) p (subst (λ (x : State). validOf x ≡ true) (sym e) (ok .1)) n l stands
+
+pub patch-keeps : PatchKeeps
+patch-keeps before after s at at′ ram rom ram′ rom′ same ok v p q =
+    let m = same s ok v in (
+      m .0,
+      runs ram rom (p .within) before s (m .0) at (m .1) (valid-at s at v) (p .steps) (p .address) (p .stands),
+      runs ram′ rom′ (q .within) after s (m .0) at′ (m .2) (valid-at s at′ v) (q .steps) (q .address) (q .stands),
+    )
