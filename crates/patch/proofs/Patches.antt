@@ -31,29 +31,32 @@ use Rattle.state.specs.declared.State.{State}
 use Rattle.state.specs.State.{validOf, withCounter, withBank, withFlags, withBothFlags}
 use Rattle.state.specs.declared.Bank.{Bank}
 use Rattle.state.specs.Named.{Bits, named, heldIn, withHeld}
+use Rattle.state.specs.Register.{getRegister}
 use Rattle.state.specs.Sound.{Sound}
+use Rattle.state.proofs.Naming.{plain-names, sound-held}
 use Rattle.state.proofs.Valid.{Valid, valid-says, valid-from}
 use Rattle.code.specs.declared.Operand.{Operand}
-use Rattle.code.specs.declared.Operand.the-variants.{Register, Constant}
+use Rattle.code.specs.declared.Operand.the-variants.{Register, Named, Constant, Memory}
 use Rattle.code.specs.declared.Op.the-variants.{Controls, Puts}
 use Rattle.code.specs.declared.Control.{Control}
 use Rattle.code.specs.declared.Control.the-variants.{Nop, Incf, Decf, Exf}
 use Rattle.code.specs.declared.Use.the-variants.{Changed, Load, From}
 use Rattle.code.specs.Rows.{noByte}
-use Rattle.code.specs.Range.{Holds, changeRange, InRange, InRegisters}
+use Rattle.code.specs.Range.{Holds, changeRange, placeRange, InRange, InRegisters}
 use Rattle.code.specs.Written.{codeOf}
 use Rattle.operand.specs.Try.{Try, did, no}
 use Rattle.operand.specs.Flag.{flagsIn, flagged, exchanged}
 use Rattle.operand.specs.Operand.{valueIn, putAt}
 use Rattle.operand.proofs.Flags.{valid-packed, valid-fits}
 use Rattle.control.specs.Control.{controlOf}
+use Rattle.control.specs.Undone.{Undoes}
 use Rattle.control.proofs.Undone.{banks-undone, exchange-undone}
 use Rattle.compute.specs.Compute.{resultIn, putsOf}
 use Rattle.exec.specs.Exec.{effectOf}
 use Rattle.facts.proofs.Kept.{Whole, whole-kept}
 use Rattle.patch.specs.Row.{Row, Makes, RowMakes, LeaveSame}
-use Rattle.patch.specs.Patches.{ShiftsMerge, nop, incf, decf, exf, BanksReturn, ExchangesReturn, NopsAreNothing, incCode, decCode, CountsMerge, OnesAreMany, CountsReturn, LoadBackIsNothing}
-use Rattle.patch.proofs.Rows.{makes}
+use Rattle.patch.specs.Patches.{ShiftsMerge, nop, incf, decf, exf, BanksReturn, ExchangesReturn, NopsAreNothing, incCode, decCode, CountsMerge, OnesAreMany, CountsReturn, intoCode, outOfCode, LoadBackIsNothing}
+use Rattle.patch.proofs.Rows.{stateIn, makes}
 use Rattle.patch.proofs.Parts.{codeIn, part, value-is, put-is, held-bank, held-counter, held-flagged, held-lt, held-back, held-twice, held-same, copied-held}
 
 -- ---- rows
@@ -262,3 +265,171 @@ ones-are-many z o (suc m) n h f g = (
     ap-one x k old p q =
         let e : 1 + k ≡ suc k = omega arith in
         rw e at (counts-join (bitsOf z) x 1 k old (wide z n) (omega arith, p, omega arith))
+
+-- ---- banks, flags, and NOP
+-- the state that one of these leaves, by the state alone
+abbrev turned : Control → State → State
+turned what s = stateIn s (controlOf what 0 s [])
+
+-- what is of one byte and has no number
+abbrev plainCode : Control → List ℕ
+plainCode what = codeOf (Controls what) Byte (Constant 0)
+
+-- it does the same whatever the counter and RAM are
+abbrev Plain : Control → Type 0
+Plain what =
+    InRange (Controls what) Byte (Constant 0)
+    × ((s : State) (at c : ℕ) (ram rom : List ℕ) → effectOf (Controls what) Byte (Constant 0) at (withCounter s c) ram rom ≡ did (withCounter (turned what s) c) ram)
+
+plain-incf : Plain Incf
+unfolding effectOf controlOf withBank withCounter
+plain-incf = ((tt, omega arith), λ s at c ram rom. refl)
+
+plain-decf : Plain Decf
+unfolding effectOf controlOf withBank withCounter
+plain-decf = ((tt, omega arith), λ s at c ram rom. refl)
+
+plain-exf : Plain Exf
+unfolding effectOf controlOf withBothFlags withCounter
+plain-exf = ((tt, omega arith), λ s at c ram rom. refl)
+
+plain-nop : Plain Nop
+unfolding effectOf controlOf withCounter
+plain-nop = ((tt, omega arith), λ s at c ram rom. refl)
+
+plain-makes : (what : Control) (s : State) → Plain what → Whole s → Makes (plainCode what) s (turned what s)
+plain-makes what s p w = makes (Controls what) Byte (Constant 0) s (turned what s) (p .0) (valid-of s w) (p .1 s)
+
+-- the second undoes the first
+undone : (first second : Control) (s : State) → Undoes second first s → turned second (turned first s) ≡ s
+undone first second s u = go (u 0 0 [])
+  where
+    go : (t : State) × (controlOf first 0 s [] ≡ did t []) × (controlOf second 0 t [] ≡ did s []) → turned second (turned first s) ≡ s
+    go (t, e, f) = ap (λ (x : Try). turned second (stateIn s x)) e ∙ ap (stateIn t) f
+
+whole-incf : (s : State) → Whole s → Whole (turned Incf s)
+unfolding controlOf
+whole-incf s w = whole-kept .banks s (s .bank .0 + 1) w
+
+whole-decf : (s : State) → Whole s → Whole (turned Decf s)
+unfolding controlOf
+whole-decf s w = whole-kept .banks s (s .bank .0 + 3) w
+
+whole-exf : (s : State) → Whole s → Whole (turned Exf s)
+unfolding controlOf
+whole-exf s w = whole-kept .exchanges s w
+
+-- a step that another one undoes
+abbrev StepBack : List ℕ → List ℕ → Type 0
+StepBack f g = (s : State) → Whole s → (u : State) × Whole u × Makes f s u × Makes g u s
+
+step-back :
+    (first second : Control) → Plain first → Plain second → ((s : State) → Whole s → Whole (turned first s)) →
+    ((s : State) → Whole s → Undoes second first s) → StepBack (plainCode first) (plainCode second)
+step-back first second p q k u s w =
+    let t = turned first s in
+    (t, k s w, plain-makes first s p w, subst (Makes (plainCode second) t) (undone first second s (u s w)) (plain-makes second t q (k s w)))
+
+-- n times the one and then n times the other
+last : (g : List ℕ) (n : ℕ) → g ∷ replicate n g ≡ replicate n g ++ (g ∷ [])
+last g n = ap (λ (k : ℕ). replicate k g) (sym (add-one n)) ∙ sym (replicate-append-replicate n 1 g)
+
+there-and-back : (f g : List ℕ) → StepBack f g → (n : ℕ) (s : State) → Whole s → RowMakes (replicate n f ++ replicate n g) s s
+unfolding RowMakes
+there-and-back f g b zero s w = refl
+there-and-back f g b (suc n) s w =
+    let (u, k, p, q) = b s w in
+    let e : (replicate n f ++ replicate n g) ++ (g ∷ []) ≡ replicate n f ++ (g ∷ replicate n g) =
+    append-assoc (replicate n f) (replicate n g) (g ∷ []) ∙ ap (λ (l : Row). replicate n f ++ l) (sym (last g n)) in
+    (u, p, subst (λ (l : Row). RowMakes l u s) e (joined (replicate n f ++ replicate n g) (g ∷ []) u u s (there-and-back f g b n u k) (one g u s q)))
+
+back-same : (f g : List ℕ) → StepBack f g → (n : ℕ) → LeaveSame (replicate n f ++ replicate n g) []
+back-same f g b n s ok v = (s, there-and-back f g b n s (whole s ok v), nothing s)
+
+bank-lt : (s : State) → Whole s → s .bank .0 < 4
+bank-lt s w = w .0 .bank
+
+pub banks-return : BanksReturn
+unfolding codeOf
+banks-return n = (
+  back-same incf decf (step-back Incf Decf plain-incf plain-decf whole-incf (λ s w. banks-undone s (bank-lt s w) .0)) n,
+  back-same decf incf (step-back Decf Incf plain-decf plain-incf whole-decf (λ s w. banks-undone s (bank-lt s w) .1)) n,
+)
+
+pub exchanges-return : ExchangesReturn
+unfolding codeOf
+exchanges-return = back-same exf exf (step-back Exf Exf plain-exf plain-exf whole-exf (λ s w. exchange-undone s)) 1
+
+nop-makes : (s : State) → Whole s → Makes nop s s
+unfolding codeOf controlOf
+nop-makes s w = plain-makes Nop s plain-nop w
+
+nops : (n : ℕ) (s : State) → Whole s → RowMakes (replicate n nop) s s
+unfolding RowMakes
+nops zero s w = refl
+nops (suc n) s w = (s, nop-makes s w, nops n s w)
+
+pub nops-are-nothing : NopsAreNothing
+nops-are-nothing n s ok v = (s, nops n s (whole s ok v), nothing s)
+
+-- ---- loads
+-- what one register holds, put into another
+abbrev copied : Size → Operand → Operand → State → State
+copied z to from s = withHeld s (part s z to) (heldIn (s .registers) (part s z from))
+
+-- a register is one of the places that a load can name
+in-place : (z : Size) (o : Operand) → InRegisters z o → Holds (placeRange z o)
+in-place z (Register r) h = h
+in-place z (Named c) h = h
+in-place z (Constant n) h = absurd h
+in-place z (Memory m) h = absurd h
+
+module _ (z : Size) (o : Operand) (r : ℕ) (h : InRegisters z o) (k : r < 8) where
+  into-effect : (s : State) (at c : ℕ) (ram rom : List ℕ) → effectOf (Puts (From r)) z o at (withCounter s c) ram rom ≡ did (withCounter (copied z o (Register r) s) c) ram
+  unfolding effectOf putsOf withCounter
+  into-effect s at c ram rom =
+      put-is (withCounter s c) ram rom z o (getRegister s z r) h
+      ∙ ap (λ (v : ℕ). did (withHeld (withCounter s c) (part s z o) v) ram) (plain-names (s .bank) z r .0 (s .registers))
+      ∙ ap (λ (x : State). did x ram) (held-counter s c (part s z o) (heldIn (s .registers) (part s z (Register r))))
+
+  out-effect : (s : State) (at c : ℕ) (ram rom : List ℕ) → effectOf (Puts (Load r)) z o at (withCounter s c) ram rom ≡ did (withCounter (copied z (Register r) o s) c) ram
+  unfolding effectOf putsOf withCounter
+  out-effect s at c ram rom =
+      let v = heldIn (s .registers) (part s z o) in
+      rw (value-is (withCounter s c) ram rom z o h)
+      (ap (λ (x : State). did x ram) (plain-names (s .bank) z r .1 (withCounter s c) v refl ∙ held-counter s c (part s z (Register r)) v))
+
+  into-makes : (s : State) → Whole s → Makes (intoCode z o r) s (copied z o (Register r) s)
+  into-makes s w = makes (Puts (From r)) z o s (copied z o (Register r) s) (k, in-place z o h) (valid-of s w) (into-effect s)
+
+  out-makes : (s : State) → Whole s → Makes (outOfCode z o r) s (copied z (Register r) o s)
+  out-makes s w = makes (Puts (Load r)) z o s (copied z (Register r) o s) (k, in-place z o h) (valid-of s w) (out-effect s)
+
+-- what is copied back is there already
+module _ (z : Size) (to from : Operand) (a : InRegisters z to) (b : InRegisters z from) where
+  copied-whole : (s : State) → Whole s → Whole (copied z to from s)
+  copied-whole s w = whole-kept .parts s z (codeIn z to) (heldIn (s .registers) (part s z from)) w
+
+  copied-back : (s : State) → Sound s → copied z from to (copied z to from s) ≡ copied z to from s
+  copied-back s ok =
+      let v = heldIn (s .registers) (part s z from) in
+      let t = copied z to from s in
+      let same : (o : Operand) → part t z o ≡ part s z o = λ o. ap (λ (x : Bank). named (x .0 % 4) (bytesOf z) (codeIn z o)) (held-bank s (part s z to) v) in
+      let here : heldIn (t .registers) (part t z to) ≡ v = ap (heldIn (t .registers)) (same to) ∙ held-back s z to a ok v (held-lt s z from b) in
+      let there : heldIn (t .registers) (part t z from) ≡ v = ap (heldIn (t .registers)) (same from) ∙ copied-held s z to from a b ok in
+      ap (withHeld t (part t z from)) (here ∙ sym there) ∙ held-same t z from b (sound-held s (s .bank .0 % 4) z (codeIn z to) v ok)
+
+  -- two loads, each by its code
+  loaded-back :
+      (there back : List ℕ) → ((s : State) → Whole s → Makes there s (copied z to from s)) → ((s : State) → Whole s → Makes back s (copied z from to s)) →
+      LeaveSame (there ∷ back ∷ []) (there ∷ [])
+  loaded-back there back p q s ok v =
+      let w = whole s ok v in
+      let t = copied z to from s in
+      (t, two there back s t t (p s w) (subst (Makes back t) (copied-back s ok) (q t (copied-whole s w))), one there s t (p s w))
+
+pub load-back-is-nothing : LoadBackIsNothing
+load-back-is-nothing z o r h k = (
+  loaded-back z o (Register r) h k (intoCode z o r) (outOfCode z o r) (into-makes z o r h k) (out-makes z o r h k),
+  loaded-back z (Register r) o k h (outOfCode z o r) (intoCode z o r) (out-makes z o r h k) (into-makes z o r h k),
+)

@@ -96,7 +96,7 @@ alone [] = ([], refl)
 alone (b ∷ code) = ([], ap (λ (p : Place). codeFrom p (b ∷ code) []) (place-ram (length (b ∷ code)) 0 0 1 (omega arith)) ∙ sym (append-nil (b ∷ code)))
 
 -- the state that a step that is done leaves
-abbrev stateIn : State → Try → State
+abbrev pub stateIn : State → Try → State
 stateIn s (did t m) = t
 stateIn s (no w) = s
 
