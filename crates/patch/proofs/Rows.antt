@@ -31,7 +31,7 @@ use Rattle.turn.specs.Once.{onceOf}
 use Rattle.turn.specs.Many.{Result, ends}
 use Rattle.turn.proofs.ManySteps.{many-none}
 use Rattle.step.specs.Step.{tryOf}
-use Rattle.facts.specs.Statements.{Within}
+use Rattle.facts.specs.Statements.{Within, Passed}
 use Rattle.facts.proofs.Statements.{not-long}
 use Rattle.run.specs.Run.{mostSteps, runOf}
 use Rattle.run.specs.Statements.{later}
@@ -44,7 +44,7 @@ again : (s : State) (a b : ℕ) → withCounter (withCounter s a) b ≡ withCoun
 unfolding withCounter
 again s a b = refl
 
-same-counter : (s : State) (a b : ℕ) → a % 2 ^ 24 ≡ b % 2 ^ 24 → withCounter s a ≡ withCounter s b
+pub same-counter : (s : State) (a b : ℕ) → a % 2 ^ 24 ≡ b % 2 ^ 24 → withCounter s a ≡ withCounter s b
 unfolding withCounter
 same-counter s a b e = ap (λ (c : ℕ). lent s (s .registers) c (s .bank .0) (s .flags) (s .spare)) e
 
@@ -57,33 +57,39 @@ counter-is s a h = mod-eq-of-lt h
 abbrev instruction : Op → Size → Operand → Instruction
 instruction op z o = record { op = op; size = z; operand = o; length = length (codeOf op z o) }
 
-once-whole : (s : State) (ram rom : List ℕ) (i : Instruction) → decodeOf (codeAt ram rom (s .counter)) ≡ decoded.Whole i → onceOf s ram rom ≡ executedOf i s ram rom
+pub once-whole : (s : State) (ram rom : List ℕ) (i : Instruction) → decodeOf (codeAt ram rom (s .counter)) ≡ decoded.Whole i → onceOf s ram rom ≡ executedOf i s ram rom
 unfolding onceOf
 once-whole s ram rom i e = rw e refl
 
+pub passes : (s : State) (ram rom : List ℕ) → Within ram rom → validOf s ≡ true → tryOf s ram rom ≡ onceOf s ram rom
+passes s ram rom w v = try-once s ram rom (not-long (length ram) (length rom) (w .0) (w .1)) v
+
+-- an operation within its range that stands at the counter
+pub try-code :
+    (op : Op) (z : Size) (o : Operand) (s : State) (ram rom : List ℕ) → InRange op z o → Passed s ram rom → StandAt ram rom (s .counter) (codeOf op z o) →
+    tryOf s ram rom ≡ effectOf op z o (s .counter) (pastOf (length (codeOf op z o)) s) ram rom
+unfolding executedOf
+try-code op z o s ram rom r ok (rest, stands) =
+    passes s ram rom (ok .0) (ok .1)
+    ∙ once-whole s ram rom (instruction op z o) (ap decodeOf stands ∙ reads-back op z o rest (range-test op z o .1 r))
+
+-- the same wherever the counter is
 past-is : (s : State) (at n : ℕ) → pastOf n (withCounter s at) ≡ withCounter s (withCounter s at .counter + n)
 unfolding pastOf withCounter
 past-is s at n = refl
 
-passes : (s : State) (ram rom : List ℕ) → Within ram rom → validOf s ≡ true → tryOf s ram rom ≡ onceOf s ram rom
-passes s ram rom w v = try-once s ram rom (not-long (length ram) (length rom) (w .0) (w .1)) v
-
 valid-at : (s : State) (at : ℕ) → validOf s ≡ true → validOf (withCounter s at) ≡ true
 valid-at s at v = valid-from (withCounter s at) (valid-counter s at (valid-says s v))
 
--- an operation within its range that makes t of s wherever the counter is
+-- an operation that makes t of s wherever the counter is
 pub makes :
     (op : Op) (z : Size) (o : Operand) (s t : State) → InRange op z o → validOf s ≡ true →
     ((at c : ℕ) (ram rom : List ℕ) → effectOf op z o at (withCounter s c) ram rom ≡ did (withCounter t c) ram) → Makes (codeOf op z o) s t
-unfolding executedOf
 makes op z o s t r v e ram rom at w l (rest, stands) =
     let u = withCounter s at in
     let n = length (codeOf op z o) in
     let c = counter-is s at l in
-    let d : decodeOf (codeAt ram rom (u .counter)) ≡ decoded.Whole (instruction op z o) =
-    ap (λ (x : ℕ). decodeOf (codeAt ram rom x)) c ∙ ap decodeOf stands ∙ reads-back op z o rest (range-test op z o .1 r) in
-    passes u ram rom w (valid-at s at v)
-    ∙ once-whole u ram rom (instruction op z o) d
+    try-code op z o u ram rom r (w, valid-at s at v) (rest, ap (codeAt ram rom) c ∙ stands)
     ∙ ap (λ (x : State). effectOf op z o (u .counter) x ram rom) (past-is s at n)
     ∙ e (u .counter) (u .counter + n) ram rom
     ∙ ap (λ (x : ℕ). did (withCounter t (x + n)) ram) c
