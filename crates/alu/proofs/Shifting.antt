@@ -16,9 +16,10 @@ use Rattle.alu.specs.declared.Shift.the-variants.{Sla, Sra, Sll, Srl}
 use Rattle.alu.specs.declared.shifter.Shifted.{Shifted}
 use Rattle.flags.specs.Width.{low, negative, weighed}
 use Rattle.flags.specs.Sums.{resultOf}
+use Rattle.alu.specs.Logic.{plain}
 use Rattle.alu.specs.Shift.{shifted, onePlace, shiftBy, shiftOf}
 use Rattle.flags.specs.Meaning.{off}
-use Rattle.alu.specs.Meaning.{EndsWithAPlace, LeftMultiplies, RightDivides, SignedRightDivides, ExtsKeepsNumber}
+use Rattle.alu.specs.Meaning.{EndsWithAPlace, LeftMultiplies, LeftShiftsAgree, RightDivides, SignedRightDivides, ExtsKeepsNumber}
 use Rattle.flags.proofs.Widths.{twice, bits-pos, half-le, half-top}
 use Rattle.alu.proofs.Ranges.{extz-half}
 use Rattle.alu.proofs.Shifts.{shift-add}
@@ -63,6 +64,16 @@ left-after w f k a (suc n) =
 pub left-multiplies : LeftMultiplies
 unfolding shiftOf resultOf after
 left-multiplies k a n = (left-after Sla (λ k x. refl) k a n, left-after Sll (λ k x. refl) k a n)
+
+-- a place is the same in both
+left-places : (k n : ℕ) (s : Shifted) → shiftBy Sla k n s ≡ shiftBy Sll k n s
+unfolding shiftBy
+left-places k zero s = refl
+left-places k (suc n) s = left-places k n (onePlace Sla k (s .value))
+
+pub left-shifts-agree : LeftShiftsAgree
+unfolding shiftOf
+left-shifts-agree k a n = ap (λ (t : Shifted). plain k (t .value) false (t .out)) (left-places k n (shifted (low k a) false))
 
 -- ---- to the right
 right-after : (k x n : ℕ) → after Srl k x n ≡ x / 2 ^ n

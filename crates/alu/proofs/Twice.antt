@@ -29,7 +29,7 @@ places-back n p q =
 
 pub shifts-join : ShiftsJoin
 shifts-join w k x a b old p (f, g, h) =
-    rw (places-back a f (omega arith), places-back b g (omega arith), places-back (a + b) (omega arith) h)
+    rw (places-back a f (omega arith), places-back b g (omega arith), places-back (a + b) (omega arith) (omega arith))
     (shift-merge w k x a b p (omega arith))
 
 -- ---- counts
@@ -125,7 +125,7 @@ module _ (k x : ℕ) (old : Flags) (h : k ≢ 8) where
 pub counts-join : CountsJoin
 counts-join k x a b old h (f, g, l) =
     let p = pow-pos k in
-    rw (steps-back a f (omega arith), steps-back b g (omega arith), steps-back (a + b) (omega arith) l) (
+    rw (steps-back a f (omega arith), steps-back b g (omega arith), steps-back (a + b) (omega arith) (omega arith)) (
       rw (inc-is k x old h a) (inc-is k (up (2 ^ k) p x a) old h b ∙ ap (keeping old) (up-up (2 ^ k) p x a b) ∙ sym (inc-is k x old h (a + b))),
       rw (dec-is k x old h a) (dec-is k (down (2 ^ k) p x a) old h b ∙ ap (keeping old) (down-down (2 ^ k) p x a b) ∙ sym (dec-is k x old h (a + b))),
     )
@@ -153,7 +153,7 @@ bytes-joined x a b old =
 
 pub byte-counts-join : ByteCountsJoin
 byte-counts-join x a b old (f, g, l) =
-    rw (steps-back a f (omega arith), steps-back b g (omega arith), steps-back (a + b) (omega arith) l) (bytes-joined x a b old)
+    rw (steps-back a f (omega arith), steps-back b g (omega arith), steps-back (a + b) (omega arith) (omega arith)) (bytes-joined x a b old)
 
 pub byte-counts-differ : (old : Flags) → ByteCountsDiffer old
 unfolding incOf decOf sumOf differenceOf resultOf

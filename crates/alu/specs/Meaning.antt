@@ -48,6 +48,10 @@ EndsWithAPlace = (w : Shift) (k a n : ℕ) → LastPlace w k a n
 abbrev pub LeftMultiplies : Type 0
 LeftMultiplies = (k a n : ℕ) → (shiftOf Sla k a n .value ≡ low k (a * 2 ^ n)) × (shiftOf Sll k a n .value ≡ low k (a * 2 ^ n))
 
+-- and have the same flags
+abbrev pub LeftShiftsAgree : Type 0
+LeftShiftsAgree = (k a n : ℕ) → shiftOf Sla k a n ≡ shiftOf Sll k a n
+
 -- SRL divides by 2 ^ n, rounding down
 abbrev pub RightDivides : Type 0
 RightDivides = (k a n : ℕ) → shiftOf Srl k a n .value ≡ low k a / 2 ^ n

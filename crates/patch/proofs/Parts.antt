@@ -13,12 +13,9 @@ use Rattle.little.specs.declared.Size.{Size}
 use Rattle.little.specs.declared.Size.the-variants.{Byte, Word, Long}
 use Rattle.little.specs.Width.{bytesOf, bitsOf}
 use Rattle.memory.specs.declared.Loaded.the-variants.{Value}
-use Rattle.flags.specs.declared.Computed.{Computed}
 use Rattle.flags.specs.declared.Flags.{Flags}
-use Rattle.flags.specs.Flag.{packedOf, flagsOf}
 use Rattle.state.specs.declared.State.{State}
 use Rattle.state.specs.State.{longOf, withLong, withCounter, withFlags, withBothFlags}
-use Rattle.state.specs.Register.{getBits, getRegister, setRegister}
 use Rattle.state.specs.Named.{sixteenOf, byteNamed, isNamed, Bits, bits, nowhere, named, heldIn, withHeld, codeFor}
 use Rattle.state.specs.Naming.{Names}
 use Rattle.state.specs.Sound.{Sound}

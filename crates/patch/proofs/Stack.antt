@@ -1,30 +1,27 @@
 -- PUSH R and then POP R (specs/Patches.antt), proved.
 use Prim.Native.Nat.{ℕ, _+_, _-_, _%_, _^_, _<_, _≤_}
 use mathlib.Core.Path.{_≡_, refl, sym, ap, _∙_, subst}
-use mathlib.Core.List.{List, [], _∷_, _++_}
-use mathlib.Core.Bool.{Bool, true, false}
+use mathlib.Core.List.{List}
+use mathlib.Core.Bool.{true}
 use mathlib.Core.Logic.{inl, ⊎-elim}
 use native.Mathlib.Omega.{arith}
-use native.Mathlib.Nat.{mod-eq-of-lt}
 use lib.ListN.{length, take, drop}
-use Rattle.answer.specs.Number.{numberOf}
 use Rattle.answer.specs.declared.Why.{Why}
-use Rattle.answer.specs.declared.Answer.{Answer}
-use Rattle.answer.specs.declared.Answer.the-variants.{Done, Refused}
+use Rattle.answer.specs.declared.Answer.the-variants.{Done}
 use Rattle.little.specs.declared.Size.{Size}
 use Rattle.little.specs.declared.Size.the-variants.{Byte, Word, Long}
 use Rattle.little.specs.Width.{bytesOf, bitsOf}
 use Rattle.little.specs.Bytes.{valueOf, bytesFrom, replaced}
 use Rattle.little.proofs.Laws.{length-bytes, value-bytes, replaced-part}
-use Rattle.memory.specs.Access.{codeAt, bytesAt, loadFrom, loadBytes, storeTo, storeBytes, ramWith, ramBytes}
+use Rattle.memory.specs.Access.{bytesAt, loadFrom, loadBytes, storeTo, ramWith, ramBytes}
 use Rattle.memory.specs.declared.Place.{Place}
 use Rattle.memory.specs.declared.Place.the-variants.{Ram, Rom, Missing}
 use Rattle.memory.specs.declared.Loaded.the-variants as loaded
 use Rattle.memory.proofs.Laws.{place-ram, ram-fits, bytes-length, bytes-below, bytes-above}
 use Rattle.state.specs.declared.State.{State}
-use Rattle.state.specs.State.{validOf, withCounter, withLong}
+use Rattle.state.specs.State.{withCounter, withLong}
 use Rattle.state.specs.Register.{setSlot, getRegister, setRegister}
-use Rattle.state.specs.Named.{Bits, heldIn, withHeld}
+use Rattle.state.specs.Named.{heldIn, withHeld}
 use Rattle.state.specs.Sound.{Sound}
 use Rattle.state.proofs.Laws.{register-lt, register-same}
 use Rattle.state.proofs.Valid.{valid-says}
@@ -32,29 +29,25 @@ use Rattle.state.proofs.Naming.{plain-names}
 use Rattle.code.specs.declared.Operand.the-variants.{Register}
 use Rattle.code.specs.declared.Op.the-variants.{Stacks}
 use Rattle.code.specs.declared.Stack.the-variants.{Push, Pop}
-use Rattle.code.specs.declared.Instruction.{Instruction}
 use Rattle.code.specs.declared.Decoded.the-variants as decoded
 use Rattle.code.specs.Rows.{noByte}
-use Rattle.code.specs.Range.{InRange}
-use Rattle.code.specs.Listed.{decodeOf}
 use Rattle.code.specs.Written.{codeOf}
 use Rattle.code.proofs.Holds.{so-that}
 use Rattle.operand.specs.Try.{Try, did, no, leaves}
-use Rattle.operand.specs.Operand.{pointerOf, storedBy}
+use Rattle.operand.specs.Operand.{storedBy}
 use Rattle.operand.specs.Round.{less, plus}
 use Rattle.stack.specs.Stack.{withStack, pushOf, popOf, stackOf}
-use Rattle.exec.specs.Exec.{pastOf, effectOf, executedOf}
-use Rattle.turn.specs.Once.{onceOf}
+use Rattle.exec.specs.Exec.{pastOf, effectOf}
 use Rattle.step.specs.Step.{tryOf, stepOf}
-use Rattle.facts.specs.Statements.{Within, Passed}
+use Rattle.facts.specs.Statements.{Passed}
 use Rattle.facts.specs.Touched.{bytes, belowStack, KeepsRest}
 use Rattle.facts.proofs.Kept.{Whole, whole-kept}
 use Rattle.facts.proofs.Statements.{operated}
 use Rattle.run.proofs.Laws.{still-passes}
-use Rattle.patch.specs.Row.{StandAt}
+use Rattle.patch.specs.Piece.{StandAt}
 use Rattle.patch.specs.Patches.{pushCode, popCode, PopUndoesPush}
-use Rattle.patch.proofs.Rows.{same-counter, stateIn, passes, try-code}
-use Rattle.patch.proofs.Parts.{part, held-bank, held-counter, held-lt, held-twice, held-same}
+use Rattle.patch.proofs.Pieces.{same-counter, stateIn, passes, try-code}
+use Rattle.patch.proofs.Parts.{part, held-bank, held-counter, held-twice, held-same}
 
 -- ---- registers
 module _ (s : State) (z : Size) (r : ℕ) (h : r < 8) (ok : Sound s) where
@@ -199,11 +192,11 @@ done-passed s ram rom t m e = operated s ram rom Done (inl refl) (ap (λ (x : Tr
 module _ (z : Size) (r : ℕ) (wide : noByte z ≡ true) (h : r < 7) (s : State) (ram rom : List ℕ) (p : Passed s ram rom) where
   push-is : StandAt ram rom (s .counter) (pushCode z r) → tryOf s ram rom ≡ pushOf (pastOf 1 s) ram rom z (getRegister (pastOf 1 s) z r)
   unfolding codeOf effectOf stackOf
-  push-is stands = try-code (Stacks Push) z (Register r) s ram rom (so-that wide, h) p stands
+  push-is stands = try-code (Stacks Push) z (Register r) s ram rom (so-that wide, omega arith) p stands
 
   pop-is : StandAt ram rom (s .counter) (popCode z r) → tryOf s ram rom ≡ effectOf (Stacks Pop) z (Register r) (s .counter) (pastOf 1 s) ram rom
   unfolding codeOf
-  pop-is stands = try-code (Stacks Pop) z (Register r) s ram rom (so-that wide, h) p stands
+  pop-is stands = try-code (Stacks Pop) z (Register r) s ram rom (so-that wide, omega arith) p stands
 
 -- a store leaves the bytes below and above it
 rest-kept : (ram rom : List ℕ) (a n v : ℕ) → KeepsRest (bytes a n) ram (ramBytes ram rom a n v)

@@ -1,4 +1,4 @@
--- What a patcher may put for what (request K10). Each statement is proved in proofs/Patches.antt or proofs/Stack.antt.
+-- What a patcher may put for what (request K10). Each statement is proved in proofs/Changes.antt, Bytes, Turns, Loads or Stack.
 use Rattle.little.specs.Words.{ℕ, _+_, _%_, _<_, _≤_, _≡_, List, [], _∷_, _++_, replicate, true}
 use Rattle.little.specs.{declared.Size.Size, declared.Size.the-variants.Byte, Width.bytesOf}
 use Rattle.alu.specs.{declared.Shift.Shift, Twice.Merge}
@@ -12,7 +12,7 @@ use Rattle.code.specs.{Rows.noByte, Range.InRegisters, Written.codeOf}
 use Rattle.operand.specs.Try.{did}
 use Rattle.step.specs.Step.{tryOf}
 use Rattle.facts.specs.Touched.{belowStack, KeepsRest}
-use Rattle.patch.specs.Row.{StandAt, LeaveSame}
+use Rattle.patch.specs.Piece.{StandAt, LeaveSame}
 
 -- ---- shifts
 -- SLA, SRA, SLL or SRL of a register by n places, 1 to 16; the last byte of the code has 16 as 0

@@ -1,5 +1,5 @@
--- Rows of instructions (specs/Row.antt), proved.
-use Prim.Native.Nat.{ℕ, suc, _+_, _%_, _^_, _<_, _≤_}
+-- Pieces of code (specs/Piece.antt), proved.
+use Prim.Native.Nat.{ℕ, _+_, _%_, _^_, _<_, _≤_}
 use mathlib.Core.Path.{_≡_, refl, sym, ap, _∙_, subst}
 use mathlib.Core.List.{List, [], _∷_, _++_, append-nil, append-assoc}
 use mathlib.Core.Bool.{true}
@@ -11,7 +11,7 @@ use Rattle.answer.specs.declared.Answer.the-variants.{Done}
 use Rattle.memory.specs.Access.{codeAt, codeFrom}
 use Rattle.memory.specs.Place.{placeOf}
 use Rattle.memory.specs.declared.Place.{Place}
-use Rattle.memory.proofs.Laws.{place-ram, code-in, code-on}
+use Rattle.memory.proofs.Laws.{place-ram, code-on}
 use Rattle.little.specs.declared.Size.{Size}
 use Rattle.state.specs.declared.State.{State}
 use Rattle.state.specs.State.{lent, validOf, withCounter}
@@ -28,16 +28,17 @@ use Rattle.code.proofs.Exact.{reads-back, range-test}
 use Rattle.operand.specs.Try.{Try, did, no}
 use Rattle.exec.specs.Exec.{pastOf, effectOf, executedOf}
 use Rattle.turn.specs.Once.{onceOf}
-use Rattle.turn.specs.Many.{Result, ends}
+use Rattle.turn.specs.Many.{ends}
 use Rattle.turn.proofs.ManySteps.{many-none}
 use Rattle.step.specs.Step.{tryOf}
 use Rattle.facts.specs.Statements.{Within, Passed}
+use Rattle.facts.proofs.Kept.{Whole}
 use Rattle.facts.proofs.Statements.{not-long}
 use Rattle.run.specs.Run.{mostSteps, runOf}
 use Rattle.run.specs.Statements.{later}
 use Rattle.run.proofs.Laws.{try-once, run-goes, still-passes}
 use Rattle.run.proofs.Joins.{run-is-steps}
-use Rattle.patch.specs.Row.{Row, inARow, StandAt, Makes, RowMakes, Fit, RowSettled, RowRuns, Ready, PatchKeeps}
+use Rattle.patch.specs.Piece.{Piece, inARow, StandAt, CanStand, Makes, PieceMakes, Fit, PieceSettled, PiecesJoin, PieceRuns, PatchKeeps}
 
 -- ---- the counter
 again : (s : State) (a b : ℕ) → withCounter (withCounter s a) b ≡ withCounter s b
@@ -88,18 +89,41 @@ pub makes :
 makes op z o s t r v e ram rom at w l (rest, stands) =
     let u = withCounter s at in
     let n = length (codeOf op z o) in
-    let c = counter-is s at l in
+    let c = counter-is s at (omega arith) in
     try-code op z o u ram rom r (w, valid-at s at v) (rest, ap (codeAt ram rom) c ∙ stands)
     ∙ ap (λ (x : State). effectOf op z o (u .counter) x ram rom) (past-is s at n)
     ∙ e (u .counter) (u .counter + n) ram rom
     ∙ ap (λ (x : ℕ). did (withCounter t (x + n)) ram) c
 
+-- ---- small pieces, and two one after the other
+pub one : (code : List ℕ) (s t : State) → Makes code s t → PieceMakes (code ∷ []) s t
+unfolding PieceMakes
+one code s t p = (t, p, refl)
+
+pub two : (c d : List ℕ) (s t u : State) → Makes c s t → Makes d t u → PieceMakes (c ∷ d ∷ []) s u
+unfolding PieceMakes
+two c d s t u p q = (t, p, (u, q, refl))
+
+pub pieces-join : PiecesJoin
+unfolding PieceMakes
+pieces-join [] q s t u e w = subst (λ (x : State). PieceMakes q x u) (sym e) w
+pieces-join (c ∷ p) q s t u (v, m, ms) w = (v, m, pieces-join p q v t u ms w)
+
+pub nothing : (s : State) → PieceMakes [] s s
+unfolding PieceMakes
+nothing s = refl
+
+pub whole : (s : State) → Sound s → validOf s ≡ true → Whole s
+whole s ok v = (valid-says s v, ok)
+
+pub valid-of : (s : State) → Whole s → validOf s ≡ true
+valid-of s w = valid-from s (w .0)
+
 -- ---- one outcome
--- code that fits into a memory can stand in one
-alone : (code : List ℕ) → StandAt code [] 0 code
+pub can-stand : CanStand
 unfolding codeAt placeOf
-alone [] = ([], refl)
-alone (b ∷ code) = ([], ap (λ (p : Place). codeFrom p (b ∷ code) []) (place-ram (length (b ∷ code)) 0 0 1 (omega arith)) ∙ sym (append-nil (b ∷ code)))
+can-stand [] = ([], refl)
+can-stand (b ∷ code) = ([], ap (λ (p : Place). codeFrom p (b ∷ code) []) (place-ram (length (b ∷ code)) 0 0 1 (omega arith)) ∙ sym (append-nil (b ∷ code)))
 
 -- the state that a step that is done leaves
 abbrev pub stateIn : State → Try → State
@@ -114,18 +138,18 @@ module _ (s s′ : State) (e : withCounter s 0 ≡ withCounter s′ 0) where
   one-made code t u h p q =
       let n = 0 + length code in
       let w : Within code [] = (h, omega arith) in
-      let d = sym (p code [] 0 w (omega arith) (alone code)) ∙ (ap (λ (x : State). tryOf x code []) (same-at 0) ∙ q code [] 0 w (omega arith) (alone code)) in
+      let d = sym (p code [] 0 w (omega arith) (can-stand code)) ∙ (ap (λ (x : State). tryOf x code []) (same-at 0) ∙ q code [] 0 w (omega arith) (can-stand code)) in
       sym (again t n 0) ∙ ap (λ (x : Try). withCounter (stateIn s x) 0) d ∙ again u n 0
 
-one-outcome : (row : Row) (s s′ t u : State) → Fit row → withCounter s 0 ≡ withCounter s′ 0 → RowMakes row s t → RowMakes row s′ u → withCounter t 0 ≡ withCounter u 0
-unfolding RowMakes Fit
+one-outcome : (piece : Piece) (s s′ t u : State) → Fit piece → withCounter s 0 ≡ withCounter s′ 0 → PieceMakes piece s t → PieceMakes piece s′ u → withCounter t 0 ≡ withCounter u 0
+unfolding PieceMakes Fit
 one-outcome [] s s′ t u h e p q = ap (λ (x : State). withCounter x 0) (sym p) ∙ e ∙ ap (λ (x : State). withCounter x 0) q
-one-outcome (code ∷ row) s s′ t u h e (v, p, ps) (w, q, qs) = one-outcome row v w t u (h .1) (one-made s s′ e code v w (h .0) p q) ps qs
+one-outcome (code ∷ piece) s s′ t u h e (v, p, ps) (w, q, qs) = one-outcome piece v w t u (h .1) (one-made s s′ e code v w (h .0) p q) ps qs
 
-pub row-settled : RowSettled
-row-settled row s t u h p q = one-outcome row s s t u h refl p q
+pub piece-settled : PieceSettled
+piece-settled piece s t u h p q = one-outcome piece s s t u h refl p q
 
--- ---- rows that stand in a row
+-- ---- pieces that stand in a memory
 -- what stands behind code
 behind :
     (ram rom : List ℕ) (at : ℕ) (code more : List ℕ) → length ram ≤ 2 ^ 16 → StandAt ram rom at (code ++ more) →
@@ -140,42 +164,42 @@ module _ (ram rom : List ℕ) (w : Within ram rom) where
   run-none s v = run-goes s ram rom 0 (omega arith) (not-long (length ram) (length rom) (w .0) (w .1)) v ∙ many-none 0 s ram rom
 
   runs :
-      (row : Row) (s t : State) (at : ℕ) → RowMakes row s t → validOf (withCounter s at) ≡ true → length row ≤ mostSteps → at < 2 ^ 24 →
-      StandAt ram rom at (inARow row) → runOf (length row) (withCounter s at) ram rom ≡ ends (length row) (withCounter t (at + length (inARow row))) ram Done
-  unfolding RowMakes inARow
+      (piece : Piece) (s t : State) (at : ℕ) → PieceMakes piece s t → validOf (withCounter s at) ≡ true → length piece ≤ mostSteps → at < 2 ^ 24 →
+      StandAt ram rom at (inARow piece) → runOf (length piece) (withCounter s at) ram rom ≡ ends (length piece) (withCounter t (at + length (inARow piece))) ram Done
+  unfolding PieceMakes inARow
   runs [] s t at e v n l stands =
       run-none (withCounter s at) v
       ∙ ap (λ (x : State). ends 0 (withCounter x at) ram Done) e
       ∙ ap (λ (x : ℕ). ends 0 (withCounter t x) ram Done) (sym (add-zero at))
-  runs (code ∷ row) s t at (u, p, ps) v n l (rest, e) =
+  runs (code ∷ piece) s t at (u, p, ps) v n l (rest, e) =
       let c = at + length code in
       let d = c % 2 ^ 24 in
-      let first = p ram rom at w l (inARow row ++ rest, e ∙ append-assoc code (inARow row) rest) in
+      let first = p ram rom at w l (inARow piece ++ rest, e ∙ append-assoc code (inARow piece) rest) in
       let once = sym (passes (withCounter s at) ram rom w v) ∙ first in
       let valid = still-passes (withCounter s at) ram rom (withCounter u c) ram v once .0 in
       let moved : withCounter u c ≡ withCounter u d = same-counter u c d (sym (mod-mod c (2 ^ 24))) in
-      let k = length row in
-      let rests = runs row u t d ps (subst (λ (x : State). validOf x ≡ true) moved valid) (omega arith) (mod-lt c (omega arith)) (behind ram rom at code (inARow row) (w .0) (rest, e)) in
-      let far : (d + length (inARow row)) % 2 ^ 24 ≡ (at + length (code ++ inARow row)) % 2 ^ 24 =
-      mod-add-mod c (2 ^ 24) (length (inARow row)) ∙ ap (λ (x : ℕ). x % 2 ^ 24) (add-assoc at (length code) (length (inARow row)) ∙ ap (λ (x : ℕ). at + x) (sym (length-append code (inARow row)))) in
+      let k = length piece in
+      let rests = runs piece u t d ps (subst (λ (x : State). validOf x ≡ true) moved valid) (omega arith) (mod-lt c (omega arith)) (behind ram rom at code (inARow piece) (w .0) (rest, e)) in
+      let far : (d + length (inARow piece)) % 2 ^ 24 ≡ (at + length (code ++ inARow piece)) % 2 ^ 24 =
+      mod-add-mod c (2 ^ 24) (length (inARow piece)) ∙ ap (λ (x : ℕ). x % 2 ^ 24) (add-assoc at (length code) (length (inARow piece)) ∙ ap (λ (x : ℕ). at + x) (sym (length-append code (inARow piece)))) in
       ap (λ (x : ℕ). runOf x (withCounter s at) ram rom) (sym (add-one k))
       ∙ run-is-steps (withCounter s at) ram rom k (omega arith) .0 (withCounter u c) ram first
       ∙ ap (λ (x : State). later 1 (runOf k x ram rom)) moved
       ∙ ap (later 1) rests
-      ∙ ap (λ (x : State). ends (1 + k) x ram Done) (same-counter t (d + length (inARow row)) (at + length (code ++ inARow row)) far)
-      ∙ ap (λ (x : ℕ). ends x (withCounter t (at + length (code ++ inARow row))) ram Done) (omega arith)
+      ∙ ap (λ (x : State). ends (1 + k) x ram Done) (same-counter t (d + length (inARow piece)) (at + length (code ++ inARow piece)) far)
+      ∙ ap (λ (x : ℕ). ends x (withCounter t (at + length (code ++ inARow piece))) ram Done) (omega arith)
 
 -- a state at its own counter
 own-counter : (s : State) → s .counter < 2 ^ 24 → withCounter s (s .counter) ≡ s
 unfolding withCounter
 own-counter s h = ap (λ (c : ℕ). lent s (s .registers) c (s .bank .0) (s .flags) (s .spare)) (mod-eq-of-lt h)
 
-pub row-runs : RowRuns
-row-runs row s t ram rom p ok n stands =
+pub piece-runs : PieceRuns
+piece-runs piece s t ram rom p ok n stands =
     let l = valid-says s (ok .1) .counter in
     let e = own-counter s l in
-    ap (λ (x : State). runOf (length row) x ram rom) (sym e)
-    ∙ runs ram rom (ok .0) row s t (s .counter) p (subst (λ (x : State). validOf x ≡ true) (sym e) (ok .1)) n l stands
+    ap (λ (x : State). runOf (length piece) x ram rom) (sym e)
+    ∙ runs ram rom (ok .0) piece s t (s .counter) p (subst (λ (x : State). validOf x ≡ true) (sym e) (ok .1)) n l stands
 
 pub patch-keeps : PatchKeeps
 patch-keeps before after s at at′ ram rom ram′ rom′ same ok v p q =

@@ -1,0 +1,96 @@
+-- INC of a byte does not merge (specs/Patches.antt), proved.
+use Prim.Native.Nat.{ℕ, zero, _%_, _^_, _≤_}
+use mathlib.Core.Path.{_≡_, refl, sym, ap, _∙_}
+use mathlib.Core.List.{List, [], _∷_}
+use mathlib.Core.Bool.{true, false}
+use native.Mathlib.Omega.{arith}
+use lib.ListN.{length}
+use Rattle.little.specs.declared.Size.the-variants.{Byte}
+use Rattle.flags.specs.declared.Computed.{Computed}
+use Rattle.flags.specs.declared.Flags.{Flags}
+use Rattle.flags.specs.Flag.{flagsOf}
+use Rattle.flags.specs.Width.{one as bit}
+use Rattle.flags.proofs.Packed.{unpacked}
+use Rattle.alu.specs.declared.change.Change.the-variants.{Inc}
+use Rattle.alu.specs.Change.{changed}
+use Rattle.alu.specs.Twice.{changedTwice}
+use Rattle.alu.proofs.Twice.{byte-counts-differ}
+use Rattle.state.specs.declared.State.{State}
+use Rattle.state.specs.State.{zeroState, withCounter, withFlags, withBothFlags}
+use Rattle.state.specs.declared.Bank.{Bank}
+use Rattle.state.specs.Named.{Bits, named, heldIn, withHeld}
+use Rattle.state.specs.Sound.{Sound}
+use Rattle.state.proofs.Valid.{valid-zero}
+use Rattle.state.proofs.Sound.{fits, sound-by}
+use Rattle.code.specs.declared.Operand.the-variants.{Register}
+use Rattle.code.specs.Range.{InRegisters}
+use Rattle.code.specs.Written.{codeOf}
+use Rattle.operand.specs.Flag.{flagsIn, flagged}
+use Rattle.facts.proofs.Kept.{Whole, whole-kept}
+use Rattle.patch.specs.Piece.{Fit}
+use Rattle.patch.specs.Patches.{incCode, BytesDoNotMerge}
+use Rattle.patch.proofs.Pieces.{one, two, valid-of, piece-settled}
+use Rattle.patch.proofs.Parts.{codeIn, part, held-bank, held-back}
+use Rattle.patch.proofs.Changes.{resulting, held, twice-in, changed-piece, twice-piece}
+
+-- A holds 0FH, and all else is zero
+fifteen : State
+fifteen = withHeld zeroState (part zeroState Byte (Register 1)) 0x0F
+
+zero-sound : Sound zeroState
+unfolding zeroState fits
+zero-sound = sound-by zeroState tt
+
+fifteen-whole : Whole fifteen
+unfolding fifteen
+fifteen-whole = whole-kept .parts zeroState Byte (codeIn Byte (Register 1)) 0x0F (valid-zero, zero-sound)
+
+a-register : InRegisters Byte (Register 1)
+a-register = omega arith
+
+fifteen-held : held Byte (Register 1) a-register fifteen ≡ 0x0F
+unfolding fifteen
+fifteen-held =
+    ap (λ (b : Bank). heldIn (fifteen .registers) (named (b .0 % 4) 1 (codeIn Byte (Register 1)))) (held-bank zeroState (part zeroState Byte (Register 1)) 0x0F)
+    ∙ held-back zeroState Byte (Register 1) a-register zero-sound 0x0F (omega arith)
+
+-- what a result leaves as flags, whatever the counter is
+flags-left : (s : State) (p : Bits) (r : Computed) → flagsOf (withCounter (resulting s p r) 0 .flags) ≡ r .flags
+unfolding withCounter flagged withFlags withBothFlags
+flags-left s p r = unpacked (r .flags)
+
+short : (n : ℕ) → length (incCode Byte (Register 1) n) ≤ 2 ^ 16
+unfolding codeOf
+short n = omega arith
+
+fit-one : (c : List ℕ) → length c ≤ 2 ^ 16 → Fit (c ∷ [])
+unfolding Fit
+fit-one c h = (h, tt)
+
+fit-two : (c d : List ℕ) → length c ≤ 2 ^ 16 → length d ≤ 2 ^ 16 → Fit (c ∷ d ∷ [])
+unfolding Fit
+fit-two c d h k = (h, (k, tt))
+
+-- H after 0FH by one and by one, and by two
+bytes-differ : (x : ℕ) (old : Flags) → x ≡ 0x0F → changedTwice (Inc 1) (Inc 1) 8 x old .flags ≡ changed (Inc 2) 8 x old .flags → ⊥
+bytes-differ x old e f =
+    let g : changedTwice (Inc 1) (Inc 1) 8 0x0F old .flags ≡ changed (Inc 2) 8 0x0F old .flags = rw e at f in
+    let d = byte-counts-differ old .h in
+    let b : false ≡ true = sym (d .0) ∙ ap (λ (y : Flags). y .h) g ∙ d .1 in
+    let n : _≡_ {A = ℕ} 0 1 = ap bit b in
+    omega arith
+
+pub bytes-do-not-merge : BytesDoNotMerge
+bytes-do-not-merge same =
+    let s = fifteen in
+    let w = fifteen-whole in
+    let inc = incCode Byte (Register 1) in
+    let (t, p, q) = same s (w .1) (valid-of s w) in
+    let here = part s Byte (Register 1) in
+    let x = held Byte (Register 1) a-register s in
+    let r = changedTwice (Inc 1) (Inc 1) 8 x (flagsIn s) in
+    let u = changed (Inc 2) 8 x (flagsIn s) in
+    let e = piece-settled (inc 1 ∷ inc 1 ∷ []) s t (resulting s here r) (fit-two (inc 1) (inc 1) (short 1) (short 1)) p
+    (twice-piece Byte (Register 1) a-register (Inc 1) (Inc 1) s (resulting s here r) (omega arith) (omega arith) w (twice-in Byte (Register 1) a-register (Inc 1) (Inc 1) s (w .1))) in
+    let f = piece-settled (inc 2 ∷ []) s t (resulting s here u) (fit-one (inc 2) (short 2)) q (changed-piece Byte (Register 1) a-register (Inc 2) s (resulting s here u) (omega arith) w refl) in
+    bytes-differ x (flagsIn s) fifteen-held (sym (flags-left s here r) ∙ ap (λ (y : State). flagsOf (y .flags)) (sym e ∙ f) ∙ flags-left s here u)
