@@ -10,14 +10,14 @@ use Rattle.alu.specs.declared.Shift.the-variants.{Sla, Sra, Sll, Srl}
 use Rattle.flags.specs.Width.{low, negative, weighed, one}
 use Rattle.little.specs.declared.Size.{Size}
 use Rattle.little.specs.Width.{bitsOf}
-use lib.Dec.{leb, eqb, lit≤}
-use borrow.Author.Tests.{le-leb, lt-leb, leb-false, eqb-true, eqb-false}
+use lib.Dec.{leb}
+use borrow.Author.Tests.{le-leb, lt-leb, leb-false}
 use Rattle.alu.specs.Logic.{plain}
 use Rattle.flags.specs.Sums.{resultOf}
 use native.Mathlib.Numerals.{sub-one}
 use Rattle.alu.specs.declared.Shift.{Shift}
 use Rattle.alu.specs.declared.shifter.Shifted.{Shifted}
-use Rattle.alu.specs.Shift.{placesOf, shifted, joined, leftOf, rightOf, onePlace, shiftBy, shiftOf}
+use Rattle.alu.specs.Shift.{shifted, joined, leftOf, rightOf, onePlace, shiftBy, shiftOf}
 use Rattle.alu.specs.inner.Place.{goesLeft, comesIn, Goes}
 
 -- a places and then b places are a + b places
@@ -124,31 +124,6 @@ shift-merge w k x a b p h =
     (out-forgotten w k b (shifted (low k (shiftBy w k a (shifted (low k x) false) .value)) false) (shiftBy w k a (shifted (low k x) false)) h
     (mod-eq-of-lt (shift-lt w k a (shifted (low k x) false) p (mod-lt x (pow-pos k))))
     ∙ sym (shift-add w k a b (shifted (low k x) false)))
-
--- ---- the places that a code byte asks for: 1 to 16, and a number of places stands for itself
-pub places-pos : (n : ℕ) → 1 ≤ placesOf n
-unfolding placesOf
-places-pos n = go (eqb (n % 16) 0) refl
-  where
-    go : (b : Bool) → eqb (n % 16) 0 ≡ b → 1 ≤ cond b 16 (n % 16)
-    go true e = lit≤ tt
-    go false e = omega (arith, eqb-false)
-
-pub places-le : (n : ℕ) → placesOf n ≤ 16
-unfolding placesOf
-places-le n = go (eqb (n % 16) 0)
-  where
-    go : (b : Bool) → cond b 16 (n % 16) ≤ 16
-    go true = lit≤ tt
-    go false = omega arith
-
-pub places-self : (n : ℕ) → 1 ≤ n → n ≤ 16 → placesOf n ≡ n
-unfolding placesOf
-places-self n p q = go (eqb (n % 16) 0) refl
-  where
-    go : (b : Bool) → eqb (n % 16) 0 ≡ b → cond b 16 (n % 16) ≡ n
-    go true e = omega (arith, eqb-true)
-    go false e = omega (arith, eqb-false)
 
 -- ---- the value and the bit out of the number that joins them
 split-value : (v : ℕ) (b : Bool) → v < 2 ^ 32 → (v + one b * 2 ^ 32) % 2 ^ 32 ≡ v

@@ -17,15 +17,17 @@ use Rattle.alu.specs.declared.Shift.{Shift}
 use Rattle.alu.specs.Count.{stepsOf, countedOf, incOf, decOf}
 use Rattle.alu.specs.Shift.{placesOf, shiftOf}
 use Rattle.alu.specs.Twice.{Merge, ShiftsJoin, CountsJoin, CountsUndone, ButHAndV, ByteCountsJoin, ByteCountsDiffer}
-use Rattle.alu.proofs.Shifts.{shift-merge, places-self}
+use Rattle.alu.proofs.Shifts.{shift-merge}
 
 -- ---- shifts
 -- a number of places, 1 to 16, from its code byte
-places-back : (n : ℕ) → 1 ≤ n → n ≤ 16 → placesOf (n % 16) ≡ n
+places-by : (n : ℕ) (b : Bool) → 1 ≤ n → n ≤ 16 → eqb (n % 16 % 16) 0 ≡ b → placesOf (n % 16) ≡ n
 unfolding placesOf
-places-back n p q =
-    let e : n % 16 % 16 ≡ n % 16 = omega arith in
-    ap (λ (m : ℕ). cond (eqb m 0) 16 m) e ∙ places-self n p q
+places-by n true p q e = rw e (omega (arith, eqb-true (n % 16 % 16) 0 e))
+places-by n false p q e = rw e (omega (arith, eqb-false (n % 16 % 16) 0 e))
+
+places-back : (n : ℕ) → 1 ≤ n → n ≤ 16 → placesOf (n % 16) ≡ n
+places-back n p q = places-by n (eqb (n % 16 % 16) 0) p q refl
 
 pub shifts-join : ShiftsJoin
 shifts-join w k x a b old p (f, g, h) =
@@ -34,12 +36,12 @@ shifts-join w k x a b old p (f, g, h) =
 
 -- ---- counts
 -- by how many, 1 to 8, from its code
+steps-by : (n : ℕ) (b : Bool) → 1 ≤ n → n ≤ 8 → eqb (n % 8 % 8) 0 ≡ b → stepsOf (n % 8) ≡ n
+steps-by n true p q e = rw e (omega (arith, eqb-true (n % 8 % 8) 0 e))
+steps-by n false p q e = rw e (omega (arith, eqb-false (n % 8 % 8) 0 e))
+
 steps-back : (n : ℕ) → 1 ≤ n → n ≤ 8 → stepsOf (n % 8) ≡ n
-steps-back n p q = go (eqb (n % 8 % 8) 0) refl
-  where
-    go : (b : Bool) → eqb (n % 8 % 8) 0 ≡ b → cond b 8 (n % 8 % 8) ≡ n
-    go true e = omega (arith, eqb-true (n % 8 % 8) 0 e)
-    go false e = omega (arith, eqb-false (n % 8 % 8) 0 e)
+steps-back n p q = steps-by n (eqb (n % 8 % 8) 0) p q refl
 
 -- x plus n, and x less n, modulo m, as a sum and a difference have them
 module _ (m : ℕ) (p : 0 < m) where

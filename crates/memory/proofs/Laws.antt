@@ -134,8 +134,8 @@ module _ (ram rom : List ℕ) (a : ℕ) (p : List ℕ) (x : ℕ) (q : List ℕ) 
           let d : b + length rom - 2 ^ 24 ≡ o + length p = omega arith in (
             omega arith,
             ap (λ (w : Place). codeFrom w ram rom) (place-rom (length ram) (length rom) b 1 (omega arith) (omega arith) (omega arith))
-            ∙ ap (λ (n : ℕ). drop n rom) d
-            ∙ later rom o f,
+                ∙ ap (λ (n : ℕ). drop n rom) d
+                ∙ later rom o f,
           )
       go (nowhere i j) f = let m : 0 ≡ length p + (length q + 1) = ap length f ∙ length-append p (x ∷ q) ∙ omega arith in absurd (omega arith)
 

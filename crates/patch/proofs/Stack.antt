@@ -5,7 +5,7 @@ use mathlib.Core.List.{List}
 use mathlib.Core.Bool.{true}
 use mathlib.Core.Logic.{inl, ⊎-elim}
 use native.Mathlib.Omega.{arith}
-use lib.ListN.{length, take, drop}
+use lib.ListN.{length, take, drop, getD}
 use Rattle.answer.specs.declared.Why.{Why}
 use Rattle.answer.specs.declared.Answer.the-variants.{Done}
 use Rattle.little.specs.declared.Size.{Size}
@@ -17,7 +17,7 @@ use Rattle.memory.specs.Access.{bytesAt, loadFrom, loadBytes, storeTo, ramWith,
 use Rattle.memory.specs.declared.Place.{Place}
 use Rattle.memory.specs.declared.Place.the-variants.{Ram, Rom, Missing}
 use Rattle.memory.specs.declared.Loaded.the-variants as loaded
-use Rattle.memory.proofs.Laws.{place-ram, ram-fits, bytes-length, bytes-below, bytes-above}
+use Rattle.memory.proofs.Laws.{place-ram, ram-fits, bytes-le, bytes-length, bytes-below, bytes-above}
 use Rattle.state.specs.declared.State.{State}
 use Rattle.state.specs.State.{withCounter, withLong}
 use Rattle.state.specs.Register.{setSlot, getRegister, setRegister}
@@ -40,7 +40,7 @@ use Rattle.stack.specs.Stack.{withStack, pushOf, popOf, stackOf}
 use Rattle.exec.specs.Exec.{pastOf, effectOf}
 use Rattle.step.specs.Step.{tryOf, stepOf}
 use Rattle.facts.specs.Statements.{Passed}
-use Rattle.facts.specs.Touched.{bytes, belowStack, KeepsRest}
+use Rattle.facts.specs.Touched.{KeepsRest}
 use Rattle.facts.proofs.Kept.{Whole, whole-kept}
 use Rattle.facts.proofs.Statements.{operated}
 use Rattle.run.proofs.Laws.{still-passes}
@@ -128,11 +128,6 @@ bytes-fit Byte v h = h
 bytes-fit Word v h = h
 bytes-fit Long v h = h
 
-few : (z : Size) → bytesOf z ≤ 4
-few Byte = omega arith
-few Word = omega arith
-few Long = omega arith
-
 -- what was stored at a place is loaded from there
 stored-loads :
     (ram rom : List ℕ) (a n v : ℕ) → a + n ≤ length ram → v < 256 ^ n → loadBytes (ramBytes ram rom a n v) rom a n ≡ loaded.Value v
@@ -179,7 +174,7 @@ module _ (z : Size) (r : ℕ) (h : r < 8) (s : State) (ram rom : List ℕ) (w : 
   pop-back at =
       rw (end-is, stored-loads ram rom (place z r s ram rom) (bytesOf z) (value z r s ram rom) room (bytes-fit z (value z r s ram rom) (register-lt s z r)))
       (ap (λ (x : State). did x after)
-      (ap (λ (x : ℕ). setRegister (withStack (pastOf 1 left) x) z r (value z r s ram rom)) (up-again (getRegister s Long 7) (bytesOf z) (register-lt s Long 7) (few z))
+      (ap (λ (x : ℕ). setRegister (withStack (pastOf 1 left) x) z r (value z r s ram rom)) (up-again (getRegister s Long 7) (bytesOf z) (register-lt s Long 7) (bytes-le z))
       ∙ ap (λ (x : State). setRegister x z r (value z r s ram rom)) stack-back
       ∙ put-same s z r h (w .1) (s .counter + 2)))
 
@@ -198,21 +193,25 @@ module _ (z : Size) (r : ℕ) (wide : noByte z ≡ true) (h : r < 7) (s : State)
   unfolding codeOf
   pop-is stands = try-code (Stacks Pop) z (Register r) s ram rom (so-that wide, omega arith) p stands
 
--- a store leaves the bytes below and above it
-rest-kept : (ram rom : List ℕ) (a n v : ℕ) → KeepsRest (bytes a n) ram (ramBytes ram rom a n v)
-rest-kept ram rom a n v = (bytes-length ram rom a n v, λ i. ⊎-elim (bytes-below ram rom a n v i) (bytes-above ram rom a n v i))
-
 pub pop-undoes-push : PopUndoesPush
 pop-undoes-push z r s t ram m rom wide h ok stands d pops =
     let p = done-passed s ram rom t m d in
     let u = pushed z r s ram rom t m (sym (push-is z r wide h s ram rom p stands) ∙ d) in
     let k = still-passes s ram rom t m (p .1) (sym (passes s ram rom (p .0) (p .1)) ∙ d) in
     let q : Passed t m rom = ((rw (k .1) (p .0 .0), p .0 .1), k .0) in
-    let w : Whole s = (valid-says s (p .1), ok) in (
+    let w : Whole s = (valid-says s (p .1), ok) in
+    let a = place z r s ram rom in
+    let n = bytesOf z in
+    let v = value z r s ram rom in (
       pop-is z r wide h t m rom q pops
-      ∙ ap (λ (x : State). effectOf (Stacks Pop) z (Register r) (t .counter) (pastOf 1 x) m rom) (u .state)
-      ∙ ap (λ (l : List ℕ). effectOf (Stacks Pop) z (Register r) (t .counter) (pastOf 1 (left z r (omega arith) s ram rom w (u .room))) l rom) (u .ram-is)
-      ∙ pop-back z r (omega arith) s ram rom w (u .room) (t .counter)
-      ∙ ap (did (withCounter s (s .counter + 2))) (sym (u .ram-is)),
-      subst (KeepsRest (belowStack s (bytesOf z)) ram) (sym (u .ram-is)) (rest-kept ram rom (place z r s ram rom) (bytesOf z) (value z r s ram rom)),
+          ∙ ap (λ (x : State). effectOf (Stacks Pop) z (Register r) (t .counter) (pastOf 1 x) m rom) (u .state)
+          ∙ ap (λ (l : List ℕ). effectOf (Stacks Pop) z (Register r) (t .counter) (pastOf 1 (left z r (omega arith) s ram rom w (u .room))) l rom) (u .ram-is)
+          ∙ pop-back z r (omega arith) s ram rom w (u .room) (t .counter)
+          ∙ ap (did (withCounter s (s .counter + 2))) (sym (u .ram-is)),
+      (
+        ap length (u .ram-is) ∙ bytes-length ram rom a n v,
+        λ i. ⊎-elim
+            (λ b. ap (λ (l : List ℕ). getD l i 0) (u .ram-is) ∙ bytes-below ram rom a n v i (omega arith))
+            (λ b. ap (λ (l : List ℕ). getD l i 0) (u .ram-is) ∙ bytes-above ram rom a n v i (omega arith)),
+      ),
     )

@@ -38,21 +38,14 @@ Plain what =
     InRange (Controls what) Byte (Constant 0)
     × ((s : State) (at c : ℕ) (ram rom : List ℕ) → effectOf (Controls what) Byte (Constant 0) at (withCounter s c) ram rom ≡ did (withCounter (turned what s) c) ram)
 
-plain-incf : Plain Incf
-unfolding effectOf controlOf withBank withCounter
-plain-incf = ((tt, omega arith), λ s at c ram rom. refl)
-
-plain-decf : Plain Decf
-unfolding effectOf controlOf withBank withCounter
-plain-decf = ((tt, omega arith), λ s at c ram rom. refl)
-
-plain-exf : Plain Exf
-unfolding effectOf controlOf withBothFlags withCounter
-plain-exf = ((tt, omega arith), λ s at c ram rom. refl)
-
-plain-nop : Plain Nop
-unfolding effectOf controlOf withCounter
-plain-nop = ((tt, omega arith), λ s at c ram rom. refl)
+plains : Plain Incf × Plain Decf × Plain Exf × Plain Nop
+unfolding effectOf controlOf withBank withBothFlags withCounter
+plains = (
+  ((tt, omega arith), λ s at c ram rom. refl),
+  ((tt, omega arith), λ s at c ram rom. refl),
+  ((tt, omega arith), λ s at c ram rom. refl),
+  ((tt, omega arith), λ s at c ram rom. refl),
+)
 
 plain-makes : (what : Control) (s : State) → Plain what → Whole s → Makes (plainCode what) s (turned what s)
 plain-makes what s p w = makes (Controls what) Byte (Constant 0) s (turned what s) (p .0) (valid-of s w) (p .1 s)
@@ -64,17 +57,9 @@ undone first second s u = go (u 0 0 [])
     go : (t : State) × (controlOf first 0 s [] ≡ did t []) × (controlOf second 0 t [] ≡ did s []) → turned second (turned first s) ≡ s
     go (t, e, f) = ap (λ (x : Try). turned second (stateIn s x)) e ∙ ap (stateIn t) f
 
-whole-incf : (s : State) → Whole s → Whole (turned Incf s)
+turned-whole : (s : State) → Whole s → Whole (turned Incf s) × Whole (turned Decf s) × Whole (turned Exf s)
 unfolding controlOf
-whole-incf s w = whole-kept .banks s (s .bank .0 + 1) w
-
-whole-decf : (s : State) → Whole s → Whole (turned Decf s)
-unfolding controlOf
-whole-decf s w = whole-kept .banks s (s .bank .0 + 3) w
-
-whole-exf : (s : State) → Whole s → Whole (turned Exf s)
-unfolding controlOf
-whole-exf s w = whole-kept .exchanges s w
+turned-whole s w = (whole-kept .banks s (s .bank .0 + 1) w, whole-kept .banks s (s .bank .0 + 3) w, whole-kept .exchanges s w)
 
 -- a step that another one undoes
 abbrev StepBack : List ℕ → List ℕ → Type 0
@@ -109,17 +94,17 @@ bank-lt s w = w .0 .bank
 pub banks-return : BanksReturn
 unfolding codeOf
 banks-return n = (
-  back-same incf decf (step-back Incf Decf plain-incf plain-decf whole-incf (λ s w. banks-undone s (bank-lt s w) .0)) n,
-  back-same decf incf (step-back Decf Incf plain-decf plain-incf whole-decf (λ s w. banks-undone s (bank-lt s w) .1)) n,
+  back-same incf decf (step-back Incf Decf (plains .0) (plains .1) (λ s w. turned-whole s w .0) (λ s w. banks-undone s (bank-lt s w) .0)) n,
+  back-same decf incf (step-back Decf Incf (plains .1) (plains .0) (λ s w. turned-whole s w .1) (λ s w. banks-undone s (bank-lt s w) .1)) n,
 )
 
 pub exchanges-return : ExchangesReturn
 unfolding codeOf
-exchanges-return = back-same exf exf (step-back Exf Exf plain-exf plain-exf whole-exf (λ s w. exchange-undone s)) 1
+exchanges-return = back-same exf exf (step-back Exf Exf (plains .2) (plains .2) (λ s w. turned-whole s w .2) (λ s w. exchange-undone s)) 1
 
 nop-makes : (s : State) → Whole s → Makes nop s s
 unfolding codeOf controlOf
-nop-makes s w = plain-makes Nop s plain-nop w
+nop-makes s w = plain-makes Nop s (plains .3) w
 
 nops : (n : ℕ) (s : State) → Whole s → PieceMakes (replicate n nop) s s
 unfolding PieceMakes
