@@ -38,7 +38,7 @@ use Rattle.run.specs.Run.{mostSteps, runOf}
 use Rattle.run.specs.Statements.{later}
 use Rattle.run.proofs.Laws.{try-once, run-goes, still-passes}
 use Rattle.run.proofs.Joins.{run-is-steps}
-use Rattle.patch.specs.Piece.{Piece, inARow, StandAt, CanStand, Makes, PieceMakes, Fit, PieceSettled, PiecesJoin, PieceRuns, PatchKeeps}
+use Rattle.patch.specs.Piece.{inARow, StandAt, CanStand, Makes, PieceMakes, Fit, PieceSettled, PiecesJoin, PieceRuns, PatchKeeps}
 
 -- ---- the counter
 again : (s : State) (a b : ℕ) → withCounter (withCounter s a) b ≡ withCounter s b
@@ -141,7 +141,7 @@ module _ (s s′ : State) (e : withCounter s 0 ≡ withCounter s′ 0) where
       let d = sym (p code [] 0 w (omega arith) (can-stand code)) ∙ (ap (λ (x : State). tryOf x code []) (same-at 0) ∙ q code [] 0 w (omega arith) (can-stand code)) in
       sym (again t n 0) ∙ ap (λ (x : Try). withCounter (stateIn s x) 0) d ∙ again u n 0
 
-one-outcome : (piece : Piece) (s s′ t u : State) → Fit piece → withCounter s 0 ≡ withCounter s′ 0 → PieceMakes piece s t → PieceMakes piece s′ u → withCounter t 0 ≡ withCounter u 0
+one-outcome : (piece : List (List ℕ)) (s s′ t u : State) → Fit piece → withCounter s 0 ≡ withCounter s′ 0 → PieceMakes piece s t → PieceMakes piece s′ u → withCounter t 0 ≡ withCounter u 0
 unfolding PieceMakes Fit
 one-outcome [] s s′ t u h e p q = ap (λ (x : State). withCounter x 0) (sym p) ∙ e ∙ ap (λ (x : State). withCounter x 0) q
 one-outcome (code ∷ piece) s s′ t u h e (v, p, ps) (w, q, qs) = one-outcome piece v w t u (h .1) (one-made s s′ e code v w (h .0) p q) ps qs
@@ -164,7 +164,7 @@ module _ (ram rom : List ℕ) (w : Within ram rom) where
   run-none s v = run-goes s ram rom 0 (omega arith) (not-long (length ram) (length rom) (w .0) (w .1)) v ∙ many-none 0 s ram rom
 
   runs :
-      (piece : Piece) (s t : State) (at : ℕ) → PieceMakes piece s t → validOf (withCounter s at) ≡ true → length piece ≤ mostSteps → at < 2 ^ 24 →
+      (piece : List (List ℕ)) (s t : State) (at : ℕ) → PieceMakes piece s t → validOf (withCounter s at) ≡ true → length piece ≤ mostSteps → at < 2 ^ 24 →
       StandAt ram rom at (inARow piece) → runOf (length piece) (withCounter s at) ram rom ≡ ends (length piece) (withCounter t (at + length (inARow piece))) ram Done
   unfolding PieceMakes inARow
   runs [] s t at e v n l stands =

@@ -20,7 +20,7 @@ use Rattle.control.specs.Undone.{Undoes}
 use Rattle.control.proofs.Undone.{banks-undone, exchange-undone}
 use Rattle.exec.specs.Exec.{effectOf}
 use Rattle.facts.proofs.Kept.{Whole, whole-kept}
-use Rattle.patch.specs.Piece.{Piece, Makes, PieceMakes, LeaveSame}
+use Rattle.patch.specs.Piece.{Makes, PieceMakes, LeaveSame}
 use Rattle.patch.specs.Patches.{nop, incf, decf, exf, BanksReturn, ExchangesReturn, NopsAreNothing}
 use Rattle.patch.proofs.Pieces.{stateIn, makes, one, pieces-join, nothing, whole, valid-of}
 
@@ -82,8 +82,8 @@ there-and-back f g b zero s w = refl
 there-and-back f g b (suc n) s w =
     let (u, k, p, q) = b s w in
     let e : (replicate n f ++ replicate n g) ++ (g ∷ []) ≡ replicate n f ++ (g ∷ replicate n g) =
-    append-assoc (replicate n f) (replicate n g) (g ∷ []) ∙ ap (λ (l : Piece). replicate n f ++ l) (sym (last g n)) in
-    (u, p, subst (λ (l : Piece). PieceMakes l u s) e (pieces-join (replicate n f ++ replicate n g) (g ∷ []) u u s (there-and-back f g b n u k) (one g u s q)))
+    append-assoc (replicate n f) (replicate n g) (g ∷ []) ∙ ap (λ (l : List (List ℕ)). replicate n f ++ l) (sym (last g n)) in
+    (u, p, subst (λ (l : List (List ℕ)). PieceMakes l u s) e (pieces-join (replicate n f ++ replicate n g) (g ∷ []) u u s (there-and-back f g b n u k) (one g u s q)))
 
 back-same : (f g : List ℕ) → StepBack f g → (n : ℕ) → LeaveSame (replicate n f ++ replicate n g) []
 back-same f g b n s ok v = (s, there-and-back f g b n s (whole s ok v), nothing s)

@@ -10,12 +10,8 @@ use Rattle.step.specs.Step.{tryOf}
 use Rattle.facts.specs.Statements.{Within, Passed}
 use Rattle.run.specs.Run.{mostSteps, runOf}
 
--- some instructions, each by its bytes
-abbrev pub Piece : Type 0
-Piece = List (List ℕ)
-
--- all these bytes, one after the other
-unfoldable pub inARow : Piece → List ℕ
+-- A piece of code is some instructions, each by its bytes; and all these bytes, one after the other
+unfoldable pub inARow : List (List ℕ) → List ℕ
 inARow [] = []
 inARow (code ∷ piece) = code ++ inARow piece
 
@@ -35,37 +31,37 @@ Makes code s t =
     tryOf (withCounter s at) ram rom ≡ did (withCounter t (at + length code)) ram
 
 -- the steps of a piece, one after the other, make t of s
-unfoldable pub PieceMakes : Piece → State → State → Type 0
+unfoldable pub PieceMakes : List (List ℕ) → State → State → Type 0
 PieceMakes [] s t = s ≡ t
 PieceMakes (code ∷ piece) s t = (u : State) × Makes code s u × PieceMakes piece u t
 
 -- two pieces may stand for each other: whatever the state is, both make the same of it
-abbrev pub LeaveSame : Piece → Piece → Type 0
+abbrev pub LeaveSame : List (List ℕ) → List (List ℕ) → Type 0
 LeaveSame p q = (s : State) → Sound s → validOf s ≡ true → (t : State) × PieceMakes p s t × PieceMakes q s t
 
 -- ---- what holds of all pieces
 -- every code of a piece fits into a memory
-unfoldable pub Fit : Piece → Type 0
+unfoldable pub Fit : List (List ℕ) → Type 0
 Fit [] = Unit {0}
 Fit (code ∷ piece) = (length code ≤ 2 ^ 16) × Fit piece
 
 -- a piece makes one state of a state, but for the counter
 abbrev pub PieceSettled : Type 0
-PieceSettled = (piece : Piece) (s t u : State) → Fit piece → PieceMakes piece s t → PieceMakes piece s u → withCounter t 0 ≡ withCounter u 0
+PieceSettled = (piece : List (List ℕ)) (s t u : State) → Fit piece → PieceMakes piece s t → PieceMakes piece s u → withCounter t 0 ≡ withCounter u 0
 
 -- what one piece makes and then another, both make in a row
 abbrev pub PiecesJoin : Type 0
-PiecesJoin = (p q : Piece) (s t u : State) → PieceMakes p s t → PieceMakes q t u → PieceMakes (p ++ q) s u
+PiecesJoin = (p q : List (List ℕ)) (s t u : State) → PieceMakes p s t → PieceMakes q t u → PieceMakes (p ++ q) s u
 
 -- a piece that stands at the counter: a run of as many steps does them all, makes that state, and its counter is past the piece
 abbrev pub PieceRuns : Type 0
 PieceRuns =
-    (piece : Piece) (s t : State) (ram rom : List ℕ) → PieceMakes piece s t → Passed s ram rom → length piece ≤ mostSteps →
+    (piece : List (List ℕ)) (s t : State) (ram rom : List ℕ) → PieceMakes piece s t → Passed s ram rom → length piece ≤ mostSteps →
     StandAt ram rom (s .counter) (inARow piece) →
     runOf (length piece) s ram rom ≡ ends (length piece) (withCounter t (s .counter + length (inARow piece))) ram Done
 
 -- a piece at an address in two memories, which a run may begin at
-pub record Ready (piece : Piece) (at : ℕ) (ram rom : List ℕ) : Type 0 where
+pub record Ready (piece : List (List ℕ)) (at : ℕ) (ram rom : List ℕ) : Type 0 where
   pub within : Within ram rom
   pub address : at < 2 ^ 24
   pub steps : length piece ≤ mostSteps
@@ -75,7 +71,7 @@ pub record Ready (piece : Piece) (at : ℕ) (ram rom : List ℕ) : Type 0 where
 -- the same, but for the counter, which is past the piece
 abbrev pub PatchKeeps : Type 0
 PatchKeeps =
-    (before after : Piece) (s : State) (at at′ : ℕ) (ram rom ram′ rom′ : List ℕ) → LeaveSame before after → Sound s → validOf s ≡ true →
+    (before after : List (List ℕ)) (s : State) (at at′ : ℕ) (ram rom ram′ rom′ : List ℕ) → LeaveSame before after → Sound s → validOf s ≡ true →
     Ready before at ram rom → Ready after at′ ram′ rom′ →
     (t : State)
     × (runOf (length before) (withCounter s at) ram rom ≡ ends (length before) (withCounter t (at + length (inARow before))) ram Done)
