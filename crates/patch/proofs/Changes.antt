@@ -70,7 +70,7 @@ changed-lt (ShiftBy w n) z x old l = shifted-lt w (bitsOf z) x _ (bits-pos z)
 changed-lt Extz z x old l = extz-lt z x
 changed-lt Exts z x old l = exts-lt z x
 
-flagged-twice : (s : State) (f g : Flags) → flagged (flagged s f) g ≡ flagged s g
+pub flagged-twice : (s : State) (f g : Flags) → flagged (flagged s f) g ≡ flagged s g
 unfolding flagged withFlags withBothFlags
 flagged-twice s f g = refl
 

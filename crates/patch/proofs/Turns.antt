@@ -25,15 +25,15 @@ use Rattle.patch.specs.Patches.{nop, incf, decf, exf, BanksReturn, Excha
 use Rattle.patch.proofs.Pieces.{stateIn, makes, one, pieces-join, nothing, whole, valid-of}
 
 -- the state that one of these leaves, by the state alone
-abbrev turned : Control → State → State
+abbrev pub turned : Control → State → State
 turned what s = stateIn s (controlOf what 0 s [])
 
 -- what is of one byte and has no number
-abbrev plainCode : Control → List ℕ
+abbrev pub plainCode : Control → List ℕ
 plainCode what = codeOf (Controls what) Byte (Constant 0)
 
 -- it does the same whatever the counter and RAM are
-abbrev Plain : Control → Type 0
+abbrev pub Plain : Control → Type 0
 Plain what =
     InRange (Controls what) Byte (Constant 0)
     × ((s : State) (at c : ℕ) (ram rom : List ℕ) → effectOf (Controls what) Byte (Constant 0) at (withCounter s c) ram rom ≡ did (withCounter (turned what s) c) ram)
@@ -47,7 +47,7 @@ plains = (
   ((tt, omega arith), λ s at c ram rom. refl),
 )
 
-plain-makes : (what : Control) (s : State) → Plain what → Whole s → Makes (plainCode what) s (turned what s)
+pub plain-makes : (what : Control) (s : State) → Plain what → Whole s → Makes (plainCode what) s (turned what s)
 plain-makes what s p w = makes (Controls what) Byte (Constant 0) s (turned what s) (p .0) (valid-of s w) (p .1 s)
 
 -- the second undoes the first

@@ -1,4 +1,4 @@
--- What a patcher may put for what (request K10). Each statement is proved in proofs/Changes.antt, Bytes, Turns, Loads or Stack.
+-- What a patcher may put for what (request K10). Each statement is proved in proofs/: Changes, Bytes, Turns, Flags, Loads or Stack.
 use Rattle.little.specs.Words.{ℕ, _+_, _%_, _<_, _≤_, _≡_, List, [], _∷_, _++_, replicate, true}
 use Rattle.little.specs.{declared.Size.Size, declared.Size.the-variants.Byte, Width.bytesOf}
 use Rattle.alu.specs.{declared.Shift.Shift, Twice.Merge}
@@ -28,6 +28,12 @@ ShiftsMerge =
 -- SLA is SLL
 abbrev pub SlaIsSll : Type 0
 SlaIsSll = (z : Size) (o : Operand) (n : ℕ) → InRegisters z o → LeaveSame (shiftCode Sla z o n ∷ []) (shiftCode Sll z o n ∷ [])
+
+-- RCF, SCF, CCF or ZCF, 10 to 13, before a shift may be left out: a shift reads no flag, and sets them all
+abbrev pub ShiftsReadNoFlag : Type 0
+ShiftsReadNoFlag =
+    (w : Shift) (z : Size) (o : Operand) (n i : ℕ) → InRegisters z o → i < 4 →
+    LeaveSame (((0x10 + i) ∷ []) ∷ shiftCode w z o n ∷ []) (shiftCode w z o n ∷ [])
 
 -- ---- banks, flags, and NOP
 abbrev pub nop : List ℕ
