@@ -3,46 +3,44 @@ use mathlib.Core.Path.{_≡_, refl, sym, ap, _∙_}
 use mathlib.Core.Bool.{Bool, true, false, cond}
 use mathlib.Core.Logic.{_≢_}
 use Prim.Native.Nat.{ℕ, _+_, _-_, _%_, _^_, _<_, _≤_}
-use native.Mathlib.Nat.{mod-lt, mod-eq-of-lt, add-mod, mod-add-mod, add-mod-mod, add-mod-right, add-zero, add-assoc}
+use native.Mathlib.Nat.{mod-lt, mod-mod, mod-self, mod-eq-of-lt, add-mod, mod-add-mod, add-mod-mod, add-mod-right, add-zero, add-assoc}
 use native.Mathlib.Omega.{arith}
-use lib.Dec.{eqb}
+use lib.Dec.{eqb, ltb}
 use lib.Pow.{pow-pos}
-use borrow.Author.Tests.{eqb-true, eqb-false, ne-eqb}
+use borrow.Author.Tests.{ne-eqb, ltb-true, ltb-false}
 use Rattle.flags.specs.declared.Computed.{Computed}
 use Rattle.flags.specs.declared.Flags.{Flags}
 use Rattle.flags.specs.Width.{negative}
 use Rattle.flags.specs.Flag.{keeping, keepingC}
 use Rattle.flags.specs.Sums.{resultOf, sumOf, differenceOf}
-use Rattle.alu.specs.declared.Shift.{Shift}
 use Rattle.alu.specs.Count.{stepsOf, countedOf, incOf, decOf}
-use Rattle.alu.specs.Shift.{placesOf, shiftOf}
-use Rattle.alu.specs.Twice.{Merge, ShiftsJoin, CountsJoin, CountsUndone, ButHAndV, ByteCountsJoin, ByteCountsDiffer}
+use Rattle.alu.specs.Shift.{placesOf}
+use Rattle.alu.specs.Twice.{ShiftsJoin, CountsJoin, CountsUndone, ButHAndV, ByteCountsJoin, ByteCountsDiffer}
 use Rattle.alu.proofs.Shifts.{shift-merge}
 
--- ---- shifts
--- a number of places, 1 to 16, from its code byte
-places-by : (n : ℕ) (b : Bool) → 1 ≤ n → n ≤ 16 → eqb (n % 16 % 16) 0 ≡ b → placesOf (n % 16) ≡ n
-unfolding placesOf
-places-by n true p q e = rw e (omega (arith, eqb-true (n % 16 % 16) 0 e))
-places-by n false p q e = rw e (omega (arith, eqb-false (n % 16 % 16) 0 e))
+-- ---- numbers from their codes
+-- 1 to m, where a code has m as 0
+code-back : (m n : ℕ) → 1 ≤ n → n ≤ m → cond (eqb (n % m % m) 0) m (n % m % m) ≡ n
+code-back m n p q = ap (λ (x : ℕ). cond (eqb x 0) m x) (mod-mod n m) ∙ go (ltb n m) refl
+  where
+    go : (b : Bool) → ltb n m ≡ b → cond (eqb (n % m) 0) m (n % m) ≡ n
+    go true e = let f = mod-eq-of-lt (ltb-true n m e) in rw (f, ne-eqb n 0 (λ h. omega arith)) refl
+    go false e = let f : m ≡ n = omega (arith, ltb-false n m e) in rw (f, mod-self n) refl
 
 places-back : (n : ℕ) → 1 ≤ n → n ≤ 16 → placesOf (n % 16) ≡ n
-places-back n p q = places-by n (eqb (n % 16 % 16) 0) p q refl
+unfolding placesOf
+places-back n p q = code-back 16 n p q
 
+steps-back : (n : ℕ) → 1 ≤ n → n ≤ 8 → stepsOf (n % 8) ≡ n
+steps-back n p q = code-back 8 n p q
+
+-- ---- shifts
 pub shifts-join : ShiftsJoin
 shifts-join w k x a b old p (f, g, h) =
     rw (places-back a f (omega arith), places-back b g (omega arith), places-back (a + b) (omega arith) (omega arith))
     (shift-merge w k x a b p (omega arith))
 
 -- ---- counts
--- by how many, 1 to 8, from its code
-steps-by : (n : ℕ) (b : Bool) → 1 ≤ n → n ≤ 8 → eqb (n % 8 % 8) 0 ≡ b → stepsOf (n % 8) ≡ n
-steps-by n true p q e = rw e (omega (arith, eqb-true (n % 8 % 8) 0 e))
-steps-by n false p q e = rw e (omega (arith, eqb-false (n % 8 % 8) 0 e))
-
-steps-back : (n : ℕ) → 1 ≤ n → n ≤ 8 → stepsOf (n % 8) ≡ n
-steps-back n p q = steps-by n (eqb (n % 8 % 8) 0) p q refl
-
 -- x plus n, and x less n, modulo m, as a sum and a difference have them
 module _ (m : ℕ) (p : 0 < m) where
   abbrev up : ℕ → ℕ → ℕ

@@ -1,5 +1,5 @@
 -- One change and then another of what it left (request K10), once over the width. Each statement is proved in proofs/Twice.antt.
-use Rattle.little.specs.Words.{ℕ, _+_, _%_, _^_, _<_, _≤_, _≡_, _≢_, Bool, true, false}
+use Rattle.little.specs.Words.{ℕ, _+_, _%_, _<_, _≤_, _≡_, _≢_, true, false}
 use Rattle.flags.specs.{declared.Computed.Computed, declared.Flags.Flags, Width.low, Flag.keeping}
 use Rattle.alu.specs.{declared.Shift.Shift, declared.change.Change.Change, Change.changed}
 use Rattle.alu.specs.declared.change.Change.the-variants.{Inc, Dec, ShiftBy}
@@ -9,19 +9,19 @@ abbrev pub changedTwice : Change → Change → ℕ → ℕ → Flags → Comput
 changedTwice first second k x old = let r = changed first k x old in changed second k (r .value) (r .flags)
 
 -- numbers from 1 on whose sum is at most so much: what two shifts, or two INC, can be merged from
-abbrev pub Merge : ℕ → ℕ → ℕ → Type 0
-Merge most a b = (1 ≤ a) × (1 ≤ b) × (a + b ≤ most)
+abbrev pub Mergeable : ℕ → ℕ → ℕ → Type 0
+Mergeable most a b = (1 ≤ a) × (1 ≤ b) × (a + b ≤ most)
 
 -- a places and then b places leave the value, the flags and the marks that a plus b places leave; a code byte has 16 places as 0
 abbrev pub ShiftsJoin : Type 0
 ShiftsJoin =
-    (w : Shift) (k x a b : ℕ) (old : Flags) → 0 < k → Merge 16 a b →
+    (w : Shift) (k x a b : ℕ) (old : Flags) → 0 < k → Mergeable 16 a b →
     changedTwice (ShiftBy w (a % 16)) (ShiftBy w (b % 16)) k x old ≡ changed (ShiftBy w ((a + b) % 16)) k x old
 
 -- INC by a and then by b is INC by a plus b, and so is DEC, for words and longs, which keep all flags; a code has 8 as 0
 abbrev pub CountsJoin : Type 0
 CountsJoin =
-    (k x a b : ℕ) (old : Flags) → k ≢ 8 → Merge 8 a b →
+    (k x a b : ℕ) (old : Flags) → k ≢ 8 → Mergeable 8 a b →
     (changedTwice (Inc (a % 8)) (Inc (b % 8)) k x old ≡ changed (Inc ((a + b) % 8)) k x old)
     × (changedTwice (Dec (a % 8)) (Dec (b % 8)) k x old ≡ changed (Dec ((a + b) % 8)) k x old)
 
@@ -42,7 +42,7 @@ pub record ButHAndV (r q : Computed) : Type 0 where
 -- of bytes that is so but for H and V, which two INC have from the last one alone
 abbrev pub ByteCountsJoin : Type 0
 ByteCountsJoin =
-    (x a b : ℕ) (old : Flags) → Merge 8 a b →
+    (x a b : ℕ) (old : Flags) → Mergeable 8 a b →
     ButHAndV (changedTwice (Inc (a % 8)) (Inc (b % 8)) 8 x old) (changed (Inc ((a + b) % 8)) 8 x old)
     × ButHAndV (changedTwice (Dec (a % 8)) (Dec (b % 8)) 8 x old) (changed (Dec ((a + b) % 8)) 8 x old)
 

@@ -44,6 +44,7 @@ use Rattle.operand.specs.Try.{Try, did, Outcome, after, leaves, andThen, withLo
 use Rattle.operand.specs.Operand.{pointerOf, storedBy}
 use Rattle.operand.specs.Round.{less, plus}
 use Rattle.operand.proofs.Flags.{valid-packed}
+use Rattle.operand.proofs.Laws.{up-again}
 use Rattle.stack.specs.Stack.{withStack, popBytes}
 use Rattle.interrupt.specs.Interrupt.{withSr, returned, interruptOf}
 use Rattle.interrupt.proofs.Laws.{six-low, six-high}
@@ -91,10 +92,6 @@ stack-is s ok =
     let h = ok .fit 19 in
     let a : getD (s .registers) 19 0 / 2 ^ 0 ≡ getD (s .registers) 19 0 = omega arith in
     rw a (omega (arith, h))
-
--- six off and six on
-up-again : (x : ℕ) → x < 2 ^ 32 → plus 32 (less 32 x 6) 6 ≡ x
-up-again x h = omega arith
 
 -- ---- the request
 module _ (level address : ℕ) (s : State) (ram rom : List ℕ) where
@@ -300,7 +297,7 @@ module _ (level address : ℕ) (s : State) (ram rom : List ℕ) (ok : Sound s) (
   registers-back : (u : State) → Sound u → u .registers ≡ t .registers → withStack (pastOf 1 u) (plus 32 x 6) .registers ≡ s .registers
   registers-back u su e =
       let big = register-lt s Long 7 in
-      let y : plus 32 x 6 ≡ getD (s .registers) 19 0 = up-again (getRegister s Long 7) big ∙ stack-is s ok in
+      let y : plus 32 x 6 ≡ getD (s .registers) 19 0 = up-again (getRegister s Long 7) 6 big (omega arith) ∙ stack-is s ok in
       past-set u (plus 32 x 6) su (omega arith)
       ∙ ap (λ (r : List ℕ). set r 19 (plus 32 x 6)) (e ∙ t-parts .0 ∙ stack-set s x ok x-lt)
       ∙ set-set (s .registers) 19 x (plus 32 x 6)

@@ -13,13 +13,14 @@ use Rattle.answer.specs.declared.Why.{Why}
 use Rattle.little.specs.declared.Size.{Size}
 use Rattle.little.specs.declared.Size.the-variants.{Byte, Word, Long}
 use Rattle.little.specs.Width.{bytesOf}
-use Rattle.little.specs.Bytes.{bytesFrom, replaced}
-use Rattle.little.proofs.Laws.{length-bytes, replaced-length, replaced-below, replaced-above}
+use Rattle.little.specs.Bytes.{valueOf, bytesFrom, replaced}
+use Rattle.little.proofs.Laws.{length-bytes, value-bytes, replaced-length, replaced-part, replaced-below, replaced-above}
 use Rattle.memory.specs.Place.{missingOf, placeOf}
 use Rattle.memory.specs.inner.Ends.{pastEnd}
-use Rattle.memory.specs.Access.{bytesAt, loadOf, loadFrom, storeOf, storeBytes, storeTo, ramAfter, ramBytes, ramWith, codeAt, codeFrom}
+use Rattle.memory.specs.Access.{bytesAt, loadOf, loadBytes, loadFrom, storeOf, storeBytes, storeTo, ramAfter, ramBytes, ramWith, codeAt, codeFrom}
 use Rattle.memory.specs.declared.Place.{Place}
 use Rattle.memory.specs.declared.Place.the-variants.{Ram, Rom, Missing}
+use Rattle.memory.specs.declared.Loaded.the-variants.{Value}
 use Rattle.memory.proofs.Ends.{rom-below, end-none, missing-past}
 
 -- ---- the place, from the tests
@@ -183,6 +184,19 @@ module _ (ram rom : List ℕ) (a n v : ℕ) where
       go (Ram o) f = let k : _≡_ {A = ℕ} 0 1 = cc in absurd (omega arith)
       go (Rom o) f = refl
       go (Missing x) f = refl
+
+-- what a store left in RAM is loaded from there
+pub stored-loads :
+    (ram rom : List ℕ) (a n v : ℕ) → a + n ≤ length ram → v < 256 ^ n → loadBytes (ramBytes ram rom a n v) rom a n ≡ Value v
+stored-loads ram rom a n v h l =
+    let m = ramBytes ram rom a n v in
+    let b = length-bytes n v in
+    let is : m ≡ replaced a (bytesFrom n v) ram = ap (λ (p : Place). ramWith p ram n v) (place-ram (length ram) (length rom) a n h) in
+    let fits : a + n ≤ length m = rw (bytes-length ram rom a n v) h in
+    let room : a + length (bytesFrom n v) ≤ length ram = rw b h in
+    let stands : take n (drop a m) ≡ bytesFrom n v =
+    ap (λ (y : List ℕ). take n (drop a y)) is ∙ ap (λ (c : ℕ). take c (drop a (replaced a (bytesFrom n v) ram))) (sym b) ∙ replaced-part a (bytesFrom n v) ram room in
+    ap (λ (p : Place). loadFrom p m rom n) (place-ram (length m) (length rom) a n fits) ∙ ap Value (ap valueOf stands ∙ value-bytes n v l)
 
 -- the same of a size
 module _ (ram rom : List ℕ) (a : ℕ) (z : Size) (v : ℕ) where

@@ -19,7 +19,7 @@ use Rattle.memory.proofs.Laws.{refused-bytes}
 use Rattle.state.specs.declared.State.{State}
 use Rattle.operand.specs.Try.{Try, did, no, Outcome, leaves, andThen, after}
 use Rattle.operand.specs.Operand.{displaced, storing, storingBytes}
-use Rattle.operand.specs.Round.{less}
+use Rattle.operand.specs.Round.{less, plus}
 
 -- ---- sums that wrap
 -- a sum of 32 bits as an address
@@ -51,6 +51,10 @@ less-is k x n r hx hn hr e = go (2 ^ k) hx hn hr e
   where
     go : (p : ℕ) → x < p → n < p → r < p → (r + n) % p ≡ x → r ≡ (x + (p - n)) % p
     go p a b c f = wraps p x n r a b c f (ltb (r + n) p) refl
+
+-- n off and n on
+pub up-again : (x n : ℕ) → x < 2 ^ 32 → n ≤ 2 ^ 32 → plus 32 (less 32 x n) n ≡ x
+up-again x n h k = omega arith
 
 -- twice the sign's weight below: what d stands for where it has its sign
 turned : (z : Size) (x d h : ℕ) → h ≡ 2 ^ (bitsOf z - 1) → h ≤ d → (x + (d - h + (2 ^ 32 - h))) % 2 ^ 24 ≡ (x + d + (2 ^ 24 - 2 ^ bitsOf z)) % 2 ^ 24

@@ -1,7 +1,7 @@
 -- INC of a byte does not merge (specs/Patches.antt), proved.
-use Prim.Native.Nat.{ℕ, zero, _%_, _^_, _≤_}
+use Prim.Native.Nat.{ℕ, _%_, _^_, _≤_}
 use mathlib.Core.Path.{_≡_, refl, sym, ap, _∙_}
-use mathlib.Core.List.{List, [], _∷_}
+use mathlib.Core.List.{[], _∷_}
 use mathlib.Core.Bool.{true, false}
 use native.Mathlib.Omega.{arith}
 use lib.ListN.{length}
@@ -27,9 +27,8 @@ use Rattle.code.specs.Range.{InRegisters}
 use Rattle.code.specs.Written.{codeOf}
 use Rattle.operand.specs.Flag.{flagsIn, flagged}
 use Rattle.facts.proofs.Kept.{Whole, whole-kept}
-use Rattle.patch.specs.Piece.{Fit}
 use Rattle.patch.specs.Patches.{incCode, BytesDoNotMerge}
-use Rattle.patch.proofs.Pieces.{one, two, valid-of, piece-settled}
+use Rattle.patch.proofs.Pieces.{fit-one, fit-two, valid-of, piece-settled}
 use Rattle.patch.proofs.Parts.{codeIn, part, held-bank, held-back}
 use Rattle.patch.proofs.Changes.{resulting, held, twice-in, changed-piece, twice-piece}
 
@@ -62,14 +61,6 @@ flags-left s p r = unpacked (r .flags)
 short : (n : ℕ) → length (incCode Byte (Register 1) n) ≤ 2 ^ 16
 unfolding codeOf
 short n = omega arith
-
-fit-one : (c : List ℕ) → length c ≤ 2 ^ 16 → Fit (c ∷ [])
-unfolding Fit
-fit-one c h = (h, tt)
-
-fit-two : (c d : List ℕ) → length c ≤ 2 ^ 16 → length d ≤ 2 ^ 16 → Fit (c ∷ d ∷ [])
-unfolding Fit
-fit-two c d h k = (h, (k, tt))
 
 -- H after 0FH by one and by one, and by two
 bytes-differ : (x : ℕ) (old : Flags) → x ≡ 0x0F → changedTwice (Inc 1) (Inc 1) 8 x old .flags ≡ changed (Inc 2) 8 x old .flags → ⊥

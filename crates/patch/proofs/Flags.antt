@@ -1,10 +1,9 @@
 -- Flags that a shift does not read (specs/Patches.antt), proved.
-use Prim.Native.Nat.{ℕ, zero, suc, _+_, _%_, _<_}
-use mathlib.Core.Path.{_≡_, refl, sym, ap, _∙_, subst}
-use mathlib.Core.List.{List, [], _∷_}
+use Prim.Native.Nat.{ℕ, zero, suc, _%_}
+use mathlib.Core.Path.{_≡_, refl, ap, _∙_, subst}
+use mathlib.Core.List.{[], _∷_}
 use native.Mathlib.Omega.{arith}
 use Rattle.little.specs.declared.Size.{Size}
-use Rattle.little.specs.declared.Size.the-variants.{Byte}
 use Rattle.little.specs.Width.{bitsOf}
 use Rattle.flags.specs.declared.Flags.{Flags}
 use Rattle.flags.specs.Flag.{rcfOf, scfOf, ccfOf, zcfOf}
@@ -23,12 +22,12 @@ use Rattle.code.specs.Written.{codeOf}
 use Rattle.operand.specs.Flag.{flagsIn, flagged}
 use Rattle.control.specs.Control.{controlOf}
 use Rattle.exec.specs.Exec.{effectOf}
-use Rattle.facts.proofs.Kept.{Whole, whole-kept}
+use Rattle.facts.proofs.Kept.{whole-kept}
 use Rattle.patch.specs.Piece.{Makes, LeaveSame}
 use Rattle.patch.specs.Patches.{shiftCode, ShiftsReadNoFlag}
 use Rattle.patch.proofs.Pieces.{one, two, whole}
 use Rattle.patch.proofs.Parts.{part, held-flagged}
-use Rattle.patch.proofs.Changes.{resulting, flagged-twice, held, changedIn, changed-makes}
+use Rattle.patch.proofs.Changes.{flagged-twice, held, changedIn, changed-makes}
 use Rattle.patch.proofs.Turns.{turned, plainCode, Plain, plain-makes}
 
 -- ---- the four that set flags alone

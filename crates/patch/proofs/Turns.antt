@@ -14,7 +14,7 @@ use Rattle.code.specs.declared.Control.{Control}
 use Rattle.code.specs.declared.Control.the-variants.{Nop, Incf, Decf, Exf}
 use Rattle.code.specs.Range.{InRange}
 use Rattle.code.specs.Written.{codeOf}
-use Rattle.operand.specs.Try.{Try, did, no}
+use Rattle.operand.specs.Try.{Try, did}
 use Rattle.control.specs.Control.{controlOf}
 use Rattle.control.specs.Undone.{Undoes}
 use Rattle.control.proofs.Undone.{banks-undone, exchange-undone}

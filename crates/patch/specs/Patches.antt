@@ -1,18 +1,18 @@
--- What a patcher may put for what (request K10). Each statement is proved in proofs/: Changes, Bytes, Turns, Flags, Loads or Stack.
-use Rattle.little.specs.Words.{ℕ, _+_, _%_, _<_, _≤_, _≡_, List, [], _∷_, _++_, replicate, true}
-use Rattle.little.specs.{declared.Size.Size, declared.Size.the-variants.Byte, Width.bytesOf}
-use Rattle.alu.specs.{declared.Shift.Shift, Twice.Merge}
+-- What a patcher may put for what (request K10). Each statement is proved in proofs/: Changes, Bytes, Turns, Flags, Filled, Loads or Stack.
+use Rattle.little.specs.Words.{ℕ, _+_, _%_, _^_, _<_, _≤_, _≡_, List, [], _∷_, _++_, length, replicate, true}
+use Rattle.little.specs.{declared.Size.Size, declared.Size.the-variants.Byte, declared.Size.the-variants.Long, Width.bytesOf}
+use Rattle.alu.specs.{declared.Shift.Shift, Twice.Mergeable}
 use Rattle.alu.specs.declared.Shift.the-variants.{Sla, Sll}
 use Rattle.alu.specs.declared.change.Change.the-variants.{Inc, Dec, ShiftBy}
-use Rattle.state.specs.{declared.State.State, State.withCounter, Sound.Sound}
-use Rattle.code.specs.declared.{Operand.Operand, Operand.the-variants.Register, Operand.the-variants.Named}
+use Rattle.state.specs.{declared.State.State, State.withCounter, Register.getRegister, Sound.Sound}
+use Rattle.code.specs.declared.{Operand.Operand, Operand.the-variants.Register}
 use Rattle.code.specs.declared.{Op.the-variants.Puts, Op.the-variants.Stacks, Stack.the-variants.Push, Stack.the-variants.Pop}
 use Rattle.code.specs.declared.Use.the-variants.{Changed, Load, From}
 use Rattle.code.specs.{Rows.noByte, Range.InRegisters, Written.codeOf}
-use Rattle.operand.specs.Try.{did}
+use Rattle.operand.specs.{Try.did, Round.less}
 use Rattle.step.specs.Step.{tryOf}
-use Rattle.facts.specs.Touched.{belowStack, KeepsRest}
-use Rattle.patch.specs.Piece.{StandAt, LeaveSame}
+use Rattle.facts.specs.{Statements.Passed, Touched.belowStack, Touched.KeepsRest}
+use Rattle.patch.specs.Piece.{CodeBegins, LeaveSame}
 
 -- ---- shifts
 -- SLA, SRA, SLL or SRL of a register by n places, 1 to 16; the last byte of the code has 16 as 0
@@ -22,7 +22,7 @@ shiftCode w z o n = codeOf (Puts (Changed (ShiftBy w (n % 16)))) z o
 -- a places and then b places are a plus b places, for every register that a shift can name
 abbrev pub ShiftsMerge : Type 0
 ShiftsMerge =
-    (w : Shift) (z : Size) (o : Operand) (a b : ℕ) → InRegisters z o → Merge 16 a b →
+    (w : Shift) (z : Size) (o : Operand) (a b : ℕ) → InRegisters z o → Mergeable 16 a b →
     LeaveSame (shiftCode w z o a ∷ shiftCode w z o b ∷ []) (shiftCode w z o (a + b) ∷ [])
 
 -- SLA is SLL
@@ -60,6 +60,12 @@ ExchangesReturn = LeaveSame (exf ∷ exf ∷ []) []
 abbrev pub NopsAreNothing : Type 0
 NopsAreNothing = (n : ℕ) → LeaveSame (replicate n nop) []
 
+-- so two shifts may be merged in place, with NOP behind the one that is left
+abbrev pub ShiftsMergeInPlace : Type 0
+ShiftsMergeInPlace =
+    (w : Shift) (z : Size) (o : Operand) (a b n : ℕ) → InRegisters z o → Mergeable 16 a b →
+    LeaveSame (shiftCode w z o a ∷ shiftCode w z o b ∷ []) (shiftCode w z o (a + b) ∷ replicate n nop)
+
 -- ---- INC and DEC
 -- of a register by n, 1 to 8, which the code has as 0 to 7
 abbrev pub incCode : Size → Operand → ℕ → List ℕ
@@ -71,7 +77,7 @@ decCode z o n = codeOf (Puts (Changed (Dec (n % 8)))) z o
 -- by a and then by b is by a plus b, for words and longs
 abbrev pub CountsMerge : Type 0
 CountsMerge =
-    (z : Size) (o : Operand) (a b : ℕ) → noByte z ≡ true → InRegisters z o → Merge 8 a b →
+    (z : Size) (o : Operand) (a b : ℕ) → noByte z ≡ true → InRegisters z o → Mergeable 8 a b →
     LeaveSame (incCode z o a ∷ incCode z o b ∷ []) (incCode z o (a + b) ∷ []) × LeaveSame (decCode z o a ∷ decCode z o b ∷ []) (decCode z o (a + b) ∷ [])
 
 -- n times by one is by n
@@ -111,10 +117,15 @@ pushCode z r = codeOf (Stacks Push) z (Register r)
 abbrev pub popCode : Size → ℕ → List ℕ
 popCode z r = codeOf (Stacks Pop) z (Register r)
 
--- PUSH R of a word or a long is done, and POP R stands at the counter after it: it is done too, and then all is as it was, but for the counter,
--- which is past both, and the bytes of RAM below the stack's end
+-- RAM holds the n bytes below the stack's end
+abbrev pub RoomBelow : State → ℕ → List ℕ → Type 0
+RoomBelow s n ram = less 32 (getRegister s Long 7) n % 2 ^ 24 + n ≤ length ram
+
+-- PUSH R of a word or a long is done where there is room, and changes RAM below the stack's end alone. Where POP R stands at the counter then,
+-- it is done too, and the state is as it was, but for the counter, which is past both
 abbrev pub PopUndoesPush : Type 0
 PopUndoesPush =
-    (z : Size) (r : ℕ) (s t : State) (ram m rom : List ℕ) → noByte z ≡ true → r < 7 → Sound s →
-    StandAt ram rom (s .counter) (pushCode z r) → tryOf s ram rom ≡ did t m → StandAt m rom (t .counter) (popCode z r) →
-    (tryOf t m rom ≡ did (withCounter s (s .counter + 2)) m) × KeepsRest (belowStack s (bytesOf z)) ram m
+    (z : Size) (r : ℕ) (s : State) (ram rom : List ℕ) → noByte z ≡ true → r < 7 → Sound s → Passed s ram rom →
+    CodeBegins ram rom (s .counter) (pushCode z r) → RoomBelow s (bytesOf z) ram →
+    (t : State) × (m : List ℕ) × (tryOf s ram rom ≡ did t m) × KeepsRest (belowStack s (bytesOf z)) ram m
+    × (CodeBegins m rom (t .counter) (popCode z r) → tryOf t m rom ≡ did (withCounter s (s .counter + 2)) m)

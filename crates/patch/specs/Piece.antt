@@ -15,24 +15,28 @@ unfoldable pub inARow : List (List ℕ) → List ℕ
 inARow [] = []
 inARow (code ∷ piece) = code ++ inARow piece
 
--- these bytes stand at an address, whatever comes after them
-abbrev pub StandAt : List ℕ → List ℕ → ℕ → List ℕ → Type 0
-StandAt ram rom at code = (rest : List ℕ) × (codeAt ram rom at ≡ code ++ rest)
+-- what stands at an address begins with this code
+abbrev pub CodeBegins : List ℕ → List ℕ → ℕ → List ℕ → Type 0
+CodeBegins ram rom at code = (rest : List ℕ) × (codeAt ram rom at ≡ code ++ rest)
 
 -- every code can stand somewhere: in a RAM that has nothing else, at 0
 abbrev pub CanStand : Type 0
-CanStand = (code : List ℕ) → StandAt code [] 0 code
+CanStand = (code : List ℕ) → CodeBegins code [] 0 code
+
+-- two states differ at most in their counters
+abbrev pub ButCounter : State → State → Type 0
+ButCounter s t = withCounter s 0 ≡ withCounter t 0
 
 -- A step at this code makes t of s, wherever it stands and whatever the memories are: it is done, RAM stays as it was, and the counter goes
 -- past the code. The counters that s and t have themselves do not matter
 abbrev pub Makes : List ℕ → State → State → Type 0
 Makes code s t =
-    (ram rom : List ℕ) (at : ℕ) → Within ram rom → at < 2 ^ 24 → StandAt ram rom at code →
+    (ram rom : List ℕ) (at : ℕ) → Within ram rom → at < 2 ^ 24 → CodeBegins ram rom at code →
     tryOf (withCounter s at) ram rom ≡ did (withCounter t (at + length code)) ram
 
 -- the steps of a piece, one after the other, make t of s
 unfoldable pub PieceMakes : List (List ℕ) → State → State → Type 0
-PieceMakes [] s t = s ≡ t
+PieceMakes [] s t = ButCounter s t
 PieceMakes (code ∷ piece) s t = (u : State) × Makes code s u × PieceMakes piece u t
 
 -- two pieces may stand for each other: whatever the state is, both make the same of it
@@ -41,23 +45,35 @@ LeaveSame p q = (s : State) → Sound s → validOf s ≡ true → (t : State) �
 
 -- ---- what holds of all pieces
 -- every code of a piece fits into a memory
-unfoldable pub Fit : List (List ℕ) → Type 0
-Fit [] = Unit {0}
-Fit (code ∷ piece) = (length code ≤ 2 ^ 16) × Fit piece
+unfoldable pub FitsMemory : List (List ℕ) → Type 0
+FitsMemory [] = Unit {0}
+FitsMemory (code ∷ piece) = (length code ≤ 2 ^ 16) × FitsMemory piece
 
 -- a piece makes one state of a state, but for the counter
 abbrev pub PieceSettled : Type 0
-PieceSettled = (piece : List (List ℕ)) (s t u : State) → Fit piece → PieceMakes piece s t → PieceMakes piece s u → withCounter t 0 ≡ withCounter u 0
+PieceSettled = (piece : List (List ℕ)) (s t u : State) → FitsMemory piece → PieceMakes piece s t → PieceMakes piece s u → ButCounter t u
 
 -- what one piece makes and then another, both make in a row
 abbrev pub PiecesJoin : Type 0
 PiecesJoin = (p q : List (List ℕ)) (s t u : State) → PieceMakes p s t → PieceMakes q t u → PieceMakes (p ++ q) s u
 
+-- a patch may be turned round
+abbrev pub PatchesTurn : Type 0
+PatchesTurn = (p q : List (List ℕ)) → LeaveSame p q → LeaveSame q p
+
+-- a patch behind a patch is a patch of both
+abbrev pub PatchesJoin : Type 0
+PatchesJoin = (p q p′ q′ : List (List ℕ)) → FitsMemory p → LeaveSame p q → LeaveSame p′ q′ → LeaveSame (p ++ p′) (q ++ q′)
+
+-- and a patch of a patch is a patch
+abbrev pub PatchesChain : Type 0
+PatchesChain = (p q r : List (List ℕ)) → FitsMemory q → LeaveSame p q → LeaveSame q r → LeaveSame p r
+
 -- a piece that stands at the counter: a run of as many steps does them all, makes that state, and its counter is past the piece
 abbrev pub PieceRuns : Type 0
 PieceRuns =
     (piece : List (List ℕ)) (s t : State) (ram rom : List ℕ) → PieceMakes piece s t → Passed s ram rom → length piece ≤ mostSteps →
-    StandAt ram rom (s .counter) (inARow piece) →
+    CodeBegins ram rom (s .counter) (inARow piece) →
     runOf (length piece) s ram rom ≡ ends (length piece) (withCounter t (s .counter + length (inARow piece))) ram Done
 
 -- a piece at an address in two memories, which a run may begin at
@@ -65,7 +81,7 @@ pub record Ready (piece : List (List ℕ)) (at : ℕ) (ram rom : List ℕ) : Typ
   pub within : Within ram rom
   pub address : at < 2 ^ 24
   pub steps : length piece ≤ mostSteps
-  pub stands : StandAt ram rom at (inARow piece)
+  pub stands : CodeBegins ram rom at (inARow piece)
 
 -- a patch: the memories hold one piece before it and another after it, each at its place. A run over the one and a run over the other leave
 -- the same, but for the counter, which is past the piece

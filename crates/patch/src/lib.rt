@@ -1,1 +1,1 @@
-// What a patcher may lean on: rows of instructions that may stand for each other. There is nothing to run: it is all in specs/.
+// What a patcher may lean on: pieces of code that may stand for each other. There is nothing to run: it is all in specs/.

@@ -61,7 +61,7 @@ bytes-code ram rom a h k = go (placeOf (length ram) (length rom) a 1)
     go (Missing x) = bytes-none
 
 -- a value that was loaded fits its size
-size-power : (z : Size) → 256 ^ bytesOf z ≡ 2 ^ bitsOf z
+pub size-power : (z : Size) → 256 ^ bytesOf z ≡ 2 ^ bitsOf z
 size-power Byte = refl
 size-power Word = refl
 size-power Long = refl
