@@ -49,6 +49,7 @@ use Rattle.patch.specs.Patches.{ShiftsMerge, SlaIsSll, CountsMerge, Ones
 use Rattle.patch.proofs.Pieces.{makes, one, two, nothing, whole, valid-of}
 use Rattle.patch.proofs.Parts.{codeIn, part, value-is, put-is, held-bank, held-counter, held-flagged, held-lt, held-back, held-twice, held-same}
 
+-- ---- changes of a register
 -- a result put into a part, and the flags set
 abbrev pub resulting : State → Bits → Computed → State
 resulting s p r = flagged (withHeld s p (r .value)) (r .flags)
@@ -63,12 +64,12 @@ result-counter s c p r =
     ∙ ap (λ (x : State). flagged x (r .flags)) (held-counter s c p (r .value))
     ∙ flags-counter (withHeld s p (r .value)) c (r .flags)
 
-changed-lt : (how : Change) (z : Size) (x : ℕ) (old : Flags) → x < 2 ^ bitsOf z → changed how (bitsOf z) x old .value < 2 ^ bitsOf z
-changed-lt (Inc n) z x old l = inc-lt old (bitsOf z) x _
-changed-lt (Dec n) z x old l = dec-lt old (bitsOf z) x _
-changed-lt (ShiftBy w n) z x old l = shifted-lt w (bitsOf z) x _ (bits-pos z)
-changed-lt Extz z x old l = extz-lt z x
-changed-lt Exts z x old l = exts-lt z x
+changed-lt : (how : Change) (z : Size) (x : ℕ) (old : Flags) → changed how (bitsOf z) x old .value < 2 ^ bitsOf z
+changed-lt (Inc n) z x old = inc-lt old (bitsOf z) x _
+changed-lt (Dec n) z x old = dec-lt old (bitsOf z) x _
+changed-lt (ShiftBy w n) z x old = shifted-lt w (bitsOf z) x _ (bits-pos z)
+changed-lt Extz z x old = extz-lt z x
+changed-lt Exts z x old = exts-lt z x
 
 pub flagged-twice : (s : State) (f g : Flags) → flagged (flagged s f) g ≡ flagged s g
 unfolding flagged withFlags withBothFlags
@@ -97,7 +98,7 @@ module _ (z : Size) (o : Operand) (h : InRegisters z o) where
   pub changed-makes : (how : Change) (s : State) → Holds (changeRange how z) → Whole s → Makes (codeOf (Puts (Changed how)) z o) s (changedIn how s)
   changed-makes how s r w = makes (Puts (Changed how)) z o s (changedIn how s) (r, h) (valid-of s w) (changed-effect how s)
 
-  pub changed-whole : (how : Change) (s : State) → Whole s → Whole (changedIn how s)
+  changed-whole : (how : Change) (s : State) → Whole s → Whole (changedIn how s)
   changed-whole how s w =
       let r = changed how (bitsOf z) (held s) (flagsIn s) in
       whole-kept .flags (withHeld s (part s z o) (r .value)) (r .flags) (changed-fits how (bitsOf z) (held s) (flagsIn s) (whole-kept .fitting s w))
@@ -127,13 +128,13 @@ module _ (z : Size) (o : Operand) (h : InRegisters z o) where
   pub twice-in : (first second : Change) (s : State) → Sound s → changedIn second (changedIn first s) ≡ resulting s (part s z o) (changedTwice first second (bitsOf z) (held s) (flagsIn s))
   twice-in first second s ok =
       let r = changed first (bitsOf z) (held s) (flagsIn s) in
-      let l = changed-lt first z (held s) (flagsIn s) (held-lt s z o h) in
+      let l = changed-lt first z (held s) (flagsIn s) in
       ap (λ (p : Bits). resulting (changedIn first s) p (changed second (bitsOf z) (held (changedIn first s)) (flagsIn (changedIn first s)))) (left-part s r)
       ∙ ap (λ (x : ℕ). resulting (changedIn first s) (part s z o) (changed second (bitsOf z) x (flagsIn (changedIn first s)))) (left-held s r ok l)
       ∙ ap (λ (f : Flags). resulting (changedIn first s) (part s z o) (changed second (bitsOf z) (r .value) f)) (left-flags s r)
       ∙ left-twice s r (changed second (bitsOf z) (r .value) (r .flags)) ok
 
-  -- a change, and two of them, as rows
+  -- a change, and two of them, as pieces
   abbrev coded : Change → List ℕ
   coded how = codeOf (Puts (Changed how)) z o
 

@@ -68,11 +68,6 @@ unfolding withHeld withLong
 held-bank s (bits i o k) v = refl
 held-bank s nowhere v = refl
 
-pub held-flags : (s : State) (p : Bits) (v : ℕ) → withHeld s p v .flags ≡ s .flags
-unfolding withHeld withLong
-held-flags s (bits i o k) v = refl
-held-flags s nowhere v = refl
-
 pub held-counter : (s : State) (c : ℕ) (p : Bits) (v : ℕ) → withHeld (withCounter s c) p v ≡ withCounter (withHeld s p v) c
 unfolding withHeld withLong withCounter longOf
 held-counter s c (bits i o k) v = refl
