@@ -1,12 +1,11 @@
 -- What undoes what (specs/Undone.antt), proved.
-use Prim.Native.Nat.{ℕ, _+_}
+use Prim.Native.Nat.{ℕ}
 use mathlib.Core.Path.{_≡_, refl, ap}
 use mathlib.Core.List.{List}
 use native.Mathlib.Omega.{arith}
 use Rattle.state.specs.declared.State.{State}
 use Rattle.state.specs.State.{banked, withBank, withBothFlags}
 use Rattle.operand.specs.Try.{did}
-use Rattle.operand.specs.Flag.{exchanged}
 use Rattle.control.specs.Control.{controlOf}
 use Rattle.control.specs.Undone.{BanksUndone, ExchangeUndone}
 
@@ -17,10 +16,10 @@ same-bank s ram b e = ap (λ (n : ℕ). did (banked s (s .registers) (record { 0
 pub banks-undone : BanksUndone
 unfolding controlOf withBank
 banks-undone s h = (
-  λ n m ram. (withBank s (s .bank .0 + 1), refl, same-bank s ram _ (omega arith)),
-  λ n m ram. (withBank s (s .bank .0 + 3), refl, same-bank s ram _ (omega arith)),
+  λ n m ram. (_, refl, same-bank s ram _ (omega arith)),
+  λ n m ram. (_, refl, same-bank s ram _ (omega arith)),
 )
 
 pub exchange-undone : ExchangeUndone
 unfolding controlOf withBothFlags
-exchange-undone s n m ram = (exchanged s, refl, refl)
+exchange-undone s n m ram = (_, refl, refl)
