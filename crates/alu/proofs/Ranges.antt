@@ -10,6 +10,8 @@ use Rattle.little.specs.Width.{bitsOf}
 use Rattle.alu.specs.declared.Arith.{Arith}
 use Rattle.alu.specs.declared.Arith.the-variants.{Add, Adc, Sub, Sbc, And, Xor, Or, Cp}
 use Rattle.alu.specs.declared.Shift.{Shift}
+use Rattle.alu.specs.declared.change.Change.{Change}
+use Rattle.alu.specs.declared.change.Change.the-variants.{Inc, Dec, ShiftBy, Extz, Exts}
 use Rattle.flags.specs.declared.Flags.{Flags}
 use Rattle.flags.specs.Width.{low, negative}
 use Rattle.flags.specs.Sums.{resultOf, sumOf, differenceOf}
@@ -18,8 +20,9 @@ use Rattle.alu.specs.Operation.{operated}
 use Rattle.alu.specs.Shift.{shifted, shiftOf}
 use Rattle.alu.specs.Count.{incOf, decOf}
 use Rattle.alu.specs.Extend.{extzOf, extsOf}
+use Rattle.alu.specs.Change.{changed}
 use Rattle.alu.proofs.Shifts.{shift-lt}
-use Rattle.flags.proofs.Widths.{half-le}
+use Rattle.flags.proofs.Widths.{bits-pos, half-le}
 
 pub sum-lt : (k a b : ℕ) (c : Bool) → sumOf k a b c .value < 2 ^ k
 unfolding sumOf resultOf
@@ -73,3 +76,10 @@ exts-lt s a =
     let k = bitsOf s in
     cond-lt (negative (k / 2) (extzOf k a)) (extzOf k a + (2 ^ k - 2 ^ (k / 2))) (extzOf k a) (2 ^ k)
     (omega (arith, extz-half (bitsOf s) a, half-le s)) (extz-lt s a)
+
+pub changed-lt : (how : Change) (s : Size) (x : ℕ) (old : Flags) → changed how (bitsOf s) x old .value < 2 ^ bitsOf s
+changed-lt (Inc n) s x old = inc-lt old (bitsOf s) x _
+changed-lt (Dec n) s x old = dec-lt old (bitsOf s) x _
+changed-lt (ShiftBy w n) s x old = shifted-lt w (bitsOf s) x _ (bits-pos s)
+changed-lt Extz s x old = extz-lt s x
+changed-lt Exts s x old = exts-lt s x

@@ -26,15 +26,11 @@ use Rattle.code.specs.Rows.{lookup, byRows, only, onlyWord}
 use Rattle.code.specs.Registers.{registerRows, isLow, lastRows, tableRows, feedRows}
 use Rattle.code.specs.Range.{Holds, that, cycleRange}
 use Rattle.code.specs.Written.{scaleNumber, strideNumber, cycleCode}
-use Rattle.code.proofs.Holds.{so-that}
+use Rattle.code.proofs.Holds.{so-that, that-so}
 use Rattle.code.proofs.Tables.{table}
 use Rattle.code.proofs.FeedRows.{table-last}
 use Rattle.code.proofs.RegisterRows.{so-listed}
 use Rattle.code.proofs.Says.{Says, Lists, byte, next}
-
-that-so : (b : Bool) → Holds (that b) → b ≡ true
-that-so true h = refl
-that-so false h = absurd h
 
 module _ (z : Size) (o : Operand) where
   -- ---- MUL to DIVS

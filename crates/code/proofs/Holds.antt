@@ -40,3 +40,7 @@ so-holds (p or q) (inr h) = true-either (holds p) (holds q) (inr (so-holds q h))
 
 pub so-that : {b : Bool} → b ≡ true → Holds (that b)
 so-that e = rw e tt
+
+pub that-so : (b : Bool) → Holds (that b) → b ≡ true
+that-so true h = refl
+that-so false h = absurd h

@@ -1,36 +1,32 @@
 -- INC of a byte does not merge (specs/Patches.antt), proved.
-use Prim.Native.Nat.{ℕ, _%_, _^_, _≤_}
+use Prim.Native.Nat.{ℕ, _^_, _≤_}
 use mathlib.Core.Path.{_≡_, refl, sym, ap, _∙_}
 use mathlib.Core.List.{[], _∷_}
 use mathlib.Core.Bool.{true, false}
 use native.Mathlib.Omega.{arith}
 use lib.ListN.{length}
 use Rattle.little.specs.declared.Size.the-variants.{Byte}
-use Rattle.flags.specs.declared.Computed.{Computed}
 use Rattle.flags.specs.declared.Flags.{Flags}
-use Rattle.flags.specs.Flag.{flagsOf}
 use Rattle.flags.specs.Width.{one as bit}
-use Rattle.flags.proofs.Packed.{unpacked}
 use Rattle.alu.specs.declared.change.Change.the-variants.{Inc}
 use Rattle.alu.specs.Change.{changed}
 use Rattle.alu.specs.Twice.{changedTwice}
 use Rattle.alu.proofs.Twice.{byte-counts-differ}
 use Rattle.state.specs.declared.State.{State}
-use Rattle.state.specs.State.{zeroState, withCounter, withFlags, withBothFlags}
-use Rattle.state.specs.declared.Bank.{Bank}
-use Rattle.state.specs.Named.{Bits, named, heldIn, withHeld}
+use Rattle.state.specs.State.{zeroState, withCounter}
+use Rattle.state.specs.Named.{heldIn, withHeld}
 use Rattle.state.specs.Sound.{Sound}
 use Rattle.state.proofs.Valid.{valid-zero}
 use Rattle.state.proofs.Sound.{fits, sound-by}
 use Rattle.code.specs.declared.Operand.the-variants.{Register}
 use Rattle.code.specs.Range.{InRegisters}
 use Rattle.code.specs.Written.{codeOf}
-use Rattle.operand.specs.Flag.{flagsIn, flagged}
+use Rattle.operand.specs.Flag.{flagsIn}
 use Rattle.facts.proofs.Kept.{Whole, whole-kept}
 use Rattle.patch.specs.Patches.{incCode, BytesDoNotMerge}
 use Rattle.patch.proofs.Pieces.{fit-one, fit-two, valid-of, piece-settled}
-use Rattle.patch.proofs.Parts.{codeIn, part, held-bank, held-back}
-use Rattle.patch.proofs.Changes.{resulting, held, twice-in, changed-piece, twice-piece}
+use Rattle.patch.proofs.Parts.{codeIn, part, part-stays, held-back}
+use Rattle.patch.proofs.Changes.{resulting, left-flags, held, twice-in, changed-piece, twice-piece}
 
 -- A holds 0FH, and all else is zero
 fifteen : State
@@ -50,13 +46,8 @@ a-register = omega arith
 fifteen-held : held Byte (Register 1) a-register fifteen ≡ 0x0F
 unfolding fifteen
 fifteen-held =
-    ap (λ (b : Bank). heldIn (fifteen .registers) (named (b .0 % 4) 1 (codeIn Byte (Register 1)))) (held-bank zeroState (part zeroState Byte (Register 1)) 0x0F)
+    ap (heldIn (fifteen .registers)) (part-stays zeroState (part zeroState Byte (Register 1)) 0x0F Byte (Register 1))
     ∙ held-back zeroState Byte (Register 1) a-register zero-sound 0x0F (omega arith)
-
--- what a result leaves as flags, whatever the counter is
-flags-left : (s : State) (p : Bits) (r : Computed) → flagsOf (withCounter (resulting s p r) 0 .flags) ≡ r .flags
-unfolding withCounter flagged withFlags withBothFlags
-flags-left s p r = unpacked (r .flags)
 
 short : (n : ℕ) → length (incCode Byte (Register 1) n) ≤ 2 ^ 16
 unfolding codeOf
@@ -72,6 +63,7 @@ bytes-differ x old e f =
     omega arith
 
 pub bytes-do-not-merge : BytesDoNotMerge
+unfolding withCounter
 bytes-do-not-merge same =
     let s = fifteen in
     let w = fifteen-whole in
@@ -84,4 +76,4 @@ bytes-do-not-merge same =
     let e = piece-settled (inc 1 ∷ inc 1 ∷ []) s t (resulting s here r) (fit-two (inc 1) (inc 1) (short 1) (short 1)) p
     (twice-piece Byte (Register 1) a-register (Inc 1) (Inc 1) s (resulting s here r) (omega arith) (omega arith) w (twice-in Byte (Register 1) a-register (Inc 1) (Inc 1) s (w .1))) in
     let f = piece-settled (inc 2 ∷ []) s t (resulting s here u) (fit-one (inc 2) (short 2)) q (changed-piece Byte (Register 1) a-register (Inc 2) s (resulting s here u) (omega arith) w refl) in
-    bytes-differ x (flagsIn s) fifteen-held (sym (flags-left s here r) ∙ ap (λ (y : State). flagsOf (y .flags)) (sym e ∙ f) ∙ flags-left s here u)
+    bytes-differ x (flagsIn s) fifteen-held (sym (left-flags s here r) ∙ ap flagsIn (sym e ∙ f) ∙ left-flags s here u)

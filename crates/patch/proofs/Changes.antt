@@ -9,7 +9,7 @@ use native.Mathlib.Nat.{mod-eq-of-lt}
 use lib.ListN.{replicate}
 use Rattle.little.specs.declared.Size.{Size}
 use Rattle.little.specs.declared.Size.the-variants.{Byte, Word, Long}
-use Rattle.little.specs.Width.{bytesOf, bitsOf}
+use Rattle.little.specs.Width.{bitsOf}
 use Rattle.flags.specs.declared.Computed.{Computed}
 use Rattle.flags.specs.declared.Flags.{Flags}
 use Rattle.flags.specs.Flag.{keeping}
@@ -17,19 +17,18 @@ use Rattle.flags.specs.Width.{low}
 use Rattle.flags.proofs.Packed.{unpacked}
 use Rattle.flags.proofs.Widths.{bits-pos}
 use Rattle.alu.specs.declared.change.Change.{Change}
-use Rattle.alu.specs.declared.change.Change.the-variants.{Inc, Dec, ShiftBy, Extz, Exts}
+use Rattle.alu.specs.declared.change.Change.the-variants.{Inc, Dec, ShiftBy}
 use Rattle.alu.specs.Change.{changed}
 use Rattle.alu.specs.Twice.{changedTwice}
 use Rattle.alu.specs.declared.Shift.the-variants.{Sla, Sll}
 use Rattle.alu.specs.Shift.{placesOf}
 use Rattle.alu.proofs.Shifting.{left-shifts-agree}
 use Rattle.alu.proofs.Twice.{shifts-join, counts-join, counts-undone}
-use Rattle.alu.proofs.Ranges.{shifted-lt, inc-lt, dec-lt, extz-lt, exts-lt}
+use Rattle.alu.proofs.Ranges.{changed-lt}
 use Rattle.alu.proofs.Fits.{changed-fits}
 use Rattle.state.specs.declared.State.{State}
 use Rattle.state.specs.State.{withCounter, withFlags, withBothFlags}
-use Rattle.state.specs.declared.Bank.{Bank}
-use Rattle.state.specs.Named.{Bits, named, heldIn, withHeld}
+use Rattle.state.specs.Named.{Bits, heldIn, withHeld}
 use Rattle.state.specs.Sound.{Sound}
 use Rattle.state.proofs.Valid.{Valid}
 use Rattle.code.specs.declared.Operand.{Operand}
@@ -47,12 +46,16 @@ use Rattle.facts.proofs.Kept.{Whole, whole-kept}
 use Rattle.patch.specs.Piece.{Makes, PieceMakes, LeaveSame}
 use Rattle.patch.specs.Patches.{ShiftsMerge, SlaIsSll, CountsMerge, OnesAreMany, CountsReturn}
 use Rattle.patch.proofs.Pieces.{makes, one, two, nothing, whole, valid-of}
-use Rattle.patch.proofs.Parts.{codeIn, part, value-is, put-is, held-bank, held-counter, held-flagged, held-lt, held-back, held-twice, held-same}
+use Rattle.patch.proofs.Parts.{codeIn, part, value-is, put-is, part-stays, held-counter, held-flagged, held-lt, held-back, held-twice, held-same}
 
 -- ---- changes of a register
 -- a result put into a part, and the flags set
 abbrev pub resulting : State → Bits → Computed → State
 resulting s p r = flagged (withHeld s p (r .value)) (r .flags)
+
+pub left-flags : (s : State) (p : Bits) (r : Computed) → flagsIn (resulting s p r) ≡ r .flags
+unfolding flagged withFlags withBothFlags
+left-flags s p r = unpacked (r .flags)
 
 flags-counter : (s : State) (c : ℕ) (f : Flags) → flagged (withCounter s c) f ≡ withCounter (flagged s f) c
 unfolding flagged withFlags withBothFlags withCounter
@@ -63,13 +66,6 @@ result-counter s c p r =
     held-flagged (withCounter s c) (r .flags) p (r .value)
     ∙ ap (λ (x : State). flagged x (r .flags)) (held-counter s c p (r .value))
     ∙ flags-counter (withHeld s p (r .value)) c (r .flags)
-
-changed-lt : (how : Change) (z : Size) (x : ℕ) (old : Flags) → changed how (bitsOf z) x old .value < 2 ^ bitsOf z
-changed-lt (Inc n) z x old = inc-lt old (bitsOf z) x _
-changed-lt (Dec n) z x old = dec-lt old (bitsOf z) x _
-changed-lt (ShiftBy w n) z x old = shifted-lt w (bitsOf z) x _ (bits-pos z)
-changed-lt Extz z x old = extz-lt z x
-changed-lt Exts z x old = exts-lt z x
 
 pub flagged-twice : (s : State) (f g : Flags) → flagged (flagged s f) g ≡ flagged s g
 unfolding flagged withFlags withBothFlags
@@ -104,19 +100,15 @@ module _ (z : Size) (o : Operand) (h : InRegisters z o) where
       whole-kept .flags (withHeld s (part s z o) (r .value)) (r .flags) (changed-fits how (bitsOf z) (held s) (flagsIn s) (whole-kept .fitting s w))
       (whole-kept .parts s z (codeIn z o) (r .value) w)
 
-  -- what a result leaves: the part, what it holds, and the flags
+  -- what a result leaves: the part, and what it holds
   left-part : (s : State) (r : Computed) → part (resulting s (part s z o) r) z o ≡ part s z o
   unfolding flagged withFlags withBothFlags
-  left-part s r = ap (λ (b : Bank). named (b .0 % 4) (bytesOf z) (codeIn z o)) (held-bank s (part s z o) (r .value))
+  left-part s r = part-stays s (part s z o) (r .value) z o
 
   left-held : (s : State) (r : Computed) → Sound s → r .value < 2 ^ bitsOf z → held (resulting s (part s z o) r) ≡ r .value
   unfolding flagged withFlags withBothFlags
   left-held s r ok l =
       ap (heldIn (withHeld s (part s z o) (r .value) .registers)) (left-part s r) ∙ held-back s z o h ok (r .value) l
-
-  left-flags : (s : State) (r : Computed) → flagsIn (resulting s (part s z o) r) ≡ r .flags
-  unfolding flagged withFlags withBothFlags
-  left-flags s r = unpacked (r .flags)
 
   left-twice : (s : State) (r q : Computed) → Sound s → resulting (resulting s (part s z o) r) (part s z o) q ≡ resulting s (part s z o) q
   left-twice s r q ok =
@@ -131,7 +123,7 @@ module _ (z : Size) (o : Operand) (h : InRegisters z o) where
       let l = changed-lt first z (held s) (flagsIn s) in
       ap (λ (p : Bits). resulting (changedIn first s) p (changed second (bitsOf z) (held (changedIn first s)) (flagsIn (changedIn first s)))) (left-part s r)
       ∙ ap (λ (x : ℕ). resulting (changedIn first s) (part s z o) (changed second (bitsOf z) x (flagsIn (changedIn first s)))) (left-held s r ok l)
-      ∙ ap (λ (f : Flags). resulting (changedIn first s) (part s z o) (changed second (bitsOf z) (r .value) f)) (left-flags s r)
+      ∙ ap (λ (f : Flags). resulting (changedIn first s) (part s z o) (changed second (bitsOf z) (r .value) f)) (left-flags s (part s z o) r)
       ∙ left-twice s r (changed second (bitsOf z) (r .value) (r .flags)) ok
 
   -- a change, and two of them, as pieces

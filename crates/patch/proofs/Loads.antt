@@ -3,11 +3,9 @@ use Prim.Native.Nat.{ℕ, _%_, _<_}
 use mathlib.Core.Path.{_≡_, refl, sym, ap, _∙_, subst}
 use mathlib.Core.List.{List, [], _∷_}
 use Rattle.little.specs.declared.Size.{Size}
-use Rattle.little.specs.Width.{bytesOf}
 use Rattle.state.specs.declared.State.{State}
 use Rattle.state.specs.State.{withCounter}
-use Rattle.state.specs.declared.Bank.{Bank}
-use Rattle.state.specs.Named.{named, heldIn, withHeld}
+use Rattle.state.specs.Named.{heldIn, withHeld}
 use Rattle.state.specs.Register.{getRegister}
 use Rattle.state.specs.Sound.{Sound}
 use Rattle.state.proofs.Naming.{plain-names, sound-held}
@@ -23,7 +21,7 @@ use Rattle.facts.proofs.Kept.{Whole, whole-kept}
 use Rattle.patch.specs.Piece.{Makes, LeaveSame}
 use Rattle.patch.specs.Patches.{intoCode, outOfCode, LoadBackIsNothing}
 use Rattle.patch.proofs.Pieces.{makes, one, two, whole, valid-of}
-use Rattle.patch.proofs.Parts.{codeIn, part, value-is, put-is, held-bank, held-counter, held-lt, held-back, held-same, copied-held}
+use Rattle.patch.proofs.Parts.{codeIn, part, value-is, put-is, part-stays, held-counter, held-lt, held-back, held-same, copied-held}
 
 -- what one register holds, put into another
 abbrev copied : Size → Operand → Operand → State → State
@@ -66,7 +64,7 @@ module _ (z : Size) (to from : Operand) (a : InRegisters z to) (b : InRegisters 
   copied-back s ok =
       let v = heldIn (s .registers) (part s z from) in
       let t = copied z to from s in
-      let same : (o : Operand) → part t z o ≡ part s z o = λ o. ap (λ (x : Bank). named (x .0 % 4) (bytesOf z) (codeIn z o)) (held-bank s (part s z to) v) in
+      let same : (o : Operand) → part t z o ≡ part s z o = part-stays s (part s z to) v z in
       let here : heldIn (t .registers) (part t z to) ≡ v = ap (heldIn (t .registers)) (same to) ∙ held-back s z to a ok v (held-lt s z from b) in
       let there : heldIn (t .registers) (part t z from) ≡ v = ap (heldIn (t .registers)) (same from) ∙ copied-held s z to from a b ok in
       ap (withHeld t (part t z from)) (here ∙ sym there) ∙ held-same t z from b (sound-held s (s .bank .0 % 4) z (codeIn z to) v ok)

@@ -14,6 +14,7 @@ use Rattle.little.specs.declared.Size.the-variants.{Byte, Word, Long}
 use Rattle.little.specs.Width.{bytesOf, bitsOf}
 use Rattle.memory.specs.declared.Loaded.the-variants.{Value}
 use Rattle.flags.specs.declared.Flags.{Flags}
+use Rattle.state.specs.declared.Bank.{Bank}
 use Rattle.state.specs.declared.State.{State}
 use Rattle.state.specs.State.{longOf, withLong, withCounter, withFlags, withBothFlags}
 use Rattle.state.specs.Named.{sixteenOf, byteNamed, isNamed, Bits, bits, nowhere, named, heldIn, withHeld, codeFor}
@@ -24,7 +25,8 @@ use Rattle.state.proofs.Valid.{and-true}
 use Rattle.state.proofs.Naming.{plain-names, plain-code, named-at, part-writes, part-rewrites, parts-apart}
 use Rattle.code.specs.declared.Operand.{Operand}
 use Rattle.code.specs.declared.Operand.the-variants.{Register, Named, Constant, Memory}
-use Rattle.code.specs.Range.{Holds, that, InRegisters}
+use Rattle.code.specs.Range.{InRegisters}
+use Rattle.code.proofs.Holds.{that-so}
 use Rattle.operand.specs.Try.{did}
 use Rattle.operand.specs.Flag.{flagged}
 use Rattle.operand.specs.Operand.{valueIn, valueAt, putAt}
@@ -38,10 +40,6 @@ codeIn z (Memory m) = 0
 
 abbrev pub part : State → Size → Operand → Bits
 part s z o = named (s .bank .0 % 4) (bytesOf z) (codeIn z o)
-
-that-so : (b : Bool) → Holds (that b) → b ≡ true
-that-so true h = refl
-that-so false h = absurd h
 
 pub names : (s : State) (z : Size) (o : Operand) → InRegisters z o → Names (s .bank .0 % 4) z (codeIn z o)
 names s z (Register r) h = let c = plain-code z (r % 8) (omega arith) in (omega arith, c .0, c .1)
@@ -67,6 +65,10 @@ pub held-bank : (s : State) (p : Bits) (v : ℕ) → withHeld s p v .bank ≡ s 
 unfolding withHeld withLong
 held-bank s (bits i o k) v = refl
 held-bank s nowhere v = refl
+
+-- so an operand stays the part that it was
+pub part-stays : (s : State) (p : Bits) (v : ℕ) (z : Size) (o : Operand) → part (withHeld s p v) z o ≡ part s z o
+part-stays s p v z o = ap (λ (b : Bank). named (b .0 % 4) (bytesOf z) (codeIn z o)) (held-bank s p v)
 
 pub held-counter : (s : State) (c : ℕ) (p : Bits) (v : ℕ) → withHeld (withCounter s c) p v ≡ withCounter (withHeld s p v) c
 unfolding withHeld withLong withCounter longOf

@@ -38,6 +38,7 @@ use Rattle.run.specs.Run.{mostSteps, runOf}
 use Rattle.run.specs.Statements.{later}
 use Rattle.run.proofs.Laws.{try-once, run-goes, still-passes}
 use Rattle.run.proofs.Joins.{run-is-steps}
+use Rattle.run.proofs.Steps.{back-at}
 use Rattle.patch.specs.Piece.{inARow, CodeBegins, CanStand, ButCounter, Makes, PieceMakes, FitsMemory, PieceSettled, PiecesJoin, PatchesTurn, PatchesJoin, PatchesChain, PieceRuns, PatchKeeps}
 
 -- ---- the counter
@@ -245,15 +246,10 @@ module _ (ram rom : List ℕ) (w : Within ram rom) where
       ∙ ap (λ (x : State). ends (1 + k) x ram Done) (same-counter t (d + length (inARow piece)) (at + length (code ++ inARow piece)) far)
       ∙ ap (λ (x : ℕ). ends x (withCounter t (at + length (code ++ inARow piece))) ram Done) (omega arith)
 
--- a state at its own counter
-own-counter : (s : State) → s .counter < 2 ^ 24 → withCounter s (s .counter) ≡ s
-unfolding withCounter
-own-counter s h = ap (λ (c : ℕ). lent s (s .registers) c (s .bank .0) (s .flags) (s .spare)) (mod-eq-of-lt h)
-
 pub piece-runs : PieceRuns
 piece-runs piece s t ram rom p ok n stands =
     let l = valid-says s (ok .1) .counter in
-    let e = own-counter s l in
+    let e : withCounter s (s .counter) ≡ s = sym (again s 0 (s .counter)) ∙ back-at s (s .counter) 0 refl l in
     ap (λ (x : State). runOf (length piece) x ram rom) (sym e)
     ∙ runs ram rom (ok .0) piece s t (s .counter) p (subst (λ (x : State). validOf x ≡ true) (sym e) (ok .1)) n l stands
 

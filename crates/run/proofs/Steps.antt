@@ -173,7 +173,7 @@ past-is :
 unfolding pastOf
 past-is f s ram rom = round-free f s (s .counter + 2) ram rom
 
-back-at : (u : State) (c d : ℕ) → u .counter ≡ c → c < 2 ^ 24 → withCounter (withCounter u d) c ≡ u
+pub back-at : (u : State) (c d : ℕ) → u .counter ≡ c → c < 2 ^ 24 → withCounter (withCounter u d) c ≡ u
 unfolding withCounter
 back-at u c d x h = rw (mod-eq-of-lt h, ← x) refl
 
