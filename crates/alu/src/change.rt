@@ -12,7 +12,7 @@ use flags::{keeping, settled, unpack};
 use little::Size;
 
 // Counts and places are as the code has them.
-#[derive(Drop)]
+#[derive(Clone, Copy)]
 pub enum Change {
     Inc(u8),
     Dec(u8),

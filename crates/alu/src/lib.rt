@@ -1,4 +1,6 @@
 // Operations on two operands, and changes of one, of the three sizes, with their flags.
+#![tactic(auto)]
+
 ghost use Rattle.std.specs.Prelude.{◌≡◌};
 ghost use Rattle.little.specs.Width.{bits_of};
 ghost use Rattle.flags.specs.Flag.{packed_of, flags_of};
@@ -18,7 +20,7 @@ mod logic;
 mod shifter;
 
 // The operations on two operands, in the order of their codes.
-#[derive(Drop)]
+#[derive(Clone, Copy)]
 pub enum Arith {
     Add,
     Adc,
@@ -31,7 +33,7 @@ pub enum Arith {
 }
 
 // The shifts, in the order of their codes.
-#[derive(Drop)]
+#[derive(Clone, Copy)]
 pub enum Shift {
     Sla,
     Sra,

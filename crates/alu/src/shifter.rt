@@ -12,7 +12,7 @@ use flags::width::{judged, low, one, top};
 use little::Size;
 
 // A value, and the bit that was shifted out of it last.
-#[derive(Drop)]
+#[derive(Clone, Copy)]
 struct Shifted {
     value: u32,
     out: bool,

@@ -1,9 +1,11 @@
 // Why a call is refused, the number that stands for it, and the address that goes with it.
+#![tactic(auto)]
+
 ghost use Rattle.std.specs.Prelude.{◌≡◌};
 ghost use Rattle.answer.specs.Number.{why_told, why_number, number_of, at_of};
 
 // The reasons, in the order in which they are looked for.
-#[derive(Drop)]
+#[derive(Clone, Copy)]
 pub enum Why {
     // A run is asked for more than 1,000,000 steps.
     TooMany,
@@ -27,7 +29,7 @@ pub enum Why {
     ToRom(u32),
 }
 
-#[derive(Drop)]
+#[derive(Clone, Copy)]
 pub enum Answer {
     Done,
     Refused(Why),

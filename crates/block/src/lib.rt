@@ -1,4 +1,6 @@
 // Copies and compares: each round is a step.
+#![tactic(auto)]
+
 ghost use Rattle.std.specs.Prelude.{◌≡◌, false, not, ◌==◌};
 ghost use Rattle.little.specs.declared.Size.TheVariants.{Word};
 ghost use Rattle.little.specs.Width.{bits_of};

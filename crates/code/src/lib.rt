@@ -1,11 +1,13 @@
 // The listed codes: what an instruction is, and what the bytes of one can say. There is no code here, only what it is held to.
+#![tactic(auto)]
+
 use alu::{Arith, Change};
 use feed::cycle::Cycle;
 use feed::scale::Scale;
 use little::Size;
 
 // Where a memory form's address comes from: a register, a register and a displacement, or the code alone.
-#[derive(Drop)]
+#[derive(Clone, Copy)]
 pub enum Base {
     Indirect(u8),
     Displaced(u8),
@@ -15,13 +17,13 @@ pub enum Base {
 }
 
 // The number is the displacement or the address as it stands in the code, and 0 where there is none.
-#[derive(Drop)]
+#[derive(Clone, Copy)]
 pub struct MemoryForm {
     pub base: Base,
     pub number: u32,
 }
 
-#[derive(Drop)]
+#[derive(Clone, Copy)]
 pub enum Operand {
     Register(u8), // 0 to 7, of the instruction's size, in the current bank
     Named(u8), // by a code byte, which can name any part of any bank
@@ -31,7 +33,7 @@ pub enum Operand {
 
 // A copy or a compare of one element: of which size, up or down, again until the counter BC is 0 or not, and the codes of the
 // pointers. A copy reads at `from` and writes at `to`; a compare reads at `from`, and its `to` is the same.
-#[derive(Drop)]
+#[derive(Clone, Copy)]
 pub struct Form {
     pub copies: bool,
     pub size: Size,
@@ -42,7 +44,7 @@ pub struct Form {
 }
 
 // What changes the counter, the bank, the level and the flags alone. JR and JRL have their condition.
-#[derive(Drop)]
+#[derive(Clone, Copy)]
 pub enum Control {
     Nop,
     Incf,
@@ -61,7 +63,7 @@ pub enum Control {
 }
 
 // What is done with the stack.
-#[derive(Drop)]
+#[derive(Clone, Copy)]
 pub enum Stack {
     PushF,
     PopF,
@@ -74,7 +76,7 @@ pub enum Stack {
 }
 
 // SR on the stack, and the return from an interrupt.
-#[derive(Drop)]
+#[derive(Clone, Copy)]
 pub enum Interrupt {
     PushSr,
     PopSr,
@@ -82,7 +84,7 @@ pub enum Interrupt {
 }
 
 // The other operand of an operation on two, and where the result goes.
-#[derive(Drop)]
+#[derive(Clone, Copy)]
 pub enum Side {
     First(u8), // the register of a code is the first, and gets the result
     Second(u8), // the register of a code is the second, and the operand gets the result
@@ -90,7 +92,7 @@ pub enum Side {
 }
 
 // What is put; where nothing else is said, into the operand.
-#[derive(Drop)]
+#[derive(Clone, Copy)]
 pub enum Use {
     Number(u32),
     From(u8), // the register of a code
@@ -103,7 +105,7 @@ pub enum Use {
 }
 
 // What is done, by the kind of work. A code or a number in it stood after the operand's bytes.
-#[derive(Drop)]
+#[derive(Clone, Copy)]
 pub enum Op {
     Controls(Control),
     Stacks(Stack),
@@ -113,7 +115,7 @@ pub enum Op {
     Interrupts(Interrupt),
 }
 
-#[derive(Drop)]
+#[derive(Clone, Copy)]
 pub struct Instruction {
     pub op: Op,
     pub size: Size,
@@ -122,7 +124,7 @@ pub struct Instruction {
 }
 
 // Short: the bytes begin a listed instruction and are not the whole of it. Unlisted: they begin none.
-#[derive(Drop)]
+#[derive(Clone, Copy)]
 pub enum Decoded {
     Whole(Instruction),
     Short,
@@ -130,7 +132,7 @@ pub enum Decoded {
 }
 
 // What a code says whose first byte is 00 to 7F: with its number, or its size and operand, and how many bytes it has.
-#[derive(Drop)]
+#[derive(Clone, Copy)]
 pub enum Alone {
     Controls(Control, u32, usize),
     Stacks(Stack, Size, Operand, usize),
@@ -142,7 +144,7 @@ pub enum Alone {
 
 // What a register form says of its register, and how many bytes it has. The fields lie side by side, and not in a `Use`: an enum
 // in an enum was measured to be slower.
-#[derive(Drop)]
+#[derive(Clone, Copy)]
 pub enum OfRegister {
     Number(u32, usize),
     From(u8, usize),
@@ -156,7 +158,7 @@ pub enum OfRegister {
 }
 
 // What a form of the feed calculation says of its register (request K7), and how many bytes it has.
-#[derive(Drop)]
+#[derive(Clone, Copy)]
 pub enum OfFeed {
     Scaled(Scale, u8, usize),
     ScaledWith(Scale, u32, usize),
@@ -166,7 +168,7 @@ pub enum OfFeed {
 }
 
 // Which register a register form is of, and how many code bytes named it, none or one.
-#[derive(Drop)]
+#[derive(Clone, Copy)]
 pub enum Chosen {
     Register(Operand, usize),
     Short,
@@ -174,7 +176,7 @@ pub enum Chosen {
 }
 
 // A memory form, and how many bytes it has.
-#[derive(Drop)]
+#[derive(Clone, Copy)]
 pub enum Begun {
     Form(Base, u32, usize),
     Short,
@@ -182,7 +184,7 @@ pub enum Begun {
 }
 
 // What the byte after a memory form says.
-#[derive(Drop)]
+#[derive(Clone, Copy)]
 pub enum OfMemory {
     Load(u8, Size, usize),
     From(u8, Size, usize),
@@ -194,7 +196,7 @@ pub enum OfMemory {
 }
 
 // A number in the code, or that its bytes are not all there.
-#[derive(Drop)]
+#[derive(Clone, Copy)]
 pub enum Found {
     Value(u32),
     Missing,

@@ -1,4 +1,6 @@
 // What an instruction puts: what is made of its operands.
+#![tactic(auto)]
+
 ghost use Rattle.std.specs.Prelude.{◌≡◌};
 ghost use Rattle.compute.specs.Compute.{stores_of};
 

@@ -1,4 +1,6 @@
 // Banks, the interrupt level, flags and jumps: what changes these and the counter alone.
+#![tactic(auto)]
+
 ghost use Rattle.std.specs.Prelude.{◌≡◌, ℕ, ◌+◌, ◌%◌, ◌^◌, List};
 ghost use Rattle.little.specs.Width.{bits_of};
 ghost use Rattle.flags.specs.Flag.{packed_of};

@@ -1,4 +1,6 @@
 // The instruction that a code begins with: what each of the readers gives, in one type.
+#![tactic(auto)]
+
 ghost use Rattle.std.specs.Prelude.{◌≡◌, ◌+◌, ◌<◌, ◌^◌};
 ghost use Rattle.code.specs.Said.{whole_of, judge};
 ghost use Rattle.code.specs.Rows.{lookup, by_rows};

@@ -1,4 +1,6 @@
 // From a decoded instruction its bytes (request K11).
+#![tactic(auto)]
+
 ghost use Rattle.std.specs.Prelude.{◌≡◌, length, ◌≤◌};
 ghost use Rattle.encode.specs.One.{bytes_in, is_listed, end_number, end_of, is_done, told_of, Writes};
 
@@ -8,7 +10,7 @@ use range::in_range;
 pub mod spell;
 
 // How a call ended that writes instructions or reads them.
-#[derive(Drop)]
+#[derive(Clone, Copy)]
 pub enum Ended {
     Done,
     // The bytes end within a listed instruction.
@@ -22,7 +24,7 @@ pub enum Ended {
 }
 
 // How a writing ended, and how many bytes were written.
-#[derive(Drop)]
+#[derive(Clone, Copy)]
 pub struct Written {
     pub ended: Ended,
     pub bytes: usize,

@@ -13,21 +13,21 @@ use feed::scale::Scale;
 use little::Size;
 
 // The low bytes of a number, none to four of them.
-#[derive(Drop)]
+#[derive(Clone, Copy)]
 pub struct Piece {
     pub value: u32,
     pub bytes: u8,
 }
 
 // The first byte of an operand's form, where it has one, and what belongs to it: a code byte, a displacement or an address.
-#[derive(Drop)]
+#[derive(Clone, Copy)]
 pub struct Place {
     pub first: Piece,
     pub rest: Piece,
 }
 
 // A whole code: behind the place a byte that says what is done, and a number.
-#[derive(Drop)]
+#[derive(Clone, Copy)]
 pub struct Code {
     pub place: Place,
     pub next: Piece,

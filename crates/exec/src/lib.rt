@@ -1,4 +1,6 @@
 // One instruction that was read, done or refused: where the code has no address in memory.
+#![tactic(auto)]
+
 ghost use Rattle.std.specs.Prelude.{◌≡◌, List, ℕ};
 ghost use Rattle.state.specs.declared.State.{State};
 ghost use Rattle.state.specs.inner.Lent.{all_of, banked_with, banked_at_with};

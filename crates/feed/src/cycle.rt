@@ -7,7 +7,7 @@ use flags::width::low;
 use little::Size;
 
 // By how many it goes: 1, 2 or 4.
-#[derive(Drop)]
+#[derive(Clone, Copy)]
 pub enum Stride {
     One,
     Two,
@@ -15,7 +15,7 @@ pub enum Stride {
 }
 
 // Up or down, with the table's number less the step, as the code has it.
-#[derive(Drop)]
+#[derive(Clone, Copy)]
 pub enum Cycle {
     Minc(Stride, u16),
     Mdec(Stride, u16),

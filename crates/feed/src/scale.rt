@@ -11,7 +11,7 @@ use flags::{Computed, Flags, divide_flags, keeping, settled, unpack};
 use little::Size;
 
 // In the order of their codes.
-#[derive(Drop)]
+#[derive(Clone, Copy)]
 pub enum Scale {
     Mul,
     Muls,
@@ -20,7 +20,7 @@ pub enum Scale {
 }
 
 // What a division leaves, and whether the divisor was 0 or the quotient did not fit.
-#[derive(Drop)]
+#[derive(Clone, Copy)]
 pub struct Divided {
     pub value: u32,
     pub over: bool,

@@ -1,4 +1,6 @@
 // The codes whose first byte is 00 to 7F.
+#![tactic(auto)]
+
 ghost use Rattle.std.specs.Prelude.{◌≡◌, cond, List, ℕ, ◌/◌, ◌<◌, ◌≤◌, ltb};
 ghost use Rattle.little.specs.Width.{bytes_of};
 ghost use Rattle.code.specs.Said.{Said, judge};

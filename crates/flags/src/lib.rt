@@ -1,4 +1,6 @@
 // The flags: sums and differences, which set them all, and the conditions that read them.
+#![tactic(auto)]
+
 pub use crate::condition::{holds, reads_marked};
 pub use crate::flag::{
     any_marked, byte, ccf, compare_flags, copy_flags, divide_flags, keeping, pack, rcf, scf,
@@ -11,7 +13,7 @@ pub mod sum;
 pub mod width;
 
 // The flags, one by one, and the marks of those that nobody defined: 1 for H, 2 for V.
-#[derive(Drop)]
+#[derive(Clone, Copy)]
 pub struct Flags {
     pub s: bool,
     pub z: bool,
@@ -23,7 +25,7 @@ pub struct Flags {
 }
 
 // A result of some size, and the flags after it.
-#[derive(Drop)]
+#[derive(Clone, Copy)]
 pub struct Computed {
     pub value: u32,
     pub flags: Flags,

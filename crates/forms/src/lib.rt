@@ -1,4 +1,6 @@
 // The memory forms: where the address comes from, and what the byte after it says.
+#![tactic(auto)]
+
 ghost use Rattle.std.specs.Prelude.{◌≡◌, List, ◌++◌, ℕ, ◌/◌, ◌%◌, ◌≤◌, eqb};
 ghost use Rattle.code.specs.Said.{Said, judge, whole_of};
 ghost use Rattle.code.specs.Rows.{lookup, by_rows};

@@ -1,4 +1,6 @@
 // SR on the stack, and the return from an interrupt.
+#![tactic(auto)]
+
 ghost use Rattle.std.specs.Prelude.{◌≡◌};
 ghost use Rattle.state.specs.declared.State.{State};
 ghost use Rattle.state.specs.inner.Lent.{ruled, ruled_with, interrupted};

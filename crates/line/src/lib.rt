@@ -1,4 +1,6 @@
 // The line that the program prints for a ROM image.
+#![tactic(auto)]
+
 ghost use Rattle.std.specs.Prelude.{◌≡◌, [], ◌∷◌, ◌++◌};
 ghost use Rattle.text.specs.Text.{decimal_of, following};
 ghost use Rattle.text.specs.Grown.{empty_line, grown};

@@ -1,4 +1,5 @@
 // Operand sizes, and numbers as bytes in a part of a slice, low byte first.
+#![tactic(auto)]
 ghost use Rattle.std.specs.Prelude.{◌≡◌, length, get_or, take};
 ghost use Rattle.little.specs.Width.{bytes_of, twice_of};
 ghost use Rattle.little.specs.Bytes.{value_of, bytes_from};
@@ -12,7 +13,7 @@ pub const ADDRESSES: u32 = TOP_BYTE;
 // The same as a length: of a memory that had them all.
 pub const SPACE: usize = ADDRESSES as usize;
 
-#[derive(Drop)]
+#[derive(Clone, Copy)]
 pub enum Size {
     Byte,
     Word,

@@ -1,4 +1,6 @@
 // What C and Rust call to see an instruction: an archive of its own, so that the one that runs the firmware holds the decoder once.
+#![tactic(auto)]
+
 ghost use Rattle.look.specs.Statements.{CShowMeets};
 
 // How many bytes the instruction at an address has; 0 where it is refused.

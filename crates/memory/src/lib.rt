@@ -1,4 +1,6 @@
 // The two memories: where an operand lies, loads and stores, and the part of a memory that holds code.
+#![tactic(auto)]
+
 ghost use Rattle.std.specs.Prelude.{◌≡◌, length, take, drop, ◌+◌, ◌%◌, ◌^◌, ◌≤◌};
 ghost use Rattle.little.specs.Bytes.{value_of};
 ghost use Rattle.memory.specs.Place.{place_of};
@@ -11,7 +13,7 @@ use answer::{Answer, Why};
 use little::{ADDRESSES, SPACE, Size};
 
 // Where an operand lies, as an offset into its memory; or the address of the byte that is missing.
-#[derive(Drop)]
+#[derive(Clone, Copy)]
 pub enum Place {
     Ram(usize),
     Rom(usize),
@@ -57,7 +59,7 @@ pub fn find(ram_len: usize, rom_len: usize, address: u32, n: usize) -> Place
 }
 
 // The value of an operand, or the address of its missing byte: a load is refused with 5 or not at all.
-#[derive(Drop)]
+#[derive(Clone, Copy)]
 pub enum Loaded {
     Value(u32),
     Missing(u32),
@@ -128,7 +130,7 @@ pub fn store(ram: &mut [u8], rom: &[u8], address: u32, size: Size, v: u32) -> An
 }
 
 // An operand of six bytes: its low two and its high four, or the address of its missing byte.
-#[derive(Drop)]
+#[derive(Clone, Copy)]
 pub enum LoadedSix {
     Values(u32, u32),
     Missing(u32),

@@ -1,4 +1,6 @@
 // Reads a ROM image from standard input and prints one line: what 1,000 steps after reset come to.
+#![tactic(auto)]
+
 use libc::{STDIN_FILENO, STDOUT_FILENO};
 
 fn main() {

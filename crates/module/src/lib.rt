@@ -1,4 +1,6 @@
 // What C and Rust call. A state crosses as its saved record, an answer as its number and address, and nothing is kept between calls.
+#![tactic(auto)]
+
 ghost use Rattle.std.specs.Prelude.{◌≡◌};
 ghost use Rattle.answer.specs.Number.{number_of, at_of};
 ghost use Rattle.module.specs.Calls.{opened_of, CResetMeets, CStepMeets, CRunMeets, CRequestMeets};

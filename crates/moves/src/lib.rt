@@ -1,4 +1,6 @@
 // What C and Rust call to move a record between its two forms: apart from the other calls, so that a program with no old records holds none of it.
+#![tactic(auto)]
+
 ghost use Rattle.std.specs.Prelude.{◌≡◌, length};
 ghost use Rattle.moves.specs.Moves.{CWidenMeets, CNarrowMeets};
 ghost use Rattle.moves.specs.inner.Filled.{filled};

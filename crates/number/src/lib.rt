@@ -1,4 +1,6 @@
 // Numbers in a code, low byte first, and the size and the operation that a digit names.
+#![tactic(auto)]
+
 ghost use Rattle.std.specs.Prelude.{◌≡◌, ◌+◌, ◌*◌, ◌%◌, ◌<◌, ◌≤◌, length, get_or, take, drop};
 ghost use Rattle.little.specs.Bytes.{value_of};
 ghost use Rattle.code.specs.Said.{number_at};

@@ -1,4 +1,6 @@
 // The operand of an instruction: its address, its number, its register.
+#![tactic(auto)]
+
 ghost use Rattle.std.specs.Prelude.{◌≡◌, ◌-◌, ◌^◌};
 ghost use Rattle.little.specs.Width.{bits_of};
 ghost use Rattle.operand.specs.Operand.{displaced, pointer_in, address_from};

@@ -1,4 +1,6 @@
 // Whether an instruction is within the listed ranges: what each operation can hold, by the kind of work.
+#![tactic(auto)]
+
 ghost use Rattle.std.specs.Prelude.{◌≡◌, ◌^◌, ltb};
 ghost use Rattle.little.specs.Width.{bytes_of};
 ghost use Rattle.code.specs.Rows.{only_byte, only_word, no_byte, no_long};

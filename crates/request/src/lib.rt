@@ -1,4 +1,6 @@
 // A request for an interrupt, offered to the machine between two steps.
+#![tactic(auto)]
+
 ghost use Rattle.std.specs.Prelude.{◌≡◌, false};
 ghost use Rattle.little.specs.declared.Size.TheVariants.{Long};
 ghost use Rattle.memory.specs.Access.{load_of};
@@ -13,7 +15,7 @@ use state::status::sr;
 use state::{Level, State};
 
 // The state after it, whether it was taken, and how the call ended: a request that is not taken is done.
-#[derive(Drop)]
+#[derive(Clone, Copy)]
 pub struct Requested {
     pub state: State,
     pub taken: bool,

@@ -1,4 +1,6 @@
 // What C and Rust call to read a row of instructions and write it again: an archive of its own, so that a program that runs firmware holds none of it.
+#![tactic(auto)]
+
 ghost use Rattle.rewrite.specs.Rewrite.{CRewriteMeets};
 
 use encode::{done, number};

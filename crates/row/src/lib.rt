@@ -1,4 +1,6 @@
 // A list of instructions in a row: written as bytes, and read from them (request K11).
+#![tactic(auto)]
+
 ghost use Rattle.std.specs.Prelude.{◌≡◌, true, ◌++◌, ◌≤◌, length, take, drop, replicate};
 ghost use Rattle.encode.specs.One.{Writes};
 ghost use Rattle.row.specs.Row.{most, row_of, refused_row, read_of, list_in, is_list, blank, held_as, reading_of};
@@ -12,14 +14,14 @@ use little::Size;
 pub const MOST: usize = 64;
 
 // A list: the first `count` of what is held. A count of more than 64 is a list that is too long, whatever is held.
-#[derive(Drop)]
+#[derive(Clone, Copy)]
 pub struct Instructions {
     pub held: [Instruction; 64],
     pub count: usize,
 }
 
 // How a reading ended, and the list; it is empty where the reading was refused.
-#[derive(Drop)]
+#[derive(Clone, Copy)]
 pub struct Reading {
     pub ended: Ended,
     pub list: Instructions,

@@ -1,4 +1,6 @@
 // Many steps.
+#![tactic(auto)]
+
 ghost use Rattle.std.specs.Prelude.{◌≡◌};
 ghost use Rattle.turn.specs.Many.{stopped};
 ghost use Rattle.run.specs.Run.{RunMeets};

@@ -1,4 +1,6 @@
 // A state as a record of bytes.
+#![tactic(auto)]
+
 ghost use Rattle.std.specs.Prelude.{◌≡◌, ◌++◌, length, get_or, take, drop, ◌+◌, ◌≤◌};
 ghost use Rattle.little.specs.Bytes.{value_of, bytes_from};
 ghost use Rattle.saved.specs.Record.{old_length, longs_bytes, old_record_of, marks_byte, fits_old, SaveMeets, OldSaveMeets};
@@ -9,7 +11,7 @@ use state::State;
 use state::status::{bank_in, flags_in, level_in, ones_in, sr};
 
 // A state that was read, or the all-zero state with the refusal.
-#[derive(Drop)]
+#[derive(Clone, Copy)]
 pub struct Restored {
     pub state: State,
     pub answer: Answer,

@@ -1,4 +1,6 @@
 // Pushes, pops, calls and returns.
+#![tactic(auto)]
+
 ghost use Rattle.std.specs.Prelude.{◌≡◌, ◌%◌, ◌^◌};
 ghost use Rattle.memory.specs.inner.Six.{six_from};
 ghost use Rattle.little.specs.declared.Size.TheVariants.{Byte, Long};

@@ -1,12 +1,12 @@
 -- A state that a call is given or gives is sound: its type says so.
--- A parameter `s : State` has it at `c.good.N`, a call's result at `c.CALL.ok`.
+-- A parameter `s : State` has it at `c.well_formed.N`.
 use Prim.Native.Nat.{ℕ, zero, suc, ◌<◌, ◌^◌}
-use mathlib.Core.Path.{◌≡◌, refl, sym, ◌∙◌}
-use mathlib.Core.List.{List, [], ◌∷◌, map}
+use mathlib.Core.Path.{◌≡◌, refl}
+use mathlib.Core.List.{List, [], ◌∷◌}
 use mathlib.Core.Bool.{Bool, true, false, ◌&&◌}
 use native.Mathlib.Omega.{arith}
 use lib.Dec.{T, ltb, eqb, ltb→lt, eqb→eq}
-use lib.ListN.{length, get_or, length-map}
+use lib.ListN.{length, get_or}
 use lib.Pow.{pow_pos}
 use mir.Val.{Val, bits}
 use mir.Syntax.{Width, w8, w32}
@@ -19,7 +19,7 @@ use Rattle.state.specs.Sound.{Sound}
 use Rattle.state.specs.contracts.State.{the_row}
 
 -- each element of an array of unsigned integers fits
-each_fits : (w : Width) (xs : List ℕ) (us : List Val) → shadow (each ℕ (UInt w).own_val (map (λ v. v) xs) us) → (i : ℕ) → get_or xs i 0 < 2 ^ bits w
+each_fits : (w : Width) (xs : List ℕ) (us : List Val) → shadow (each ℕ (UInt w).own_val xs us) → (i : ℕ) → get_or xs i 0 < 2 ^ bits w
 each_fits w [] us p i = pow_pos (bits w)
 each_fits w (x ∷ xs) [] p i = absurd p
 each_fits w (x ∷ xs) (u ∷ us) p zero = p.0.1
@@ -29,7 +29,7 @@ pub sound : (s : State) {vs : List Val} → shadow (the_row.own_val s vs) → So
 sound s p =
     let q = p.1.1 in
     record {
-      twenty = sym (length-map s.registers (λ v. v)) ∙ q.0.1.0.1;
+      twenty = q.0.1.0.1;
       fit = each_fits w32 s.registers q.0.0 q.0.1.1;
       counter_fit = q.1.0.1;
       bank_fit = q.1.1.0.1.1.0.1;

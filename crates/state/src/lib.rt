@@ -1,4 +1,6 @@
 // The machine's state: twenty long registers, the counter, the bank, the interrupt level, two sets of flags and the nesting count.
+#![tactic(auto)]
+
 ghost use Rattle.std.specs.Prelude.{◌≡◌, ◌%◌, ◌<◌};
 ghost use Rattle.state.specs.State.{banked, zero_state, reset_state, flags_valid, valid_of, long_of};
 ghost use Rattle.state.specs.inner.Lent.{all_of};
@@ -10,14 +12,14 @@ pub mod named;
 pub mod status;
 
 // A bank number: which of the four banks the codes 0 to 3 name.
-#[derive(Drop)]
+#[derive(Clone, Copy)]
 pub struct Bank(pub u8);
 
 // An interrupt level.
-#[derive(Drop)]
+#[derive(Clone, Copy)]
 pub struct Level(pub u8);
 
-#[derive(Drop)]
+#[derive(Clone, Copy)]
 pub struct State {
     // XWA XBC XDE XHL of bank 0, of bank 1, of bank 2 and of bank 3, then XIX XIY XIZ XSP.
     pub registers: [u32; 20],
@@ -32,7 +34,7 @@ pub struct State {
 }
 
 // A part of a long register.
-#[derive(Drop)]
+#[derive(Clone, Copy)]
 pub enum Part {
     Byte0,
     Byte1,
@@ -44,7 +46,7 @@ pub enum Part {
 }
 
 // Which of the twenty registers, and which part of it: whatever an instruction can name.
-#[derive(Drop)]
+#[derive(Clone, Copy)]
 pub struct Slot {
     pub index: usize,
     pub part: Part,

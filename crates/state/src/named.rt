@@ -10,7 +10,7 @@ use crate::{Bank, index_of};
 use little::Size;
 
 // Which of the twenty longs, and the first bit there.
-#[derive(Drop)]
+#[derive(Clone, Copy)]
 pub struct Field {
     pub index: usize,
     pub start: u32,

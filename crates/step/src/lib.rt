@@ -1,4 +1,6 @@
 // One step: the instruction at the counter is done as the book says, or refused and nothing changes.
+#![tactic(auto)]
+
 ghost use Rattle.std.specs.Prelude.{◌≡◌};
 ghost use Rattle.memory.specs.Access.{code_at};
 ghost use Rattle.code.specs.Listed.{decode_of};
@@ -15,7 +17,7 @@ use little::ADDRESSES;
 use memory::Loaded;
 use state::State;
 
-#[derive(Drop)]
+#[derive(Clone, Copy)]
 pub struct Stepped {
     pub state: State,
     pub answer: Answer,

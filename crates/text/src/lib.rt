@@ -1,10 +1,12 @@
 // Numbers as text, and a line that they are added to.
+#![tactic(auto)]
+
 ghost use Rattle.std.specs.Prelude.{◌≡◌, [], ◌∷◌, ◌%◌};
 ghost use Rattle.text.specs.Text.{digit_of, decimal_in, decimal_of, hex_of};
 ghost use Rattle.text.specs.Grown.{empty_line, grown};
 
 // A text that grows at its end, up to 128 bytes; past them nothing is added.
-#[derive(Drop)]
+#[derive(Clone, Copy)]
 pub struct Line {
     pub text: [u8; 128],
     pub length: usize,

@@ -1,4 +1,6 @@
 // Many steps in one call: what stands at the counter, done or refused, again and again.
+#![tactic(auto)]
+
 ghost use Rattle.std.specs.Prelude.{◌≡◌, List, ℕ, suc, ◌-◌};
 ghost use Rattle.memory.specs.Access.{code_at};
 ghost use Rattle.state.specs.declared.State.{State};
@@ -211,7 +213,7 @@ fn once(
 }
 
 // The state so far, the count of steps done, and how it ended.
-#[derive(Drop)]
+#[derive(Clone, Copy)]
 pub struct Ran {
     pub state: State,
     pub done: u32,

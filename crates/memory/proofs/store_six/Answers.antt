@@ -1,0 +1,45 @@
+-- `memory::store_six` meets its contract: by the arms of the place.
+use mathlib.Core.Path.{◌≡◌, refl, sym, ◌∙◌}
+use native.Mathlib.Omega.{arith}
+use lib.ListN.{length}
+use Rattle.memory.specs.Place.{place_of}
+use Rattle.memory.specs.declared.Place.TheVariants.{Ram}
+use Rattle.memory.proofs.Laws.{ram_fits_lem}
+use Rattle.memory.proofs.Six.{six_room, six_written}
+use Rattle.memory.proofs.store_six.Goals as goal
+
+pub overflow_add-m : goal.overflow_add-m
+overflow_add-m c =
+    let is_ram : let a = c.args in place_of (length a.ram.now) (length a.rom.now) a.at 6 ≡ Ram c.in-Ram.o = sym c.find.ensures ∙ c.in-Ram.is in
+    omega (arith, (ram_fits_lem _ _ _ _ _ is_ram).1)
+
+pub overflow_add-e : goal.overflow_add-e
+overflow_add-e c =
+    let is_ram : let a = c.args in place_of (length a.ram.now) (length a.rom.now) a.at 6 ≡ Ram c.in-Ram.o = sym c.find.ensures ∙ c.in-Ram.is in
+    omega (arith, (ram_fits_lem _ _ _ _ _ is_ram).1)
+
+pub slice_bounds-write-end : goal.slice_bounds-write-end
+slice_bounds-write-end c =
+    let is_ram : let a = c.args in place_of (length a.ram.now) (length a.rom.now) a.at 6 ≡ Ram c.in-Ram.o = sym c.find.ensures ∙ c.in-Ram.is in
+    omega (arith, (ram_fits_lem _ _ _ _ _ is_ram).1)
+
+pub slice_bounds-write-end-in-Ram : goal.slice_bounds-write-end-in-Ram
+slice_bounds-write-end-in-Ram c =
+    let is_ram : let a = c.args in place_of (length a.ram.now) (length a.rom.now) a.at 6 ≡ Ram c.in-Ram.o = sym c.find.ensures ∙ c.in-Ram.is in
+    let k = c in
+    six_room k.in-Ram.o c.args.low c.args.ram.now c.write.new.part (ram_fits_lem _ _ _ _ _ is_ram).1 c.write.ensures
+
+pub returns-in-Ram : goal.returns-in-Ram
+returns-in-Ram c =
+    let is_ram : let a = c.args in place_of (length a.ram.now) (length a.rom.now) a.at 6 ≡ Ram c.in-Ram.o = sym c.find.ensures ∙ c.in-Ram.is in
+    let k = c in
+    let a = c.args in
+    let fits = (ram_fits_lem _ _ _ _ _ is_ram).1 in
+    rw is_ram
+    record { value = refl; ram_after = six_written k.in-Ram.o a.low a.high a.ram.now _ c.write.new.part c.write-in-Ram.new.part fits c.write.ensures refl c.write-in-Ram.ensures }
+
+pub returns-in-Rom : goal.returns-in-Rom
+returns-in-Rom c = rw (sym c.find.ensures ∙ c.in-Rom.is) record { value = refl; ram_after = refl }
+
+pub returns-in-Missing : goal.returns-in-Missing
+returns-in-Missing c = rw (sym c.find.ensures ∙ c.in-Missing.is) record { value = refl; ram_after = refl }
