@@ -1,5 +1,5 @@
 -- Bytes that are refused as short do begin a listed instruction: some bytes more make it whole.
-use Prim.Native.Nat.{ℕ, zero, suc, ◌+◌, ◌-◌, ◌%◌, ◌≤◌, ◌<◌}
+use Prim.Native.Nat.{ℕ, zero, suc, ◌+◌, ◌-◌, ◌%◌, ◌≤◌, ◌<◌, ◌^◌}
 use mathlib.Core.Path.{◌≡◌, refl, subst, ◌∙◌}
 use mathlib.Core.Bool.{Bool, true, false, cond}
 use mathlib.Core.List.{List, [], ◌∷◌, ◌++◌, append_assoc, append-nil}
@@ -60,7 +60,7 @@ ends (next f) c s =
     let p = s ++ (b ∷ []) in
     let l : length p ≡ length s + 1 = length-append s (b ∷ []) in
     let h : length s < length p = rw l (omega arith) in
-    let one : Bytes (b ∷ []) = λ k. elim k [ zero ↦ c.1 | suc k ↦ omega arith ] in
+    let one : Bytes (b ∷ []) = λ k. elim k as (λ i. get_or (b ∷ []) i 0 < 2 ^ 8) [ zero ↦ c.1 | suc k ↦ omega arith ] in
     let r : Ends (f b) p (length s + 1) = subst (λ (n : ℕ). Ends (f b) p n) l (ends (f b) c.2 p) in
     add (next f) s (b ∷ []) (length s) one
     (r.0, r.1, r.2, step_next f (p ++ r.0) (length s) b (longer p r.0 (length s) (suc (length s)) h) (byte_in_lem p r.0 (length s) h ∙ get_or-append_seam s b [] 0) ∙ r.3)

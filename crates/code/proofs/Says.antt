@@ -5,7 +5,7 @@ use mathlib.Core.Bool.{Bool, true}
 use mathlib.Core.List.{List, [], ◌∷◌, ◌++◌, append_assoc}
 use native.Mathlib.Omega.{arith}
 use native.Mathlib.Nat.{mod-lt}
-use lib.ListN.{length, take, drop, length-append}
+use lib.ListN.{length, get_or, take, drop, length-append}
 use lib.Seq.{get_or-append_seam, drop-append_seam, take_at}
 use lib.Dec.{ltb}
 use borrow.Author.Tests.{ltb-true}
@@ -42,7 +42,7 @@ byte {j} rs b e =
           let l : length s < length (s ++ (b ∷ t)) = rw length-append (omega arith) in
           step_next (lookup rs) (s ++ (b ∷ t)) (length s) b l (get_or-append_seam s b t 0)
           ∙ ap (λ (k : Said). judge k (s ++ (b ∷ t)) (length s + 1)) (ap (λ (x : Said × Bool). x.0) e);
-      bytes = λ k. elim k [ zero ↦ ltb-true b 256 (ap (λ (x : Said × Bool). x.1) e) | suc k ↦ omega arith ];
+      bytes = λ k. elim k as (λ i. get_or (b ∷ []) i 0 < 2 ^ 8) [ zero ↦ ltb-true b 256 (ap (λ (x : Said × Bool). x.1) e) | suc k ↦ omega arith ];
     }
 
 pub value : {f : ℕ → Said} (n v : ℕ) → v < 256 ^ n → Says (number n f) (bytes_from n v) (f v)

@@ -1,0 +1,10 @@
+use Rattle.alu.proofs.count.counted.Goals as goal
+
+pub returns-in-Byte : goal.returns-in-Byte
+returns-in-Byte c = rw (c.in-Byte.is, c.keeping_c.ensures)
+
+pub returns-in-Word : goal.returns-in-Word
+returns-in-Word c = rw c.in-Word.is
+
+pub returns-in-Long : goal.returns-in-Long
+returns-in-Long c = rw c.in-Long.is
