@@ -28,7 +28,7 @@ use state::{Bank, State, current, mask};
 
 // How many rounds more one call can do: only a form that stays what it is goes on in it.
 fn rounds(stays: bool, more: u32) -> u32
-    ensures* { λ r. ⌜ r ≡ most_rounds stays more ⌝ }
+    ensures { result ≡ most_rounds stays more }
 {
     if stays {
         return more;
@@ -50,10 +50,10 @@ fn block(
     more: &mut u32,
 ) -> Answer
     requires { Stands at counter.old ram.old rom.now (λ s m. and_then (round_of f s m rom.now) (ends_at f at)) }
-    ensures* fact { λ a. ⌜ Fewer a more.old more.new ⌝ }
-    ensures* fact_2 { λ a. ⌜ ((s : State) → Does (λ t m. times_of (suc (more.old - more.new)) (standing_at t at) m rom.now)
+    ensures fewer { Fewer result more.old more.new }
+    ensures does { ((s : State) → Does (λ t m. times_of (suc (more.old - more.new)) (standing_at t at) m rom.now)
         (banked_at_with s regs.old bank counter.old flags.old) ram.old
-        a (banked_at_with s regs.new bank counter.new flags.new) ram.new) ⌝ }
+        result (banked_at_with s regs.new bank counter.new flags.new) ram.new) }
 {
     let most = rounds(in_rom(ram.len(), rom.len(), at), *more);
     let apart = *more - most;
@@ -92,10 +92,10 @@ fn of_memory(
     more: &mut u32,
 ) -> Answer
     requires { (m : MemoryForm) × (decode_of (code_at ram.old rom.now counter.old) ≡ memory_as read m) × (at ≡ address_in regs.old bank m) }
-    ensures* fact { λ a. ⌜ Fewer a more.old more.new ⌝ }
-    ensures* fact_2 { λ a. ⌜ ((s : State) → Does (λ t m. times_of (suc (more.old - more.new)) t m rom.now)
+    ensures fewer { Fewer result more.old more.new }
+    ensures does { ((s : State) → Does (λ t m. times_of (suc (more.old - more.new)) t m rom.now)
         (banked_at_with s regs.old bank counter.old flags.old) ram.old
-        a (banked_at_with s regs.new bank counter.new flags.new) ram.new) ⌝ }
+        result (banked_at_with s regs.new bank counter.new flags.new) ram.new) }
 {
     match read {
         OfMemory::Load(r, size, n) => {
@@ -127,7 +127,7 @@ fn of_memory(
 
 // Past the code byte that named a register, where there was one: the counter of any other form is left alone.
 fn past_name(counter: &mut u32, n: usize)
-    ensures* { λ _. ⌜ counter.new ≡ past_name n counter.old ⌝ }
+    ensures { counter.new ≡ past_name n counter.old }
 {
     if n == 0 {
         return;
@@ -144,9 +144,9 @@ fn of_registers(
     regs: &mut [u32; 20],
     counter: &mut u32,
 ) -> Answer
-    ensures* { λ a. ⌜ ((s : State) (ram rom : List ℕ) → Does (λ t m. done (judge (register_begun (register_size b) b) code.now 1) t m rom)
+    ensures { ((s : State) (ram rom : List ℕ) → Does (λ t m. done (judge (register_begun (register_size b) b) code.now 1) t m rom)
         (banked_at_with s regs.old bank counter.old flags.old) ram
-        a (banked_at_with s regs.new bank counter.new flags.new) ram) ⌝ }
+        result (banked_at_with s regs.new bank counter.new flags.new) ram) }
 {
     let size = registers::size_by(b);
     let here = *counter;
@@ -179,12 +179,12 @@ fn once(
     rom: &[u8],
     more: &mut u32,
 ) -> Answer
-    ensures* fact { λ a. ⌜ Fewer a more.old more.new ⌝ }
-    ensures* fact_2 { λ a. ⌜ Does (λ t m. times_of (suc (more.old - more.new)) t m rom.now)
+    ensures fewer { Fewer result more.old more.new }
+    ensures does { Does (λ t m. times_of (suc (more.old - more.new)) t m rom.now)
         (all_of regs.old counter.old bank.old level.old
         flags.old spare.old nesting.old) ram.old
-        a (all_of regs.new counter.new bank.new level.new
-        flags.new spare.new nesting.new) ram.new ⌝ }
+        result (all_of regs.new counter.new bank.new level.new
+        flags.new spare.new nesting.new) ram.new }
 {
     let code = memory::fetch(&*ram, rom, *counter);
     if code.len() == 0 {
@@ -221,7 +221,7 @@ pub struct Ran {
 }
 
 fn stop(s: State, done: u32, answer: Answer) -> Ran
-    ensures* { λ r. ⌜ r ≡ stopped s done answer ⌝ }
+    ensures { result ≡ stopped s done answer }
 {
     Ran {
         state: s,
@@ -232,7 +232,7 @@ fn stop(s: State, done: u32, answer: Answer) -> Ran
 
 // Many steps of any state: the checks before the first are the caller's. A call of `once` may do several of those left.
 pub fn many(s: State, ram: &mut [u8], rom: &[u8], steps: u32) -> Ran
-    ensures* { λ r. ⌜ result_of r ram.new ≡ many_of steps 0 s ram.old rom.now ⌝ }
+    ensures { result_of result ram.new ≡ many_of steps 0 s ram.old rom.now }
 {
     let mut regs = s.registers;
     let mut counter = s.counter;
