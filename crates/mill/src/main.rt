@@ -1,7 +1,8 @@
 // Reads a ROM image from standard input and prints one line: what 1,000 steps after reset come to.
 #![tactic(auto)]
 
-use libc::{STDIN_FILENO, STDOUT_FILENO};
+const STDIN_FILENO: i32 = 0;
+const STDOUT_FILENO: i32 = 1;
 
 fn main() {
     // One byte more than an image may have, so that a longer one shows.
