@@ -2,6 +2,7 @@
 #![tactic(auto)]
 
 const STDIN_FILENO: i32 = 0;
+
 const STDOUT_FILENO: i32 = 1;
 
 fn main() {
