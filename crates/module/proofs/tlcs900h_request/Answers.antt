@@ -1,0 +1,17 @@
+use Rattle.module.proofs.Laws.{request_stops, request_not, request_took}
+use Rattle.module.proofs.tlcs900h_request.Goals as goal
+
+pub returns-in-Refused : goal.returns-in-Refused
+returns-in-Refused c =
+    let a = c.args in
+    request_stops a.bytes.now a.ram.now a.rom.now c.opened-o.result c.opened-o.ensures a.level a.vector c.in-Refused.field-0 c.in-Refused.is c.told.ensures.value c.told.ensures.at_after
+
+pub returns-then-not-q : goal.returns-then-not-q
+returns-then-not-q c =
+    let a = c.args in
+    request_not a.bytes.now a.ram.now a.rom.now c.opened-o.result c.opened-o.ensures a.level a.vector c.request-q.result c.request-q.new.ram c.in_default.is c.request-q.ensures c.if-not-q.true c.told-then-not-q.ensures.value c.told-then-not-q.ensures.at_after
+
+pub returns : goal.returns
+returns c =
+    let a = c.args in
+    request_took a.bytes.now a.ram.now a.rom.now c.opened-o.result c.opened-o.ensures a.level a.vector c.request-q.result c.request-q.new.ram c.in_default.is c.request-q.ensures c.if-not-q.false c.save.ensures.1 c.told-2.ensures.value c.told-2.ensures.at_after

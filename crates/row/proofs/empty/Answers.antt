@@ -1,0 +1,6 @@
+use Prim.Native.Nat.{◌-◌}
+use mathlib.Core.Path.{refl}
+use Rattle.row.proofs.empty.Goals as goal
+
+pub returns : goal.returns
+returns c = rw c.blank-none.ensures refl
