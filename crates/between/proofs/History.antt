@@ -24,7 +24,6 @@ use Rattle.code.specs.declared.Op.TheVariants.{Controls, Stacks, Puts, Sets, Blo
 use Rattle.code.specs.declared.Interrupt.{Interrupt}
 use Rattle.code.specs.declared.Interrupt.TheVariants.{PushSr, PopSr, Reti}
 use Rattle.code.specs.declared.Instruction.{Instruction}
-use Rattle.code.specs.declared.Decoded.{Decoded}
 use Rattle.code.specs.declared.Decoded.TheVariants as decoded
 use Rattle.code.specs.Listed.{decode_of}
 use Rattle.operand.specs.Try.{Try, did, no, Outcome, after, leaves, and_then, with_loaded}
@@ -33,13 +32,12 @@ use Rattle.operand.specs.Round.{less, plus}
 use Rattle.stack.specs.Stack.{with_stack}
 use Rattle.step.specs.Step.{try_of, step_of}
 use Rattle.facts.specs.Statements.{Passed}
-use Rattle.facts.specs.Touched.{below_stack, KeepsRest}
+use Rattle.facts.specs.Touched.{below_stack}
 use Rattle.facts.proofs.Kept.{spares_length}
 use Rattle.facts.proofs.Levels.{step_counts}
 use Rattle.facts.proofs.Statements.{some, not_long, operated, keeps_valid}
 use Rattle.turn.specs.Many.{Result, ends, many_of}
 use Rattle.turn.proofs.ManySteps.{many_none, many_did}
-use Rattle.turn.specs.Once.{once_of}
 use Rattle.run.specs.Run.{most_steps, run_of}
 use Rattle.run.specs.Statements.{later}
 use Rattle.run.proofs.Joins.{runs_join, run_is_steps}
@@ -47,7 +45,7 @@ use Rattle.run.proofs.Laws.{try_once, run_goes}
 use Rattle.run.proofs.Rounds.{same_did, refused_not}
 use Rattle.request.specs.Request.{takes, entered, entering, return_address, offered_of, request_of, if_done, took_of}
 use Rattle.between.specs.History.{Event, step, offer, happens, history_of, is_reti, returns_by, return_at, stepping, taking, returning, counted_in, NestingBalances, NestingComesBack, UntakenIsRun}
-use Rattle.between.proofs.Offer.{Course, long, invalid, bad, out, let_in, course, Taken, taken_says, taken_is, taken_keeps, offer_out}
+use Rattle.between.proofs.Offer.{Course, long, invalid, bad, out, let_in, course, taken_says, taken_is, taken_keeps}
 
 abbrev one : Bool → ℕ
 one b = cond b 1 0

@@ -16,14 +16,13 @@ use Rattle.answer.specs.declared.Why.TheVariants.{TooLong, Invalid, BadRequest}
 use Rattle.little.specs.declared.Size.TheVariants.{Long}
 use Rattle.state.specs.declared.State.{State}
 use Rattle.state.specs.State.{valid_of, with_nesting}
-use Rattle.state.specs.Sound.{Sound}
 use Rattle.state.proofs.Valid.{Valid, valid_says, valid_from}
 use Rattle.operand.specs.Try.{Try, did, no, Outcome, after, leaves}
 use Rattle.stack.specs.Stack.{push_bytes}
 use Rattle.step.specs.Step.{too_long, guarded}
 use Rattle.facts.specs.Touched.{none, bytes, below_stack, operands_answer, KeepsRest}
 use Rattle.facts.specs.Statements.{◌⇔◌, Within, Passed}
-use Rattle.facts.proofs.Touched.{register_kept, Kept, Recounted, Gives, fair_storing_bytes, fair_loaded, fair_then}
+use Rattle.facts.proofs.Touched.{register_kept, Kept, Gives, fair_storing_bytes, fair_loaded, fair_then}
 use Rattle.facts.proofs.Kept.{valid_kept, valid_recounted, Whole, whole_kept, whole_recounted}
 use Rattle.facts.proofs.Statements.{some, longer, within, not_long, fair_answer, fair_done, ByOperands, by_operands, far, both}
 use Rattle.code.specs.declared.Op.TheVariants.{Interrupts}

@@ -1,8 +1,8 @@
 -- The return from a request that was taken, proved.
-use Prim.Native.Nat.{ℕ, ◌+◌, ◌-◌, ◌*◌, ◌/◌, ◌%◌, ◌^◌, ◌<◌, ◌≤◌}
-use mathlib.Core.Path.{◌≡◌, refl, ap, sym, ◌∙◌, subst}
+use Prim.Native.Nat.{ℕ, ◌+◌, ◌/◌, ◌%◌, ◌^◌, ◌<◌, ◌≤◌}
+use mathlib.Core.Path.{◌≡◌, refl, ap, sym, ◌∙◌}
 use mathlib.Core.List.{List, [], ◌∷◌}
-use mathlib.Core.Bool.{Bool, true, false}
+use mathlib.Core.Bool.{true}
 use native.Mathlib.Omega.{arith}
 use lib.ListN.{length, get_or, set, take, drop}
 use lib.Seq.{set-set, set-get_or}
@@ -10,7 +10,7 @@ use Rattle.answer.specs.Number.{number_of}
 use Rattle.answer.specs.declared.Answer.{Answer}
 use Rattle.answer.specs.declared.Answer.TheVariants.{Done, Refused}
 use Rattle.little.specs.declared.Size.TheVariants.{Byte, Long}
-use Rattle.little.specs.Bytes.{Bytes, value_of, bytes_from, replaced}
+use Rattle.little.specs.Bytes.{value_of, bytes_from, replaced}
 use Rattle.little.proofs.Laws.{length_bytes, value_bytes, replaced_part, replaced_length}
 use Rattle.flags.specs.Flag.{byte_of, flags_of, packed_of}
 use Rattle.flags.proofs.Packed.{byte_low}
@@ -23,10 +23,10 @@ use Rattle.memory.proofs.Laws.{place_ram, ram_fits_lem}
 use Rattle.state.specs.declared.State.{State}
 use Rattle.state.specs.declared.Bank.{Bank}
 use Rattle.state.specs.declared.Level.{Level}
-use Rattle.state.specs.State.{valid_of, f_of, marks_of, long_of, with_long, with_counter, with_bank, with_level, with_nesting, with_flags, with_both_flags}
+use Rattle.state.specs.State.{f_of, marks_of, long_of, with_long, with_counter, with_bank, with_level, with_nesting, with_flags, with_both_flags}
 use Rattle.state.specs.inner.Lent.{all_of}
 use Rattle.state.specs.Register.{get_bits, set_bits, slot_in, slot_of, set_slot, register_at, get_register, set_register}
-use Rattle.state.specs.Sr.{sr_of, bank_in, level_in, f_in}
+use Rattle.state.specs.Sr.{sr_of}
 use Rattle.state.specs.Sound.{Sound}
 use Rattle.state.proofs.Valid.{Valid, valid_says}
 use Rattle.state.proofs.Sr.{sr_lt, sr_back}
@@ -40,12 +40,12 @@ use Rattle.code.specs.declared.Decoded.TheVariants as decoded
 use Rattle.code.specs.Listed.{decode_of}
 use Rattle.code.specs.Written.{code_of}
 use Rattle.code.proofs.Exact.{reads_back}
-use Rattle.operand.specs.Try.{Try, did, Outcome, after, leaves, and_then, with_loaded}
+use Rattle.operand.specs.Try.{Outcome, after, leaves, and_then, with_loaded}
 use Rattle.operand.specs.Operand.{pointer_of, stored_by}
 use Rattle.operand.specs.Round.{less, plus}
 use Rattle.operand.proofs.Flags.{valid_packed}
 use Rattle.operand.proofs.Laws.{up_again}
-use Rattle.stack.specs.Stack.{with_stack, pop_bytes}
+use Rattle.stack.specs.Stack.{with_stack}
 use Rattle.interrupt.specs.Interrupt.{with_sr, returned, interrupt_of}
 use Rattle.interrupt.proofs.Laws.{six_low, six_high}
 use Rattle.exec.specs.Exec.{past_of, effect_of, executed_of}
@@ -54,7 +54,7 @@ use Rattle.facts.specs.Statements.{Passed}
 use Rattle.facts.specs.Touched.{below_stack}
 use Rattle.facts.proofs.Kept.{spares_length}
 use Rattle.facts.proofs.Statements.{some, step_whole}
-use Rattle.run.specs.Demand.{At, count_of, Passes, Spares, EveryStart, rounds_of}
+use Rattle.run.specs.Demand.{At}
 use Rattle.run.proofs.Counts.{count_some}
 use Rattle.run.proofs.Known.{rounds_define}
 use Rattle.run.proofs.Repeats.{clear, repeat_on}

@@ -1,8 +1,8 @@
 -- What the bytes of the feed calculation's instructions say, after the register's.
-use Prim.Native.Nat.{ℕ, ◌+◌, ◌*◌, ◌/◌, ◌%◌, ◌^◌, ◌≤◌, ◌<◌}
-use mathlib.Core.Path.{◌≡◌, refl, sym, ap, subst, ◌∙◌}
-use mathlib.Core.Bool.{Bool, true, false}
-use mathlib.Core.List.{List, [], ◌∷◌, ◌++◌}
+use Prim.Native.Nat.{ℕ, ◌+◌, ◌*◌, ◌/◌, ◌%◌, ◌<◌}
+use mathlib.Core.Path.{◌≡◌, refl}
+use mathlib.Core.Bool.{true}
+use mathlib.Core.List.{[], ◌∷◌}
 use native.Mathlib.Omega.{arith}
 use native.Mathlib.Nat.{mod-lt}
 use lib.Dec.{leb-zero}
@@ -21,7 +21,7 @@ use Rattle.code.specs.declared.Op.TheVariants.{Puts}
 use Rattle.code.specs.declared.Use.TheVariants.{Scaled, ScaledWith, Cycled}
 use Rattle.code.specs.declared.Operand.{Operand}
 use Rattle.code.specs.declared.Operand.TheVariants.{Register}
-use Rattle.code.specs.Said.{Said, whole, number}
+use Rattle.code.specs.Said.{whole, number}
 use Rattle.code.specs.Rows.{lookup, by_rows, only, only_word}
 use Rattle.code.specs.Registers.{register_rows, is_low, last_rows, table_rows, feed_rows}
 use Rattle.code.specs.Range.{Holds, that, cycle_range}

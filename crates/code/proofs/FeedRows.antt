@@ -1,19 +1,17 @@
 -- The walk over the rows of the feed calculation, and what a number less its step is.
 use Prim.Native.Nat.{ℕ, zero, suc, ◌+◌, ◌-◌, ◌*◌, ◌/◌, ◌%◌, ◌^◌, ◌≤◌, ◌<◌}
 use mathlib.Core.Path.{◌≡◌, refl, sym, ap, ap₂, subst, ◌∙◌}
-use mathlib.Core.Bool.{Bool, true, false, cond, ◌||◌}
+use mathlib.Core.Bool.{Bool, true, false, cond}
 use mathlib.Core.List.{List, [], ◌∷◌, ◌++◌, append_assoc}
 use mathlib.Core.Logic.{inl, inr}
 use native.Mathlib.Omega.{arith}
 use native.Mathlib.Nat.{mod-lt}
 use lib.Dec.{leb, ltb, eqb}
 use lib.ListN.{length, get_or}
-use borrow.Author.Tests.{eqb-true, leb-true, ltb-true, le-leb}
+use borrow.Author.Tests.{eqb-true, ltb-true, le-leb}
 use Rattle.little.specs.Bytes.{bytes_from}
 use Rattle.little.specs.Width.{bytes_of}
 use Rattle.little.specs.declared.Size.{Size}
-use Rattle.feed.specs.declared.scale.Scale.{Scale}
-use Rattle.feed.specs.declared.scale.Scale.TheVariants.{Mul, Muls, Div, Divs}
 use Rattle.feed.specs.declared.cycle.Stride.{Stride}
 use Rattle.feed.specs.declared.cycle.Stride.TheVariants.{One, Two, Four}
 use Rattle.feed.specs.declared.cycle.Cycle.{Cycle}
@@ -25,11 +23,11 @@ use Rattle.code.specs.declared.Operand.{Operand}
 use Rattle.code.specs.declared.Operand.TheVariants.{Register}
 use Rattle.code.specs.declared.Decoded.TheVariants.{Short, Unlisted}
 use Rattle.code.specs.Said.{Said, whole, unlisted, number, judge, whole_of}
-use Rattle.code.specs.Rows.{Row, lookup, by_rows, only, only_word}
+use Rattle.code.specs.Rows.{lookup, by_rows, only, only_word}
 use Rattle.code.specs.Registers.{is_low, scale_kind, stride_kind, last_rows, table_rows, feed_rows}
 use Rattle.code.specs.Range.{Holds, that, register_range, cycle_range}
 use Rattle.code.specs.Written.{code_of, place_code, size_step, scale_number, stride_number, cycle_code}
-use Rattle.code.proofs.Holds.{both_true, either_true, so_that}
+use Rattle.code.proofs.Holds.{both_true, either_true}
 use Rattle.code.proofs.Tables.{table, in_run, in_no_arm}
 use Rattle.code.specs.inner.Parts.{cycle_as}
 use Rattle.code.proofs.Groups.{in_group, Missed}

@@ -12,7 +12,7 @@ use Rattle.alu.specs.declared.Shift.TheVariants.{Sla, Sra, Sll, Srl}
 use Rattle.alu.specs.declared.change.Change.TheVariants.{Inc, Dec, ShiftBy, Extz, Exts}
 use Rattle.code.specs.{declared.Op.TheVariants.Puts, declared.Side.TheVariants.First, declared.Side.TheVariants.With}
 use Rattle.code.specs.declared.Operand.TheVariants.{Register, Named, Constant, Memory}
-use Rattle.code.specs.{declared.Operand.Operand, Said.Said, Said.whole, Said.number, Rows.one, Rows.run, Rows.columns, Rows.Row}
+use Rattle.code.specs.{declared.Operand.Operand, Said.whole, Said.number, Rows.one, Rows.run, Rows.columns, Rows.Row}
 use Rattle.code.specs.{Rows.◌⇒◌, Rows.by_rows, Rows.only, Rows.no_byte, Rows.only_word}
 use Rattle.code.specs.declared.Use.TheVariants.{Number, From, Load, Compute, Changed, Scaled, ScaledWith, Cycled}
 

@@ -1,10 +1,9 @@
 -- Pieces laid one behind the other at the front of a room, and what the room holds then.
 use Prim.Native.Nat.{ℕ, zero, suc, ◌+◌, ◌%◌, ◌/◌, ◌<◌, ◌≤◌}
 use mathlib.Core.Path.{◌≡◌, refl, ap, ap₂, sym, ◌∙◌}
-use mathlib.Core.Bool.{Bool, true, false}
 use mathlib.Core.List.{List, [], ◌∷◌, ◌++◌, append_assoc}
 use native.Mathlib.Omega.{arith}
-use lib.ListN.{length, get_or, take, drop, length-append}
+use lib.ListN.{length, length-append}
 use Rattle.little.specs.Bytes.{Bytes, bytes_from, replaced}
 use Rattle.little.proofs.Laws.{length_bytes, replaced_length, replaced_join}
 use Rattle.encode.specs.declared.spell.{Place.Place, Code.Code}

@@ -1,7 +1,7 @@
 -- Laws of the pieces that a code is made of.
 use Prim.Native.Nat.{ℕ, ◌<◌, ◌%◌}
 use mathlib.Core.Path.{◌≡◌, refl}
-use mathlib.Core.List.{List, [], ◌∷◌, append-nil}
+use mathlib.Core.List.{[], ◌∷◌, append-nil}
 use native.Mathlib.Omega.{arith}
 use Rattle.little.specs.Bytes.{bytes_from}
 use Rattle.encode.specs.declared.spell.{Piece.Piece, Place.Place}

@@ -13,7 +13,7 @@ use Rattle.code.specs.declared.Instruction.{Instruction}
 use Rattle.code.proofs.Holds.{both_true}
 use Rattle.code.proofs.Exact.{code_fits}
 use Rattle.encode.specs.declared.{Ended.Ended, Written.Written}
-use Rattle.encode.specs.declared.Ended.TheVariants.{Done, Short, Unlisted, NoList, NoRoom}
+use Rattle.encode.specs.declared.Ended.TheVariants.{Done, NoList, NoRoom}
 use Rattle.encode.specs.One.{bytes_in, is_listed, end_of, is_done, told_of, Writes}
 use Rattle.encode.specs.inner.Spelt.{eights}
 use Rattle.encode.proofs.Laid.{eights_same}

@@ -1,15 +1,12 @@
 -- A form of the feed calculation, done by a function of its own: what it tells is what the code says, and its effect is that of the
 -- instruction.
-use Prim.Native.Nat.{ℕ, suc, ◌+◌, ◌%◌, ◌^◌, ◌≤◌, ◌<◌}
+use Prim.Native.Nat.{ℕ, ◌+◌, ◌%◌, ◌^◌, ◌≤◌}
 use mathlib.Core.Path.{◌≡◌, refl, ap, sym, subst, ◌∙◌}
-use mathlib.Core.Bool.{true, false}
 use mathlib.Core.List.{List}
 use mathlib.Core.Logic.{◌⊎◌, inl, inr}
 use native.Mathlib.Omega.{arith}
-use lib.Dec.{eqb}
 use borrow.Author.Tests.{ne_eqb}
-use Rattle.answer.specs.declared.Answer.{Answer}
-use Rattle.answer.specs.declared.Answer.TheVariants.{Done, Refused}
+use Rattle.answer.specs.declared.Answer.TheVariants.{Done}
 use Rattle.little.specs.declared.Size.{Size}
 use Rattle.state.specs.declared.State.{State}
 use Rattle.state.specs.declared.Bank.{Bank}
@@ -18,17 +15,16 @@ use Rattle.code.specs.declared.Op.TheVariants.{Puts}
 use Rattle.code.specs.declared.Use.{Use}
 use Rattle.code.specs.declared.Operand.{Operand}
 use Rattle.code.specs.declared.Decoded.{Decoded}
-use Rattle.code.specs.declared.Decoded.TheVariants.{Whole, Short, Unlisted}
+use Rattle.code.specs.declared.Decoded.TheVariants.{Short, Unlisted}
 use Rattle.code.specs.Said.{judge, whole_of}
 use Rattle.code.specs.Rows.{by_rows}
 use Rattle.code.specs.Registers.{feed_rows}
 use Rattle.code.proofs.Alike.{feed_forms, feed_bytes}
 use Rattle.compute.specs.Compute.{puts_of}
-use Rattle.operand.specs.Try.{did, no, Outcome, leaves, after}
 use Rattle.operand.specs.inner.Does.{Does}
 use Rattle.exec.specs.Exec.{effect_of, done}
 use Rattle.exec.specs.inner.Counter.{on_of}
-use Rattle.exec.specs.inner.Fed.{bytes_told, answer_of, fed_of, Feeds}
+use Rattle.exec.specs.inner.Fed.{bytes_told, answer_of, Feeds}
 use Rattle.exec.proofs.Laws.{put_on}
 
 -- an instruction of two bytes or more is answered as done

@@ -41,7 +41,7 @@ use Rattle.exec.specs.Exec.{past_of, effect_of, executed_of}
 use Rattle.step.specs.Step.{step_of}
 use Rattle.facts.specs.Statements.{Passed}
 use Rattle.facts.specs.Levels.{EiSets, StepCounts}
-use Rattle.facts.proofs.Touched.{Kept, Recounted}
+use Rattle.facts.proofs.Touched.{Kept}
 use Rattle.facts.proofs.Kept.{valid_kept}
 use Rattle.facts.proofs.Banks.{past_seven}
 use Rattle.facts.proofs.Statements.{not_long, step_judged, step_whole, operated, left}

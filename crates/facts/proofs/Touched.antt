@@ -20,7 +20,7 @@ use Rattle.flags.specs.declared.Flags.{Flags}
 use Rattle.flags.specs.declared.Computed.{Computed}
 use Rattle.alu.specs.declared.Arith.{Arith}
 use Rattle.alu.specs.Change.{changed}
-use Rattle.memory.specs.Access.{bytes_at, load_bytes, load_of, load_from, store_bytes, store_of, ram_bytes, ram_after}
+use Rattle.memory.specs.Access.{bytes_at, load_bytes, load_of, load_from, store_bytes, ram_bytes}
 use Rattle.memory.specs.declared.Place.{Place}
 use Rattle.memory.specs.declared.Place.TheVariants.{Ram, Rom, Missing}
 use Rattle.memory.proofs.Laws.{bytes_length, bytes_below, bytes_above}
@@ -53,7 +53,7 @@ use Rattle.feed.proofs.Fits.{scaled_fits}
 use Rattle.operand.specs.Try.{Try, did, no, and_then, with_loaded}
 use Rattle.operand.specs.Operand.{pointer_of, value_at, value_in, storing, storing_bytes, stored_by, put_at, wide_of}
 use Rattle.operand.specs.Round.{plus}
-use Rattle.stack.specs.Stack.{push_bytes, push_of, push_f_of, pop_bytes, pop_of, stack_of}
+use Rattle.stack.specs.Stack.{push_of, push_f_of, pop_bytes, pop_of, stack_of}
 use Rattle.interrupt.specs.Interrupt.{with_sr, push_sr_of, returned, interrupt_of}
 use Rattle.operand.specs.Flag.{flags_in, flagged, exchanged}
 use Rattle.control.specs.Control.{jump_of, control_of}

@@ -1,7 +1,7 @@
 -- Overflow by signs is overflow by range. Here h is the weight of the top bit, x and y are below h + h, and c is a carry.
 -- A number z stands for z, or for z - (h + h) where it is at least h.
 use mathlib.Core.Path.{◌≡◌, refl, ap, ◌∙◌}
-use mathlib.Core.Bool.{Bool, true, false, not, cond, ◌&&◌}
+use mathlib.Core.Bool.{Bool, not, cond, ◌&&◌}
 use Prim.Native.Nat.{ℕ, ◌+◌, ◌-◌, ◌%◌, ◌≤◌, ◌<◌}
 use native.Mathlib.Nat.{mod-eq_of_lt, add-mod_right, lt_of_not-le}
 use native.Mathlib.Decide.{dec_le}

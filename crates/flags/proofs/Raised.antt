@@ -2,10 +2,10 @@
 use mathlib.Core.Path.{◌≡◌, refl, sym, ap, ap₂, ◌∙◌}
 use mathlib.Core.Bool.{Bool, true, false, not, ◌&&◌}
 use Prim.Native.Nat.{ℕ, ◌+◌, ◌-◌, ◌*◌, ◌/◌, ◌%◌, ◌^◌, ◌≤◌, ◌<◌}
-use native.Mathlib.Nat.{add-zero, add-mul, zero-mul, one-mul, mul-mod_left, mul-le-mul_right, mul-lt-mul_of_pos_right, mod-lt, mod-eq_of_lt}
+use native.Mathlib.Nat.{add-mul, zero-mul, one-mul, mul-le-mul_right, mul-lt-mul_of_pos_right, mod-lt, mod-eq_of_lt}
 use native.Mathlib.Omega.{arith}
 use lib.Dec.{leb, ltb, eqb, lit<}
-use lib.Pow.{pow-add, pow_pos, pow_mono, mod-pow-add, shl-shr}
+use lib.Pow.{pow-add, pow_pos, pow_mono, shl-shr}
 use Rattle.little.specs.declared.Size.{Size}
 use Rattle.little.specs.Width.{bits_of}
 use borrow.Author.Tests.{le-leb, lt-leb, lt-ltb, le-ltb, eq-eqb, ne_eqb, leb-true, leb-false, ltb-true, ltb-false, eqb-true, eqb-false}

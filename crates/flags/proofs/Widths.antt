@@ -10,7 +10,7 @@ use lib.Bits.{bit_and, and_le_r}
 use lib.Pow.{mod-pow-add, shl-shr}
 use Rattle.little.specs.declared.Size.{Size}
 use Rattle.little.specs.declared.Size.TheVariants.{Byte, Word, Long}
-use Rattle.little.specs.Width.{bits_of, bytes_of}
+use Rattle.little.specs.Width.{bits_of}
 use Rattle.flags.specs.Width.{low, one}
 
 pub one_le : (b : Bool) → one b ≤ 1

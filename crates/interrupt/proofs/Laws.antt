@@ -1,5 +1,5 @@
 -- Laws of the return from an interrupt.
-use Rattle.std.proofs.Common.{◌≡◌, ℕ, ◌+◌, ◌*◌, ◌/◌, ◌%◌, ◌^◌, ◌<◌, sym, ap, ◌∙◌, ap₂, arith}
+use Rattle.std.proofs.Common.{◌≡◌, ℕ, ◌/◌, ◌%◌, ◌^◌, ◌<◌, sym, ap, ◌∙◌, ap₂, arith}
 use Rattle.memory.specs.inner.Six.{six_from}
 use Rattle.state.specs.declared.State.{State}
 use Rattle.state.specs.State.{lent, nested, with_counter, with_nesting}

@@ -6,7 +6,7 @@ use native.Mathlib.Omega.{arith}
 use native.Mathlib.Nat.{pow-suc, mul_assoc, mul_comm}
 use native.Mathlib.Numerals.{add-one}
 use lib.ListN.{length, get_or, take, drop, set, length-drop, length-append, get_or-append}
-use lib.Seq.{take-suc-set, append_snoc, take_all, length-take-le, drop-drop, take_at, drop_at, get_or-append-add, get_or-take, get_or-drop}
+use lib.Seq.{take-suc-set, append_snoc, take_all, length-take-le, drop-drop, take_at, drop_at, get_or-take, get_or-drop}
 use Rattle.little.specs.Bytes.{value_of, bytes_from, replaced}
 
 pub length_bytes : (n v : ℕ) → length (bytes_from n v) ≡ n

@@ -1,5 +1,6 @@
 // Operand sizes, and numbers as bytes in a part of a slice, low byte first.
 #![tactic(auto)]
+
 ghost use Rattle.std.specs.Prelude.{◌≡◌, length, get_or, take};
 ghost use Rattle.little.specs.Width.{bytes_of, twice_of};
 ghost use Rattle.little.specs.Bytes.{value_of, bytes_from};

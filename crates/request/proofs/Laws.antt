@@ -3,7 +3,6 @@ use Rattle.std.proofs.Common.{◌≡◌, ℕ, ◌+◌, ◌%◌, ◌^◌, Bool, t
 use Rattle.answer.specs.declared.Answer.{Answer}
 use Rattle.answer.specs.declared.Answer.TheVariants.{Done, Refused}
 use Rattle.answer.specs.declared.Why.{Why}
-use Rattle.memory.specs.inner.Six.{six_from}
 use Rattle.state.specs.declared.State.{State}
 use Rattle.state.specs.State.{valid_of, with_counter, with_level, with_nesting}
 use Rattle.state.specs.inner.Lent.{all_of}

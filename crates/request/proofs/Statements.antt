@@ -1,9 +1,8 @@
 -- What a user may hold an offer to, proved.
-use Rattle.std.proofs.Common.{◌≡◌, ℕ, ◌<◌, ◌≤◌, Bool, true, false, cond, eqb, leb, List, sym, refl, ap, ◌∙◌, arith, eqb-true, le-leb, leb-true}
+use Rattle.std.proofs.Common.{◌≡◌, ℕ, ◌≤◌, Bool, true, false, cond, eqb, leb, sym, refl, ap, ◌∙◌, arith, eqb-true, le-leb, leb-true}
 use borrow.Author.Tests.{lt-leb, eqb-false}
 use Rattle.state.proofs.Valid.{valid_says}
 use Rattle.operand.specs.Try.{Outcome}
-use Rattle.request.specs.declared.Requested.{Requested}
 use Rattle.request.specs.Request.{takes}
 use Rattle.request.specs.Statements.{Settled, SevenAlways, OnlySeven, TakenFrom}
 

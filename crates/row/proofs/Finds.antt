@@ -1,7 +1,7 @@
 -- The reading finds the one list that the code is, or the one place where it cannot go on.
-use Prim.Native.Nat.{ℕ, zero, suc, ◌+◌, ◌<◌, ◌≤◌}
-use mathlib.Core.Path.{◌≡◌, refl, ap, subst, sym, ◌∙◌}
-use mathlib.Core.Bool.{Bool, true, false, ◌&&◌}
+use Prim.Native.Nat.{ℕ, zero, suc, ◌<◌, ◌≤◌}
+use mathlib.Core.Path.{◌≡◌, refl, ap, sym, ◌∙◌}
+use mathlib.Core.Bool.{true, false}
 use mathlib.Core.List.{List, [], ◌∷◌, ◌++◌, append_assoc}
 use mathlib.Core.Logic.{inl, inr, ◌⊎◌}
 use native.Mathlib.Omega.{arith}
@@ -19,7 +19,7 @@ use Rattle.code.proofs.Holds.{both_true}
 use Rattle.code.proofs.Walked.{length_fits, bytes_drop}
 use Rattle.encode.specs.declared.Ended.{Ended}
 use Rattle.encode.specs.declared.Ended.TheVariants.{Done, Short, Unlisted, NoList, NoRoom}
-use Rattle.encode.specs.One.{bytes_in, is_listed, is_done}
+use Rattle.encode.specs.One.{bytes_in, is_done}
 use Rattle.row.specs.Row.{most, row_of, all_listed, can_write, Row, refused_row, before, read_of}
 use Rattle.row.specs.Statements.{ReadsAs, ReadFinds, ReadsAgain, Begins, ReadRefused}
 use Rattle.row.proofs.Through.{before_refused, read_none, read_full, read_whole, read_short, read_unlisted}

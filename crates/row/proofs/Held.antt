@@ -1,13 +1,13 @@
 -- A list that is held as it was read: it is the list, and can be written where the list can.
-use Prim.Native.Nat.{ℕ, ◌+◌, ◌-◌, ◌≤◌}
-use mathlib.Core.Path.{◌≡◌, refl, ap, sym, ◌∙◌}
-use mathlib.Core.Bool.{Bool, ◌&&◌}
-use mathlib.Core.List.{List, ◌++◌}
-use lib.ListN.{length, take, replicate}
+use Prim.Native.Nat.{◌-◌}
+use mathlib.Core.Path.{◌≡◌, ap}
+use mathlib.Core.Bool.{◌&&◌}
+use mathlib.Core.List.{List}
+use lib.ListN.{length, replicate}
 use lib.Seq.{take-append_seam}
 use lib.Dec.{leb}
 use Rattle.code.specs.declared.Instruction.{Instruction}
-use Rattle.row.specs.Row.{most, row_of, all_listed, can_write, list_in, is_list, blank, held_as}
+use Rattle.row.specs.Row.{most, all_listed, can_write, list_in, is_list, blank, held_as}
 
 pub held_list : (l : List Instruction) → list_in (held_as l) ≡ l
 unfolding held_as

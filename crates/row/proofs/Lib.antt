@@ -5,4 +5,3 @@ pub mod Laying
 pub mod Held
 pub mod Laws
 pub mod Finds
-pub mod Ends

@@ -1,9 +1,9 @@
 -- The bits of a number, once over where they start and how many they are.
-use Prim.Native.Nat.{ℕ, ◌+◌, ◌*◌, ◌/◌, ◌%◌, ◌^◌, ◌<◌, ◌≤◌}
+use Prim.Native.Nat.{ℕ, ◌+◌, ◌*◌, ◌/◌, ◌%◌, ◌^◌, ◌<◌}
 use mathlib.Core.Path.{◌≡◌, refl, ap, sym, ◌∙◌, subst}
 use native.Mathlib.Omega.{arith}
 use native.Mathlib.Nat.{mod-lt, mod-mod, div-add-mod', div-one, div-eq_of_lt}
-use lib.Pow.{pow_pos, pow_mono, pow-add, high, low, shr_lt, shr-shr, field, mod-mod-pow}
+use lib.Pow.{pow_pos, pow-add, high, low, shr_lt, shr-shr, field, mod-mod-pow}
 use lib.Arith.{digits_lt}
 use Rattle.state.specs.Register.{get_bits, set_bits, start_of, width_of}
 use Rattle.state.specs.declared.Part.{Part}

@@ -1,7 +1,7 @@
 -- Worked cases, by computation.
 use mathlib.Core.Path.{◌≡◌, refl}
 use Rattle.little.specs.declared.Size.TheVariants.{Byte, Word, Long}
-use Rattle.state.specs.State.{reset_state, zero_state, long_of, with_long, valid_of}
+use Rattle.state.specs.State.{reset_state, long_of, with_long}
 use Rattle.state.specs.Register.{get_bits, set_bits, slot_in, set_slot, slot_of, register_at, get_register, set_register}
 
 -- HL 7350H: H is 73H; L 0FFH leaves H; XHL keeps its high half; XSP is 100H after reset

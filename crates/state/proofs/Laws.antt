@@ -1,6 +1,6 @@
 -- Laws of the twenty registers and of what a slot and a code name in them.
-use Prim.Native.Nat.{ℕ, zero, suc, ◌+◌, ◌-◌, ◌*◌, ◌/◌, ◌%◌, ◌^◌, ◌<◌, ◌≤◌}
-use mathlib.Core.Path.{◌≡◌, refl, ap, sym, ◌∙◌}
+use Prim.Native.Nat.{ℕ, zero, suc, ◌+◌, ◌-◌, ◌*◌, ◌%◌, ◌^◌, ◌<◌, ◌≤◌}
+use mathlib.Core.Path.{◌≡◌, refl, ap, ◌∙◌}
 use mathlib.Core.Logic.{◌⊎◌, inl, inr}
 use mathlib.Core.Bool.{Bool, true, false, cond}
 use mathlib.Core.List.{List, [], ◌∷◌}
@@ -16,8 +16,7 @@ use Rattle.state.specs.State.{banked, long_of, with_long}
 use Rattle.state.specs.Register.{get_bits, set_bits, start_of, width_of, slot_in, get_slot, set_slot, index_of, slot_of, named_in, register_at, get_register, set_register}
 use Rattle.state.specs.declared.Slot.{Slot}
 use Rattle.state.specs.declared.State.{State}
-use Rattle.state.specs.declared.Part.{Part}
-use Rattle.state.specs.declared.Part.TheVariants.{Byte0, Byte1, Byte2, Byte3, Half0, Half1, Whole}
+use Rattle.state.specs.declared.Part.TheVariants.{Byte0, Byte1}
 use Rattle.state.specs.Sound.{Sound}
 use Rattle.state.proofs.Sound.{sound_lent}
 use Rattle.state.proofs.Bits.{get_lt, get_set, get_below, get_above, set_part_lt}

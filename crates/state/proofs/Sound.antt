@@ -1,7 +1,7 @@
 -- A state that a call is given or gives is sound: its type says so.
 -- A parameter `s : State` has it at `c.well_formed.N`.
 use Prim.Native.Nat.{ℕ, zero, suc, ◌<◌, ◌^◌}
-use mathlib.Core.Path.{◌≡◌, refl}
+use mathlib.Core.Path.{◌≡◌}
 use mathlib.Core.List.{List, [], ◌∷◌}
 use mathlib.Core.Bool.{Bool, true, false, ◌&&◌}
 use native.Mathlib.Omega.{arith}
@@ -9,7 +9,7 @@ use lib.Dec.{T, ltb, eqb, ltb→lt, eqb→eq}
 use lib.ListN.{length, get_or}
 use lib.Pow.{pow_pos}
 use mir.Val.{Val, bits}
-use mir.Syntax.{Width, w8, w32}
+use mir.Syntax.{Width, w32}
 use denote.Plain.{UInt}
 use denote.Array.{each}
 use denote.Shadow.{shadow}

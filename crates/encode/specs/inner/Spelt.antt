@@ -1,7 +1,7 @@
 -- An instruction's bytes in pieces, as the code makes them.
 use Rattle.little.specs.Words.{ℕ, zero, suc, ◌%◌, List, [], ◌∷◌, ◌++◌, map}
 use Rattle.little.specs.Bytes.{bytes_from}
-use Rattle.encode.specs.declared.spell.{Piece.Piece, Place.Place, Code.Code}
+use Rattle.encode.specs.declared.spell.{Place.Place, Code.Code}
 
 -- one byte, or none
 abbrev pub one_of : ℕ → ℕ → List ℕ

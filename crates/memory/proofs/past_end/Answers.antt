@@ -19,8 +19,8 @@ pub returns : goal.returns
 returns c =
     let a = c.args in
     elim c.if-at-lt-SPACE.branch [
-      then-at-lt-SPACE+else-at-rom_len w ↦
-        sym (end_none a.ram_len a.rom_len a.address (omega arith) (rom_below a.rom_len a.address (omega arith)))
-    | else-at-lt-SPACE w ↦
-        sym (end_none a.ram_len a.rom_len a.address (omega arith) (rom_past a.rom_len a.address (omega arith)))
+      | then-at-lt-SPACE+else-at-rom_len w ↦
+          sym (end_none a.ram_len a.rom_len a.address (omega arith) (rom_below a.rom_len a.address (omega arith)))
+      | else-at-lt-SPACE w ↦
+          sym (end_none a.ram_len a.rom_len a.address (omega arith) (rom_past a.rom_len a.address (omega arith)))
     ]

@@ -1,8 +1,6 @@
-use borrow.Author.Tests.{lt-leb, not-true, not-false}
+use borrow.Author.Tests.{lt-leb}
 use native.Mathlib.Omega.{arith}
-use Prim.Native.Nat.{◌-◌}
 use mathlib.Core.Path.{◌≡◌, refl, sym, ◌∙◌}
-use mathlib.Core.Bool.{true}
 use Rattle.row.specs.Row.{most, all_listed, is_list}
 use Rattle.row.proofs.Sound.{holds_most}
 use Rattle.row.proofs.Lists.{all_more, all_but, is_all, fallback}
@@ -27,7 +25,7 @@ returns-then-not-listed c =
     let l = c.loop-k in
     let t = c.args.list in
     let long = holds_most t c.well_formed.0 in
-    let bad = sym c.listed.ensures ∙ not-true c.listed.result c.if-not-listed.true in
+    let bad = sym c.listed.ensures ∙ c.if-not-listed.true in
     sym (is_all t (omega arith) ∙ all_but t.held t.count l.k fallback (omega arith) (omega arith) bad)
 
 pub overflow_add-k : goal.overflow_add-k
@@ -41,7 +39,7 @@ loop-k-preserved c =
     let l = c.loop-k in
     let t = c.args.list in
     let long = holds_most t c.well_formed.0 in
-    let good = sym c.listed.ensures ∙ not-false c.listed.result c.if-not-listed.false in
+    let good = sym c.listed.ensures ∙ c.if-not-listed.false in
     (omega arith, all_more t.held l.k fallback (omega arith) good l.invariant.1)
 
 pub returns : goal.returns

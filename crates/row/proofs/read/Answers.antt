@@ -1,5 +1,4 @@
 use native.Mathlib.Omega.{arith}
-use Prim.Native.Nat.{◌-◌}
 use mathlib.Core.Path.{sym, ap, ◌∙◌}
 use Rattle.row.specs.Row.{reading_of}
 use Rattle.row.proofs.Through.{holding_none, holding_more, rest_told, rest_long, stops_full, stops_short, stops_unlisted, read_ends}
