@@ -1,5 +1,5 @@
 -- Worked cases, as one table: what is computed, and the value and the F that it must have. All numbers but the widths are in hex.
-use Rattle.little.specs.Words.{Bool, true, false, ◌&&◌, List, [], ◌∷◌, ℕ, zero, suc, ◌+◌, ◌*◌, ◌^◌, eqb}
+use Rattle.std.specs.Prelude.{Bool, true, false, ◌&&◌, List, [], ◌∷◌, ℕ, zero, suc, ◌+◌, ◌*◌, ◌^◌, eqb}
 use Rattle.flags.specs.{declared.Computed.Computed, declared.Flags.Flags, Flag.packed_of, Flag.flags_of, Flag.rcf_of, Flag.scf_of, Flag.ccf_of}
 use Rattle.flags.specs.{Flag.zcf_of, Flag.copied_of, Flag.compared_of, Width.one, Condition.holds_of}
 use Rattle.alu.specs.{Operation.operated, Shift.shift_of}

@@ -1,5 +1,5 @@
 -- What is made of one value of k bits by itself; `old` are the flags before.
-use Rattle.little.specs.Words.{ℕ}
+use Rattle.std.specs.Prelude.{ℕ}
 use Rattle.flags.specs.{declared.Computed.Computed, declared.Flags.Flags, Flag.keeping}
 use Rattle.alu.specs.{declared.change.Change.Change, Count.steps_of, Count.inc_of, Count.dec_of}
 use Rattle.alu.specs.{Shift.places_of, Shift.shift_of, Extend.extz_of, Extend.exts_of}

@@ -1,5 +1,5 @@
 -- INC and DEC by n.
-use Rattle.little.specs.Words.{ℕ, ◌%◌, false, cond, eqb}
+use Rattle.std.specs.Prelude.{ℕ, ◌%◌, false, cond, eqb}
 use Rattle.flags.specs.{declared.Computed.Computed, declared.Flags.Flags, Flag.keeping_c, Sums.sum_of, Sums.difference_of}
 
 -- by how many a code counts: 0 means 8

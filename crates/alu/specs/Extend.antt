@@ -1,5 +1,5 @@
 -- EXTZ and EXTS: the low half of k bits, with zeros or with its sign above it.
-use Rattle.little.specs.Words.{ℕ, ◌+◌, ◌-◌, ◌/◌, ◌^◌, cond}
+use Rattle.std.specs.Prelude.{ℕ, ◌+◌, ◌-◌, ◌/◌, ◌^◌, cond}
 use Rattle.flags.specs.Width.{low, negative}
 
 -- EXTZ: the low half, with zeros above it

@@ -1,5 +1,5 @@
 -- AND, OR and XOR of two operands of k bits.
-use Rattle.little.specs.Words.{ℕ, Bool, true, false, bit_and, bit_or, bit_xor}
+use Rattle.std.specs.Prelude.{ℕ, Bool, true, false, bit_and, bit_or, bit_xor}
 use Rattle.flags.specs.{declared.Computed.Computed, Width.low, Sums.computed_of, Undefined.by_parity, Undefined.undefined_of}
 use Rattle.alu.specs.{Parity.even_ones}
 

@@ -1,6 +1,6 @@
 -- What the conditions after a comparison, shifts and EXTS mean, for every width of k bits.
 -- Which flags are marked. Each statement is proved in proofs/Fits.antt, proofs/Order.antt or proofs/Shifting.antt.
-use Rattle.little.specs.Words.{ℕ, suc, ◌+◌, ◌-◌, ◌*◌, ◌/◌, ◌^◌, ◌<◌, ◌≡◌, Bool, leb, ltb}
+use Rattle.std.specs.Prelude.{ℕ, suc, ◌+◌, ◌-◌, ◌*◌, ◌/◌, ◌^◌, ◌<◌, ◌≡◌, Bool, leb, ltb}
 use Rattle.little.specs.{declared.Size.Size, Width.bits_of}
 use Rattle.flags.specs.{declared.Flags.Flags, Width.low, Condition.holds_of, Meaning.off}
 use Rattle.flags.specs.Undefined.{Made, by_sum, by_parity, undefined_of}

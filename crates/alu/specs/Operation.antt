@@ -1,5 +1,5 @@
 -- The eight operations on two operands of k bits, with the carry that was.
-use Rattle.little.specs.Words.{ℕ, Bool, false}
+use Rattle.std.specs.Prelude.{ℕ, Bool, false}
 use Rattle.flags.specs.{declared.Computed.Computed, Sums.sum_of, Sums.difference_of}
 use Rattle.alu.specs.{declared.Arith.Arith, Logic.and_of, Logic.or_of, Logic.xor_of}
 use Rattle.alu.specs.declared.Arith.TheVariants.{Add, Adc, Sub, Sbc, And, Xor, Or, Cp}

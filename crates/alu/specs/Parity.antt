@@ -1,5 +1,5 @@
 -- The number of ones, whose parity is V of logic and shifts.
-use Rattle.little.specs.Words.{ℕ, zero, suc, ◌+◌, ◌/◌, ◌%◌, Bool, eqb}
+use Rattle.std.specs.Prelude.{ℕ, zero, suc, ◌+◌, ◌/◌, ◌%◌, Bool, eqb}
 
 -- how many of the k low bits of x are ones
 unfoldable pub ones_of : ℕ → ℕ → ℕ

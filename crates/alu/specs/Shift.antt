@@ -1,5 +1,5 @@
 -- SLA, SRA, SLL and SRL by some places.
-use Rattle.little.specs.Words.{ℕ, zero, suc, ◌+◌, ◌*◌, ◌/◌, ◌%◌, ◌^◌, Bool, false, cond, eqb}
+use Rattle.std.specs.Prelude.{ℕ, zero, suc, ◌+◌, ◌*◌, ◌/◌, ◌%◌, ◌^◌, Bool, false, cond, eqb}
 use Rattle.flags.specs.{declared.Computed.Computed, Width.low, Width.negative, Width.weighed, Width.one}
 use Rattle.alu.specs.{declared.Shift.Shift, Logic.plain}
 use Rattle.alu.specs.declared.Shift.TheVariants.{Sla, Sra, Sll, Srl}

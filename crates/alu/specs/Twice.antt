@@ -1,5 +1,5 @@
 -- One change and then another of what it left (request K10), once over the width. Each statement is proved in proofs/Twice.antt.
-use Rattle.little.specs.Words.{ℕ, ◌+◌, ◌%◌, ◌<◌, ◌≤◌, ◌≡◌, ◌≢◌, true, false}
+use Rattle.std.specs.Prelude.{ℕ, ◌+◌, ◌%◌, ◌<◌, ◌≤◌, ◌≡◌, ◌≢◌, true, false}
 use Rattle.flags.specs.{declared.Computed.Computed, declared.Flags.Flags, Width.low, Flag.keeping}
 use Rattle.alu.specs.{declared.Shift.Shift, declared.change.Change.Change, Change.changed}
 use Rattle.alu.specs.declared.change.Change.TheVariants.{Inc, Dec, ShiftBy}

@@ -1,5 +1,5 @@
 -- Steps with offers of requests between them, one after the other (request K8). Each statement is proved in proofs/History.antt.
-use Rattle.little.specs.Words.{ℕ, ◌+◌, ◌%◌, ◌^◌, ◌<◌, ◌≡◌, List, [], ◌∷◌, Bool, true, false, cond}
+use Rattle.std.specs.Prelude.{ℕ, ◌+◌, ◌%◌, ◌^◌, ◌<◌, ◌≡◌, List, [], ◌∷◌, Bool, true, false, cond}
 use Rattle.answer.specs.declared.{Answer.TheVariants.Done, Answer.TheVariants.Refused, Why.Why}
 use Rattle.memory.specs.Access.{code_at}
 use Rattle.state.specs.{declared.State.State, Sound.Sound}

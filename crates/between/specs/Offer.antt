@@ -1,5 +1,5 @@
 -- One offer of a request: when each number is given, and what is read and stored (request K8). Each statement is proved in proofs/Offer.antt.
-use Rattle.little.specs.Words.{ℕ, ◌<◌, ◌≤◌, ◌^◌, ◌≡◌, ◌⊎◌, List, true, false, length}
+use Rattle.std.specs.Prelude.{ℕ, ◌<◌, ◌≤◌, ◌^◌, ◌≡◌, ◌⊎◌, List, true, false, length}
 use Rattle.answer.specs.declared.{Answer.TheVariants.Done, Answer.TheVariants.Refused, Why.TheVariants.TooLong, Why.TheVariants.Invalid}
 use Rattle.answer.specs.declared.Why.{Why, TheVariants.BadRequest}
 use Rattle.state.specs.{declared.State.State, State.valid_of, Sound.Sound}

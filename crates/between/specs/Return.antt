@@ -1,6 +1,6 @@
 -- The return from a request that was taken, at once or after a handler, also between two rounds of a repeating copy or compare
 -- (request K8). Each statement is proved in proofs/Return.antt.
-use Rattle.little.specs.Words.{ℕ, ◌<◌, ◌≡◌, List, ◌∷◌, true, take, drop}
+use Rattle.std.specs.Prelude.{ℕ, ◌<◌, ◌≡◌, List, ◌∷◌, true, take, drop}
 use Rattle.answer.specs.declared.Answer.TheVariants.{Done}
 use Rattle.little.specs.Bytes.{Bytes}
 use Rattle.memory.specs.Access.{code_at}

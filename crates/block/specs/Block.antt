@@ -1,5 +1,5 @@
 -- Copies and compares: one round, and whether a repeating form goes on after it.
-use Rattle.little.specs.Words.{ℕ, List, Bool, false, cond, not, ◌&&◌, eqb}
+use Rattle.std.specs.Prelude.{ℕ, List, Bool, false, cond, not, ◌&&◌, eqb}
 use Rattle.little.specs.{declared.Size.Size, Width.bits_of, Width.bytes_of}
 use Rattle.little.specs.declared.Size.TheVariants.{Byte, Word, Long}
 use Rattle.flags.specs.{Flag.copied_of, Flag.compared_of, Sums.difference_of}

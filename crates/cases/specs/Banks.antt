@@ -1,5 +1,5 @@
 -- Registers of every bank, by a code byte (request K1): the timer routine's kind of work.
-use Rattle.little.specs.Words.{ℕ, List, [], ◌∷◌}
+use Rattle.std.specs.Prelude.{ℕ, List, [], ◌∷◌}
 use Rattle.answer.specs.declared.Answer.TheVariants.{Refused}
 use Rattle.answer.specs.declared.Why.{Why}
 use Rattle.answer.specs.declared.Why.TheVariants.{NoCode, Unlisted}

@@ -1,5 +1,5 @@
 -- The document's cases P1 to P12, as one table.
-use Rattle.little.specs.Words.{ℕ, ◌+◌, ◌%◌, List, [], ◌∷◌, ◌++◌, replicate}
+use Rattle.std.specs.Prelude.{ℕ, ◌+◌, ◌%◌, List, [], ◌∷◌, ◌++◌, replicate}
 use Rattle.cases.specs.Table.{Case, ComesOut, OfEach, begin, ◌▹◌, ◌&◌, A, WA, BC, HL, IX, XIX, F, Bank, Counter, does}
 
 -- P1 to P12, where F is f before

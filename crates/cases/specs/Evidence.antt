@@ -1,6 +1,6 @@
 -- Starts that meet all that demand 3 supposes, each with the ending that it tells; so the demand says something of each.
 -- Proved in proofs/Evidence.antt.
-use Rattle.little.specs.Words.{ℕ, ◌≡◌, List, [], ◌∷◌, Bool, true, false, replicate}
+use Rattle.std.specs.Prelude.{ℕ, ◌≡◌, List, [], ◌∷◌, Bool, true, false, replicate}
 use Rattle.answer.specs.declared.Why.TheVariants.{Missing, ToRom}
 use Rattle.little.specs.declared.{Size.Size, Size.TheVariants.Byte, Size.TheVariants.Word}
 use Rattle.state.specs.declared.State.{State}

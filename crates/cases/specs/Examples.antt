@@ -1,7 +1,7 @@
 -- The book's execution examples for the listed instructions, as one table. All numbers are in hex.
 -- What an example does not give is zero. An address beyond RAM is cut to its low byte. F after a step is by the flag lines of the same page.
 -- CALL and RET are left out, since their examples are for minimum mode.
-use Rattle.little.specs.Words.{ℕ, ◌-◌, List, [], ◌∷◌, ◌++◌, length, replicate}
+use Rattle.std.specs.Prelude.{ℕ, ◌-◌, List, [], ◌∷◌, ◌++◌, length, replicate}
 use Rattle.answer.specs.declared.Answer.TheVariants.{Done}
 use Rattle.state.specs.State.{zero_state}
 use Rattle.cases.specs.Table.{machine, Case, ComesOut, OfEach, Setting, ◌▹◌, ◌&◌, nothing, row, does, A, WA, BC, DE, HL, IX, XIX, XIY, XSP, F, Bank}

@@ -1,5 +1,5 @@
 -- MUL, MULS, DIV, DIVS, MINC and MDEC by their codes (request K7).
-use Rattle.little.specs.Words.{List, [], ◌∷◌}
+use Rattle.std.specs.Prelude.{List, [], ◌∷◌}
 use Rattle.answer.specs.declared.Why.TheVariants.{NoCode, Unlisted}
 use Rattle.cases.specs.Table.{Case, ComesOut, OfEach, begin, ◌▹◌, ◌&◌, A, WA, BC, HL, IX, XIX, F, Counter, Nth, does}
 use Rattle.cases.specs.Banks.{halts}

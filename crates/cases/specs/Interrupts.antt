@@ -1,5 +1,5 @@
 -- Interrupts (request K8): EI, SR on the stack and RETI; and histories, which are steps with offers of requests among them.
-use Rattle.little.specs.Words.{ℕ, ◌≡◌, List, [], ◌∷◌, true, replicate}
+use Rattle.std.specs.Prelude.{ℕ, ◌≡◌, List, [], ◌∷◌, true, replicate}
 use Rattle.answer.specs.declared.Answer.TheVariants.{Done}
 use Rattle.answer.specs.declared.Why.TheVariants.{TooLong, Invalid, BadRequest, NoCode, Unlisted, Undefined, Missing, ToRom}
 use Rattle.step.specs.Step.{step_of}

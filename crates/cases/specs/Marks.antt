@@ -1,5 +1,5 @@
 -- Marks, and the steps that stop at one (request K6): set, cleared, kept and exchanged; each condition, and PUSH F.
-use Rattle.little.specs.Words.{ℕ, ◌+◌, List, [], ◌∷◌, replicate}
+use Rattle.std.specs.Prelude.{ℕ, ◌+◌, List, [], ◌∷◌, replicate}
 use Rattle.answer.specs.declared.Answer.TheVariants.{Refused}
 use Rattle.answer.specs.declared.Why.TheVariants.{Invalid, Undefined}
 use Rattle.cases.specs.Table.{Machine, Case, ComesOut, OfEach, Setting, begin, ◌▹◌, ◌&◌, nothing, A, WA, BC, DE, XDE, XHL, XIX, XSP, F, F'}

@@ -1,6 +1,6 @@
 -- Runs of repeating copies and compares, to the end and not so far, refused in the middle, and onto their own code; the checks of a run;
 -- the mill's start-up; and the addresses that go with 5 and 6.
-use Rattle.little.specs.Words.{ℕ, List, [], ◌∷◌, replicate}
+use Rattle.std.specs.Prelude.{ℕ, List, [], ◌∷◌, replicate}
 use Rattle.answer.specs.declared.Answer.TheVariants.{Done, Refused}
 use Rattle.answer.specs.declared.Why.{Why}
 use Rattle.answer.specs.declared.Why.TheVariants.{TooMany, TooLong, Invalid, NoCode, Unlisted, Missing, ToRom}

@@ -1,5 +1,5 @@
 -- How a table of runs, or of histories, is written: what they start from, and all that they leave.
-use Rattle.little.specs.Words.{ℕ, ◌≡◌, List, [], ◌∷◌, replicate}
+use Rattle.std.specs.Prelude.{ℕ, ◌≡◌, List, [], ◌∷◌, replicate}
 use Rattle.answer.specs.declared.{Answer.Answer, Answer.TheVariants.Done, Why.Why}
 use Rattle.little.specs.{declared.Size.Size, Bytes.replaced}
 use Rattle.little.specs.declared.Size.TheVariants.{Byte, Word, Long}

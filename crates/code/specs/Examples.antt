@@ -1,5 +1,5 @@
 -- Codes and what they are: some of each bullet in its order, some that are short, and some that are not listed.
-use Rattle.little.specs.Words.{ℕ, ◌≡◌, refl, true, false, List, [], ◌∷◌, map}
+use Rattle.std.specs.Prelude.{ℕ, ◌≡◌, refl, true, false, List, [], ◌∷◌, map}
 use Rattle.little.specs.Bytes.{value_of}
 use Rattle.little.specs.declared.Size.TheVariants.{Byte, Word, Long}
 use Rattle.alu.specs.declared.Shift.TheVariants.{Sla, Sra, Srl}

@@ -1,5 +1,5 @@
 -- What holds of every code: statements, each proved in proofs/.
-use Rattle.little.specs.Words.{ℕ, ◌≤◌, ◌≡◌, true, ◌↔◌, List, [], ◌∷◌, ◌++◌, length, take}
+use Rattle.std.specs.Prelude.{ℕ, ◌≤◌, ◌≡◌, true, ◌↔◌, List, [], ◌∷◌, ◌++◌, length, take}
 use Rattle.little.specs.{declared.Size.Size, Bytes.Bytes}
 use Rattle.code.specs.{declared.Form.Form, declared.Op.Op, declared.Op.TheVariants.Blocks, declared.Operand.Operand}
 use Rattle.code.specs.{declared.Instruction.Instruction, Listed.decode_of, Said.whole_of, Range.in_range, Range.InRange, Written.code_of}

@@ -1,5 +1,5 @@
 -- The listed codes, bullet by bullet, and the decoder.
-use Rattle.little.specs.Words.{ℕ, ◌+◌, ◌%◌, List, [], ◌∷◌, ◌++◌}
+use Rattle.std.specs.Prelude.{ℕ, ◌+◌, ◌%◌, List, [], ◌∷◌, ◌++◌}
 use Rattle.little.specs.{declared.Size.Size, Width.bytes_of}
 use Rattle.state.specs.Named.{is_named}
 use Rattle.little.specs.declared.Size.TheVariants.{Byte, Word, Long}

@@ -1,5 +1,5 @@
 -- The byte after a memory form's address.
-use Rattle.little.specs.Words.{ℕ, ◌/◌, ◌%◌, List, [], ◌∷◌, ◌++◌, Bool, true, false, cond, leb, eqb}
+use Rattle.std.specs.Prelude.{ℕ, ◌/◌, ◌%◌, List, [], ◌∷◌, ◌++◌, Bool, true, false, cond, leb, eqb}
 use Rattle.little.specs.declared.Size.{Size}
 use Rattle.little.specs.declared.Size.TheVariants.{Byte, Word, Long}
 use Rattle.code.specs.{declared.Form.Form, declared.Op.TheVariants.Puts, declared.Op.TheVariants.Blocks, declared.Side.TheVariants.First}

@@ -1,5 +1,5 @@
 -- What a whole instruction can hold: each code and number within its range, its size and its operand of its kind.
-use Rattle.little.specs.Words.{ℕ, ◌<◌, ◌^◌, ◌≡◌, Bool, true, false, ◌&&◌, ◌||◌, ◌⊎◌, ltb, eqb}
+use Rattle.std.specs.Prelude.{ℕ, ◌<◌, ◌^◌, ◌≡◌, Bool, true, false, ◌&&◌, ◌||◌, ◌⊎◌, ltb, eqb}
 use Rattle.little.specs.{declared.Size.Size, Width.bytes_of}
 use Rattle.alu.specs.declared.change.Change.{Change}
 use Rattle.alu.specs.declared.change.Change.TheVariants.{Inc, Dec, ShiftBy, Extz, Exts}

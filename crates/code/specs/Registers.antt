@@ -1,5 +1,5 @@
 -- The byte after a register form's register.
-use Rattle.little.specs.Words.{ℕ, zero, suc, ◌+◌, ◌*◌, ◌/◌, ◌%◌, List, [], ◌∷◌, Bool, true, false, eqb}
+use Rattle.std.specs.Prelude.{ℕ, zero, suc, ◌+◌, ◌*◌, ◌/◌, ◌%◌, List, [], ◌∷◌, Bool, true, false, eqb}
 use Rattle.little.specs.{declared.Size.Size, declared.Size.TheVariants.Byte, declared.Size.TheVariants.Word, declared.Size.TheVariants.Long, Width.bytes_of}
 use Rattle.state.specs.Named.{is_named}
 use Rattle.feed.specs.Cycle.{is_table}

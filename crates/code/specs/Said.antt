@@ -1,5 +1,5 @@
 -- Code bytes, judged one at a time.
-use Rattle.little.specs.Words.{ℕ, ◌+◌, List, cond, length, get_or, take, drop, ltb, leb}
+use Rattle.std.specs.Prelude.{ℕ, ◌+◌, List, cond, length, get_or, take, drop, ltb, leb}
 use Rattle.little.specs.{declared.Size.Size, Bytes.value_of}
 use Rattle.code.specs.declared.{Op.Op, Operand.Operand, Decoded.Decoded}
 use Rattle.code.specs.declared.Decoded.TheVariants.{Whole, Short, Unlisted}

@@ -1,5 +1,5 @@
 -- The bytes that an instruction is read from: it keeps all that they said.
-use Rattle.little.specs.Words.{ℕ, ◌+◌, ◌*◌, List, [], ◌∷◌, ◌++◌, Bool, cond}
+use Rattle.std.specs.Prelude.{ℕ, ◌+◌, ◌*◌, List, [], ◌∷◌, ◌++◌, Bool, cond}
 use Rattle.little.specs.{declared.Size.Size, Bytes.bytes_from, Width.bytes_of}
 use Rattle.little.specs.declared.Size.TheVariants.{Byte, Word, Long}
 use Rattle.alu.specs.declared.{Arith.Arith, Shift.Shift, change.Change.Change}

@@ -1,6 +1,6 @@
 -- Loads, stores, operations on two operands, changes of one (alu/Change), products and quotients (feed/Scale) and modulo steps (feed/Cycle):
 -- what is put, and where.
-use Rattle.little.specs.Words.{ℕ, ◌/◌, List, Bool, true, false, cond}
+use Rattle.std.specs.Prelude.{ℕ, ◌/◌, List, Bool, true, false, cond}
 use Rattle.little.specs.{declared.Size.Size, Width.bits_of, Width.twice_of}
 use Rattle.flags.specs.{declared.Computed.Computed}
 use Rattle.alu.specs.{declared.Arith.Arith, Operation.operated, Change.changed}

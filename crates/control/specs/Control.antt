@@ -1,5 +1,5 @@
 -- Banks, the interrupt level, flags and jumps: what changes these and the counter alone.
-use Rattle.little.specs.Words.{ℕ, ◌+◌, cond, List}
+use Rattle.std.specs.Prelude.{ℕ, ◌+◌, cond, List}
 use Rattle.flags.specs.{Condition.holds_of, Condition.reads_marked, Flag.rcf_of, Flag.scf_of, Flag.ccf_of, Flag.zcf_of}
 use Rattle.answer.specs.declared.Why.TheVariants.{Undefined}
 use Rattle.state.specs.{declared.State.State, State.with_bank, State.with_level, State.with_counter}

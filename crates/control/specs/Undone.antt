@@ -1,5 +1,5 @@
 -- What undoes what (request K10). Each statement is proved in proofs/Undone.antt.
-use Rattle.little.specs.Words.{ℕ, ◌<◌, ◌≡◌, List}
+use Rattle.std.specs.Prelude.{ℕ, ◌<◌, ◌≡◌, List}
 use Rattle.state.specs.declared.State.{State}
 use Rattle.code.specs.declared.{Control.Control, Control.TheVariants.Incf, Control.TheVariants.Decf, Control.TheVariants.Exf}
 use Rattle.operand.specs.Try.{did}

@@ -1,5 +1,5 @@
 -- One instruction as bytes (request K11): whether it is listed, its bytes, and how a writing of them ends.
-use Rattle.little.specs.Words.{ℕ, ◌≡◌, List, ◌++◌, Bool, true, false, ◌&&◌, cond, length, drop, leb, eqb}
+use Rattle.std.specs.Prelude.{ℕ, ◌≡◌, List, ◌++◌, Bool, true, false, ◌&&◌, cond, length, drop, leb, eqb}
 use Rattle.code.specs.{declared.Instruction.Instruction, Range.in_range, Written.code_of}
 use Rattle.encode.specs.declared.{Ended.Ended, Written.Written}
 use Rattle.encode.specs.declared.Ended.TheVariants.{Done, Short, Unlisted, NoList, NoRoom}

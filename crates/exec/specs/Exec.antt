@@ -1,6 +1,6 @@
 -- What a listed instruction does: each kind of work has its own list, instruction by instruction (control/Control, stack/Stack,
 -- compute/Compute, block/Block, interrupt/Interrupt).
-use Rattle.little.specs.Words.{ℕ, ◌+◌, List}
+use Rattle.std.specs.Prelude.{ℕ, ◌+◌, List}
 use Rattle.answer.specs.declared.Why.{TheVariants.NoCode, TheVariants.Unlisted}
 use Rattle.little.specs.declared.Size.{Size}
 use Rattle.code.specs.{declared.Operand.Operand, declared.Instruction.Instruction, declared.Op.Op, declared.Decoded.Decoded, Written.constant_in}

@@ -1,5 +1,5 @@
 -- What a step at LDF leaves, and what is shown of it. 17H and the byte n are taken to stand at the counter, or at the address.
-use Rattle.little.specs.Words.{ℕ, ◌<◌, ◌≤◌, ◌%◌, ◌^◌, ◌≡◌, List, [], ◌∷◌}
+use Rattle.std.specs.Prelude.{ℕ, ◌<◌, ◌≤◌, ◌%◌, ◌^◌, ◌≡◌, List, [], ◌∷◌}
 use Rattle.answer.specs.declared.{Why.TheVariants.Unlisted, Answer.TheVariants.Done, Answer.TheVariants.Refused}
 use Rattle.memory.specs.Access.{code_at}
 use Rattle.state.specs.{declared.State.State, State.banked}

@@ -1,5 +1,5 @@
 -- A register form by the code of its register: each proved in proofs/ByCode.antt.
-use Rattle.little.specs.Words.{ℕ, ◌+◌, ◌%◌, ◌^◌, ◌<◌, ◌≡◌, List, ◌∷◌}
+use Rattle.std.specs.Prelude.{ℕ, ◌+◌, ◌%◌, ◌^◌, ◌<◌, ◌≡◌, List, ◌∷◌}
 use Rattle.little.specs.declared.Size.{Size}
 use Rattle.state.specs.{declared.State.State, State.with_counter, Named.code_for}
 use Rattle.code.specs.{Listed.decode_of, Written.size_step}

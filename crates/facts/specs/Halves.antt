@@ -1,5 +1,5 @@
 -- Lower halves (request K7): proved in proofs/Halves.antt.
-use Rattle.little.specs.Words.{ℕ, ◌≡◌, true, List}
+use Rattle.std.specs.Prelude.{ℕ, ◌≡◌, true, List}
 use Rattle.little.specs.{declared.Size.Size, Width.bits_of, Width.twice_of}
 use Rattle.flags.specs.Width.{low}
 use Rattle.memory.specs.declared.Loaded.TheVariants.{Value}

@@ -1,5 +1,5 @@
 -- What EI does to the interrupt level, and which steps touch the nesting count (request K8). Each statement is proved in proofs/Levels.antt.
-use Rattle.little.specs.Words.{ℕ, ◌<◌, ◌≤◌, ◌≡◌, List, ◌∷◌}
+use Rattle.std.specs.Prelude.{ℕ, ◌<◌, ◌≤◌, ◌≡◌, List, ◌∷◌}
 use Rattle.answer.specs.declared.{Why.TheVariants.Unlisted, Answer.TheVariants.Done, Answer.TheVariants.Refused}
 use Rattle.memory.specs.Access.{code_at}
 use Rattle.state.specs.{declared.State.State, State.nested}

@@ -1,5 +1,5 @@
 -- What a step can do with a marked flag (requests K6 and K8). Each statement is proved in proofs/Marks.antt.
-use Rattle.little.specs.Words.{ℕ, ◌<◌, ◌≡◌, ◌⊎◌, List, true}
+use Rattle.std.specs.Prelude.{ℕ, ◌<◌, ◌≡◌, ◌⊎◌, List, true}
 use Rattle.answer.specs.declared.Answer.TheVariants.{Done}
 use Rattle.flags.specs.{declared.Flags.Flags, Flag.flags_of, Condition.holds_of, Known.Alike}
 use Rattle.memory.specs.Access.{code_at}

@@ -1,5 +1,5 @@
 -- What a user may hold each call to. Each statement is proved in proofs/Statements.antt or proofs/Shown.antt.
-use Rattle.little.specs.Words.{ℕ, ◌<◌, ◌≤◌, ◌^◌, ◌≡◌, List, [], ◌++◌, true, false, ◌⊎◌, length}
+use Rattle.std.specs.Prelude.{ℕ, ◌<◌, ◌≤◌, ◌^◌, ◌≡◌, List, [], ◌++◌, true, false, ◌⊎◌, length}
 use Rattle.answer.specs.{declared.Why.Why, declared.Answer.Answer, declared.Answer.TheVariants.Done, declared.Answer.TheVariants.Refused}
 use Rattle.answer.specs.{Number.why_number}
 use Rattle.answer.specs.declared.Why.TheVariants.{TooLong, Invalid, NoCode, Unlisted, Undefined, Missing}

@@ -1,5 +1,5 @@
 -- The flags that an instruction decides by or stores, the bytes that it reads and those that it stores to, and what it answers by them.
-use Rattle.little.specs.Words.{ℕ, ◌+◌, ◌<◌, ◌≤◌, ◌%◌, ◌^◌, ◌≡◌, List, Bool, true, false, cond, ◌&&◌, ◌⊎◌, length, get_or}
+use Rattle.std.specs.Prelude.{ℕ, ◌+◌, ◌<◌, ◌≤◌, ◌%◌, ◌^◌, ◌≡◌, List, Bool, true, false, cond, ◌&&◌, ◌⊎◌, length, get_or}
 use Rattle.answer.specs.{declared.Answer.Answer, declared.Answer.TheVariants.Done, declared.Answer.TheVariants.Refused, Number.first_refusal}
 use Rattle.little.specs.{declared.Size.Size, declared.Size.TheVariants.Long, Width.bytes_of, Width.twice_of}
 use Rattle.memory.specs.{declared.Place.Place, Access.store_to, Place.place_of}

@@ -1,5 +1,5 @@
 -- Which byte is told with 5, and which with 6. Each statement is proved in proofs/Where.antt.
-use Rattle.little.specs.Words.{ℕ, ◌+◌, ◌<◌, ◌≤◌, ◌%◌, ◌^◌, ◌≡◌, ◌⊎◌, List, length}
+use Rattle.std.specs.Prelude.{ℕ, ◌+◌, ◌<◌, ◌≤◌, ◌%◌, ◌^◌, ◌≡◌, ◌⊎◌, List, length}
 use Rattle.answer.specs.declared.{Answer.TheVariants.Refused, Why.TheVariants.Missing, Why.TheVariants.ToRom}
 use Rattle.memory.specs.Access.{code_at}
 use Rattle.state.specs.declared.State.{State}

@@ -1,6 +1,6 @@
 -- Worked cases, as one table: what is computed of which F, and the value and the F that it must have. All numbers but the widths are in
 -- hex.
-use Rattle.little.specs.Words.{Bool, ◌&&◌, List, [], ◌∷◌, ℕ, eqb}
+use Rattle.std.specs.Prelude.{Bool, ◌&&◌, List, [], ◌∷◌, ℕ, eqb}
 use Rattle.flags.specs.Flag.{packed_of, flags_of}
 use Rattle.feed.specs.Scale.{scaled}
 use Rattle.feed.specs.declared.scale.Scale.{Scale}

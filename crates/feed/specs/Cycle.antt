@@ -1,6 +1,6 @@
 -- MINC and MDEC (request K7): a pointer x of k bits goes round in a table whose number of bytes, num, is a power of two. A code has num less
 -- the step s: `last`, the place of the last entry.
-use Rattle.little.specs.Words.{ℕ, zero, suc, ◌+◌, ◌-◌, ◌*◌, ◌%◌, ◌^◌, Bool, false, cond, ◌&&◌, ◌||◌, leb, eqb}
+use Rattle.std.specs.Prelude.{ℕ, zero, suc, ◌+◌, ◌-◌, ◌*◌, ◌%◌, ◌^◌, Bool, false, cond, ◌&&◌, ◌||◌, leb, eqb}
 use Rattle.flags.specs.Width.{low}
 use Rattle.feed.specs.declared.cycle.{Stride.Stride, Cycle.Cycle}
 use Rattle.feed.specs.declared.cycle.Stride.TheVariants.{One, Two, Four}

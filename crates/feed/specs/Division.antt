@@ -1,6 +1,6 @@
 -- What products and quotients are, for every width of k bits, and what they leave of the flags. Each statement is proved in
 -- proofs/Products.antt, proofs/Quotients.antt or proofs/Fits.antt.
-use Rattle.little.specs.Words.{ℕ, ◌+◌, ◌*◌, ◌/◌, ◌^◌, ◌<◌, ◌≡◌, ◌↔◌, ◌⊎◌, Bool, true, false}
+use Rattle.std.specs.Prelude.{ℕ, ◌+◌, ◌*◌, ◌/◌, ◌^◌, ◌<◌, ◌≡◌, ◌↔◌, ◌⊎◌, Bool, true, false}
 use Rattle.std.specs.Prelude.{ℤ, pos, nat_abs, ◌+ℤ◌, ◌*ℤ◌}
 use Rattle.std.specs.Int.Signed.{non_neg}
 use Rattle.flags.specs.{declared.Flags.Flags, Width.low, Undefined.marks_h, Undefined.marks_v}

@@ -1,5 +1,5 @@
 -- MUL, MULS, DIV and DIVS (request K7): of an operand a of 2 k bits, which gets the result, and b of k bits.
-use Rattle.little.specs.Words.{ℕ, suc, ◌+◌, ◌-◌, ◌*◌, ◌/◌, ◌%◌, ◌^◌, Bool, true, false, cond, not, ◌&&◌, ◌||◌, leb, eqb}
+use Rattle.std.specs.Prelude.{ℕ, suc, ◌+◌, ◌-◌, ◌*◌, ◌/◌, ◌%◌, ◌^◌, Bool, true, false, cond, not, ◌&&◌, ◌||◌, leb, eqb}
 use Rattle.std.specs.Prelude.{ℤ, pos, negsuc, neg_ℤ, ◌*ℤ◌}
 use Rattle.std.specs.Int.Signed.{quot_z, rem_z, le_z, lt_z}
 use Rattle.flags.specs.{declared.Computed.Computed, declared.Flags.Flags, Width.low, Width.negative, Flag.keeping, Flag.dividing}

@@ -1,5 +1,5 @@
 -- Worked cases of MINC and MDEC at width 16, as one table: what is computed, and the pointer that it must be. All numbers are in hex.
-use Rattle.little.specs.Words.{Bool, not, List, [], ◌∷◌, ℕ, eqb}
+use Rattle.std.specs.Prelude.{Bool, not, List, [], ◌∷◌, ℕ, eqb}
 use Rattle.feed.specs.declared.cycle.Stride.TheVariants.{One, Two, Four}
 use Rattle.feed.specs.declared.cycle.Cycle.{Cycle, TheVariants.Minc, TheVariants.Mdec}
 use Rattle.feed.specs.Cycle.{cycled, is_table}

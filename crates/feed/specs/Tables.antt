@@ -1,5 +1,5 @@
 -- A pointer goes round in its table, for the steps 1, 2 and 4 alike. Each statement is proved in proofs/Tables.antt.
-use Rattle.little.specs.Words.{ℕ, zero, suc, ◌+◌, ◌*◌, ◌/◌, ◌%◌, ◌^◌, ◌<◌, ◌≡◌, true}
+use Rattle.std.specs.Prelude.{ℕ, zero, suc, ◌+◌, ◌*◌, ◌/◌, ◌%◌, ◌^◌, ◌<◌, ◌≡◌, true}
 use Rattle.feed.specs.declared.cycle.Stride.{Stride}
 use Rattle.feed.specs.Cycle.{stride_step, is_table, minc_of, mdec_of}
 

@@ -1,10 +1,11 @@
 -- The sixteen conditions of a jump.
-use Rattle.little.specs.Words.{ℕ, ◌+◌, ◌%◌, ◌≡◌, Bool, true, false, not, cond, ◌&&◌, ◌||◌, Bool·beq, List, [], ◌∷◌, ltb, get_or}
+use Rattle.std.specs.Prelude.{ℕ, ◌+◌, ◌%◌, ◌≡◌, Bool, true, false, not, cond, ◌&&◌, ◌||◌, List, [], ◌∷◌, ltb, get_or}
+use Rattle.little.specs.Words.{bool_eq}
 use Rattle.flags.specs.{declared.Flags.Flags, Undefined.marks_v}
 
 -- S differs from V
 abbrev pub less_than : Flags → Bool
-less_than f = not (Bool·beq f.s f.v)
+less_than f = not (bool_eq f.s f.v)
 
 -- 0 to 7: never, LT, LE, ULE, V, S, Z, C
 unfoldable pub basic : Flags → ℕ → Bool

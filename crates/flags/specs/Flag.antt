@@ -1,5 +1,5 @@
 -- The flags apart, and as the byte F: S 7, Z 6, H 4, V 2, N 1, C 0, with their marks above it. What some instructions keep of them.
-use Rattle.little.specs.Words.{ℕ, ◌+◌, ◌*◌, ◌/◌, ◌%◌, Bool, true, false, not, eqb}
+use Rattle.std.specs.Prelude.{ℕ, ◌+◌, ◌*◌, ◌/◌, ◌%◌, Bool, true, false, not, eqb}
 use Rattle.flags.specs.{declared.Flags.Flags, declared.Computed.Computed, Width.one}
 use Rattle.flags.specs.Undefined.{nothing, by_rcf_scf, by_ccf_zcf, undefined_of}
 

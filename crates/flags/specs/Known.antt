@@ -1,5 +1,5 @@
 -- What can depend on a marked flag, and what cannot. Each statement is proved in proofs/Known.antt.
-use Rattle.little.specs.Words.{ℕ, ◌≡◌, Bool, true, false}
+use Rattle.std.specs.Prelude.{ℕ, ◌≡◌, Bool, true, false}
 use Rattle.flags.specs.{declared.Flags.Flags, Undefined.nothing, Undefined.marks_h, Undefined.marks_v}
 use Rattle.flags.specs.{Condition.holds_of, Condition.reads_v, Condition.reads_marked, Sums.computed_of}
 

@@ -1,5 +1,5 @@
 -- What carry, borrow, half carry and overflow mean, for every width of k bits. Each statement is proved in proofs/Meaning.antt.
-use Rattle.little.specs.Words.{ℕ, ◌+◌, ◌-◌, ◌*◌, ◌%◌, ◌^◌, ◌≤◌, ◌<◌, ◌≡◌, Bool, not, cond, ◌&&◌, leb, ltb}
+use Rattle.std.specs.Prelude.{ℕ, ◌+◌, ◌-◌, ◌*◌, ◌%◌, ◌^◌, ◌≤◌, ◌<◌, ◌≡◌, Bool, not, cond, ◌&&◌, leb, ltb}
 use Rattle.flags.specs.{Width.low, Width.negative, Width.one, Sums.sum_of, Sums.difference_of}
 
 -- the value and the carry together are the exact sum

@@ -1,5 +1,6 @@
 -- Sums and differences of two operands of k bits, with a carry or borrow in, and their flags.
-use Rattle.little.specs.Words.{ℕ, ◌+◌, ◌-◌, ◌%◌, ◌^◌, Bool, true, false, not, ◌&&◌, Bool·beq, leb, ltb, eqb}
+use Rattle.std.specs.Prelude.{ℕ, ◌+◌, ◌-◌, ◌%◌, ◌^◌, Bool, true, false, not, ◌&&◌, leb, ltb, eqb}
+use Rattle.little.specs.Words.{bool_eq}
 use Rattle.flags.specs.{declared.Computed.Computed, Width.low, Width.negative, Width.one}
 use Rattle.flags.specs.Undefined.{by_sum, undefined_of, marks_h, marks_v}
 
@@ -14,7 +15,7 @@ computed_of k undefined r h v n c = result_of k r (not (marks_h undefined) && h)
 
 -- the operands have one sign, and the result the other
 abbrev pub turned : Bool → Bool → Bool → Bool
-turned x y r = Bool·beq x y && not (Bool·beq x r)
+turned x y r = bool_eq x y && not (bool_eq x r)
 
 -- ADD and ADC: x + y + c, where x and y are the k low bits of the operands
 unfoldable pub sum_of : ℕ → ℕ → ℕ → Bool → Computed

@@ -1,6 +1,6 @@
 -- Which flags the book leaves undefined. H and V alone can be; each has a mark that says so. The marks of a set of flags are one
 -- number: 1 for H, 2 for V, 3 for both.
-use Rattle.little.specs.Words.{ℕ, ◌/◌, ◌%◌, Bool, cond, ltb, eqb}
+use Rattle.std.specs.Prelude.{ℕ, ◌/◌, ◌%◌, Bool, cond, ltb, eqb}
 
 -- no flag, H, V
 abbrev pub nothing : ℕ

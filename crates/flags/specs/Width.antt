@@ -1,5 +1,5 @@
 -- A number's part of a width of k bits, its sign, and a bit as a number.
-use Rattle.little.specs.Words.{ℕ, ◌-◌, ◌%◌, ◌^◌, Bool, cond, leb}
+use Rattle.std.specs.Prelude.{ℕ, ◌-◌, ◌%◌, ◌^◌, Bool, cond, leb}
 
 -- the low k bits of x
 abbrev pub low : ℕ → ℕ → ℕ

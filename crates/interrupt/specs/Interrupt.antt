@@ -1,5 +1,5 @@
 -- SR on the stack, and the return from an interrupt (request K8).
-use Rattle.little.specs.Words.{ℕ, ◌/◌, ◌%◌, ◌^◌, List, cond}
+use Rattle.std.specs.Prelude.{ℕ, ◌/◌, ◌%◌, ◌^◌, List, cond}
 use Rattle.little.specs.declared.Size.TheVariants.{Word}
 use Rattle.flags.specs.Flag.{byte_of, flags_of, any_marked}
 use Rattle.state.specs.{declared.State.State, State.with_counter, State.with_bank, State.with_level, State.with_flags, State.with_nesting, Sr.sr_of, Sr.f_in}

@@ -1,5 +1,5 @@
 -- The line that the program prints.
-use Rattle.little.specs.Words.{ℕ, ◌≤◌, ◌≡◌, List, [], ◌∷◌, ◌++◌, cond, length, replicate, ltb}
+use Rattle.std.specs.Prelude.{ℕ, ◌≤◌, ◌≡◌, List, [], ◌∷◌, ◌++◌, cond, length, replicate, ltb}
 use Rattle.answer.specs.{declared.Answer.Answer, declared.Answer.TheVariants.Done, declared.Answer.TheVariants.Refused, declared.Why.Why}
 use Rattle.answer.specs.{declared.Why.TheVariants.TooLong, Number.why_number, Number.number_of}
 use Rattle.little.specs.declared.Size.TheVariants.{Long}

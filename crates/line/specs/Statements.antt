@@ -1,5 +1,6 @@
 -- What is proved of the line, beside what the call promises. Each statement is proved in proofs/Settled.antt.
-use Rattle.little.specs.Words.{ℕ, code, ◌≡◌, List, [], ◌∷◌, ◌++◌, replicate}
+use Rattle.std.specs.Prelude.{ℕ, ◌≡◌, List, [], ◌∷◌, ◌++◌, replicate}
+use Rattle.little.specs.Words.{code}
 use Rattle.line.specs.Lines.{line_for, LineMeets}
 use Prim.Native.String as string
 use Rattle.text.specs.declared.Line.{Line}

@@ -1,5 +1,5 @@
 -- A test that every entry of a list passes: how tables of worked cases are checked.
-use Rattle.little.specs.Words.{Bool, true, ◌&&◌, List, [], ◌∷◌}
+use Rattle.std.specs.Prelude.{Bool, true, ◌&&◌, List, [], ◌∷◌}
 
 unfoldable pub every : {A : Type 0} → (A → Bool) → List A → Bool
 every test [] = true

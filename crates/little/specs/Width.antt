@@ -1,5 +1,5 @@
 -- The three sizes of an operand.
-use Rattle.little.specs.Words.{ℕ}
+use Rattle.std.specs.Prelude.{ℕ}
 use Rattle.little.specs.declared.Size.{Size}
 use Rattle.little.specs.declared.Size.TheVariants.{Byte, Word, Long}
 

@@ -1,5 +1,5 @@
 -- Loads, stores and fetches.
-use Rattle.little.specs.Words.{ℕ, ◌+◌, List, [], length, take, drop}
+use Rattle.std.specs.Prelude.{ℕ, ◌+◌, List, [], length, take, drop}
 use Rattle.answer.specs.declared.Answer.{Answer}
 use Rattle.little.specs.{declared.Size.Size, Width.bytes_of, Bytes.value_of, Bytes.bytes_from, Bytes.replaced}
 use Rattle.memory.specs.{declared.Place.Place, declared.Loaded.Loaded, Place.place_of}

@@ -1,5 +1,5 @@
 -- Where an operand lies, and which of its bytes is missing.
-use Rattle.little.specs.Words.{ℕ, zero, suc, ◌+◌, ◌-◌, ◌%◌, ◌^◌, ◌≢◌, Bool, cond, ◌&&◌, leb, ltb}
+use Rattle.std.specs.Prelude.{ℕ, zero, suc, ◌+◌, ◌-◌, ◌%◌, ◌^◌, ◌≢◌, Bool, cond, ◌&&◌, leb, ltb}
 use Rattle.memory.specs.declared.Place.{Place}
 use Rattle.memory.specs.declared.Place.TheVariants.{Ram, Rom, Missing}
 

@@ -1,5 +1,5 @@
 -- What each call answers and leaves, over the bytes of a saved record.
-use Rattle.little.specs.Words.{ℕ, ◌≡◌, List, Bool, cond, length, ltb, eqb}
+use Rattle.std.specs.Prelude.{ℕ, ◌≡◌, List, Bool, cond, length, ltb, eqb}
 use Rattle.answer.specs.{declared.Answer.Answer, declared.Answer.TheVariants.Done, declared.Answer.TheVariants.Refused}
 use Rattle.answer.specs.Number.{number_of, at_of, first_refusal, where_done}
 use Rattle.answer.specs.declared.Why.TheVariants.{TooMany, TooLong, Invalid}

@@ -1,6 +1,6 @@
 -- Demand 3 as C sees it: tlcs900h_run, which promises CRunMeets, on a record whose state is at a repeating copy or compare.
 -- Proved in proofs/Demand.antt.
-use Rattle.little.specs.Words.{ℕ, ◌-◌, List, [], ◌∷◌, ◌++◌, replicate}
+use Rattle.std.specs.Prelude.{ℕ, ◌-◌, List, [], ◌∷◌, ◌++◌, replicate}
 use Rattle.answer.specs.{declared.Why.TheVariants.Missing, Number.number_of, Number.at_of}
 use Rattle.state.specs.declared.State.{State}
 use Rattle.code.specs.declared.Form.{Form}

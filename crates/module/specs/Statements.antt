@@ -1,5 +1,5 @@
 -- What is proved of the calls, beside what each promises. Each statement is proved in proofs/Settled.antt, Records.antt or Requests.antt.
-use Rattle.little.specs.Words.{ℕ, ◌+◌, ◌<◌, ◌≤◌, ◌≡◌, ◌⊎◌, List, cond}
+use Rattle.std.specs.Prelude.{ℕ, ◌+◌, ◌<◌, ◌≤◌, ◌≡◌, ◌⊎◌, List, cond}
 use Rattle.answer.specs.declared.Answer.TheVariants.{Done}
 use Rattle.little.specs.Bytes.{Bytes}
 use Rattle.state.specs.declared.State.{State}

@@ -1,5 +1,5 @@
 -- A record moved from the old form to the new one, and back (request K9): what each call answers, and what the room for the other record holds then.
-use Rattle.little.specs.Words.{ℕ, ◌≡◌, List, cond, ◌&&◌, length, eqb}
+use Rattle.std.specs.Prelude.{ℕ, ◌≡◌, List, cond, ◌&&◌, length, eqb}
 use Rattle.answer.specs.{declared.Answer.Answer, declared.Answer.TheVariants.Done, declared.Answer.TheVariants.Refused}
 use Rattle.answer.specs.{declared.Why.TheVariants.Invalid, declared.Why.TheVariants.NoOldForm, Number.number_of, Number.where_done}
 use Rattle.saved.specs.Record.{record_length, old_length, widened, narrowed, fits_old, state_at, is_record, is_old_record}

@@ -1,5 +1,5 @@
 -- What is proved of the two calls, beside what each promises. Each statement is proved in proofs/Moved.antt or Laws.antt.
-use Rattle.little.specs.Words.{ℕ, ◌≡◌, true, false, ◌⊎◌, List, length}
+use Rattle.std.specs.Prelude.{ℕ, ◌≡◌, true, false, ◌⊎◌, List, length}
 use Rattle.little.specs.Bytes.{Bytes}
 use Rattle.answer.specs.declared.{Answer.TheVariants.Done, Answer.TheVariants.Refused, Why.TheVariants.Invalid, Why.TheVariants.NoOldForm}
 use Rattle.state.specs.{declared.State.State, State.valid_of, Sound.Sound}

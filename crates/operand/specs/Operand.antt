@@ -1,5 +1,5 @@
 -- The operand of an instruction: its address, its value, a value put there, and the register twice as wide.
-use Rattle.little.specs.Words.{ℕ, ◌+◌, ◌-◌, ◌*◌, ◌/◌, ◌%◌, ◌^◌, List, cond}
+use Rattle.std.specs.Prelude.{ℕ, ◌+◌, ◌-◌, ◌*◌, ◌/◌, ◌%◌, ◌^◌, List, cond}
 use Rattle.answer.specs.declared.{Answer.Answer, Answer.TheVariants.Done, Answer.TheVariants.Refused}
 use Rattle.little.specs.{declared.Size.Size, Width.bytes_of}
 use Rattle.little.specs.declared.Size.TheVariants.{Byte, Word, Long}

@@ -1,5 +1,5 @@
 -- Numbers step round at their own width.
-use Rattle.little.specs.Words.{ℕ, ◌+◌, ◌-◌, ◌%◌, ◌^◌}
+use Rattle.std.specs.Prelude.{ℕ, ◌+◌, ◌-◌, ◌%◌, ◌^◌}
 
 -- a number of k bits less n, and plus n, round at its width
 abbrev pub less : ℕ → ℕ → ℕ → ℕ

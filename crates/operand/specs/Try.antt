@@ -1,5 +1,5 @@
 -- A step that is tried, and what a call leaves.
-use Rattle.little.specs.Words.{ℕ, List}
+use Rattle.std.specs.Prelude.{ℕ, List}
 use Rattle.answer.specs.declared.{Why.Why, Why.TheVariants.Missing, Answer.Answer, Answer.TheVariants.Done, Answer.TheVariants.Refused}
 use Rattle.memory.specs.declared.Loaded.{Loaded}
 use Rattle.state.specs.declared.State.{State}

@@ -1,5 +1,5 @@
 -- What a patcher may put for what (request K10). Each statement is proved in proofs/: Changes, Bytes, Turns, Flags, Filled, Loads or Stack.
-use Rattle.little.specs.Words.{ℕ, ◌+◌, ◌%◌, ◌^◌, ◌<◌, ◌≤◌, ◌≡◌, List, [], ◌∷◌, ◌++◌, length, replicate, true}
+use Rattle.std.specs.Prelude.{ℕ, ◌+◌, ◌%◌, ◌^◌, ◌<◌, ◌≤◌, ◌≡◌, List, [], ◌∷◌, ◌++◌, length, replicate, true}
 use Rattle.little.specs.{declared.Size.Size, declared.Size.TheVariants.Byte, declared.Size.TheVariants.Long, Width.bytes_of}
 use Rattle.alu.specs.{declared.Shift.Shift, Twice.Mergeable}
 use Rattle.alu.specs.declared.Shift.TheVariants.{Sla, Sll}

@@ -1,6 +1,6 @@
 -- Pieces of code, as a patcher writes them, and what they leave (request K10). The counter is left out, and the code is taken to be there.
 -- Each statement is proved in proofs/Pieces.antt.
-use Rattle.little.specs.Words.{ℕ, ◌+◌, ◌<◌, ◌≤◌, ◌^◌, ◌≡◌, List, [], ◌∷◌, ◌++◌, length, true}
+use Rattle.std.specs.Prelude.{ℕ, ◌+◌, ◌<◌, ◌≤◌, ◌^◌, ◌≡◌, List, [], ◌∷◌, ◌++◌, length, true}
 use Rattle.answer.specs.declared.Answer.TheVariants.{Done}
 use Rattle.memory.specs.Access.{code_at}
 use Rattle.state.specs.{declared.State.State, State.valid_of, State.with_counter, Sound.Sound}

@@ -1,5 +1,5 @@
 -- A request for an interrupt, offered to the machine between two steps (request K8).
-use Rattle.little.specs.Words.{ℕ, ◌+◌, ◌*◌, ◌^◌, ◌≡◌, List, Bool, false, cond, not, ◌&&◌, ◌||◌, leb, ltb, eqb}
+use Rattle.std.specs.Prelude.{ℕ, ◌+◌, ◌*◌, ◌^◌, ◌≡◌, List, Bool, false, cond, not, ◌&&◌, ◌||◌, leb, ltb, eqb}
 use Rattle.little.specs.declared.Size.TheVariants.{Long}
 use Rattle.answer.specs.declared.{Answer.Answer, Answer.TheVariants.Done, Answer.TheVariants.Refused, Why.TheVariants.BadRequest}
 use Rattle.memory.specs.Access.{load_of}

@@ -1,5 +1,5 @@
 -- What a user may hold an offer to. Each statement is proved in proofs/Statements.antt.
-use Rattle.little.specs.Words.{ℕ, ◌<◌, ◌≤◌, ◌≡◌, ◌↔◌, List, true, false}
+use Rattle.std.specs.Prelude.{ℕ, ◌<◌, ◌≤◌, ◌≡◌, ◌↔◌, List, true, false}
 use Rattle.state.specs.{declared.State.State, State.valid_of}
 use Rattle.request.specs.{declared.Requested.Requested, Request.takes, Request.RequestMeets}
 

@@ -1,5 +1,5 @@
 -- A row of code read from start to end, and written again (request K11): what the call answers, and what the room holds then.
-use Rattle.little.specs.Words.{ℕ, ◌≡◌, List, cond, length}
+use Rattle.std.specs.Prelude.{ℕ, ◌≡◌, List, cond, length}
 use Rattle.encode.specs.{declared.Ended.Ended, One.end_number, One.end_of, One.is_done, One.room_after}
 use Rattle.row.specs.Row.{most, row_of, can_write, read_of}
 

@@ -1,5 +1,5 @@
 -- A list of instructions in a row (request K11): its bytes, how a writing of them ends, and what a row of code is read as.
-use Rattle.little.specs.Words.{ℕ, zero, suc, ◌-◌, List, [], ◌∷◌, ◌++◌, Bool, true, ◌&&◌, cond, length, take, drop, replicate, leb, eqb}
+use Rattle.std.specs.Prelude.{ℕ, zero, suc, ◌-◌, List, [], ◌∷◌, ◌++◌, Bool, true, ◌&&◌, cond, length, take, drop, replicate, leb, eqb}
 use Rattle.little.specs.declared.Size.TheVariants.{Byte}
 use Rattle.code.specs.{declared.Instruction.Instruction, declared.Decoded.Decoded, Listed.decode_of}
 use Rattle.code.specs.declared.{Op.TheVariants.Controls, Control.TheVariants.Nop, Operand.TheVariants.Constant}

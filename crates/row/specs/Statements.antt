@@ -1,5 +1,5 @@
 -- What is proved of lists and of rows of code, beside what each function promises. Each statement is proved in proofs/.
-use Rattle.little.specs.Words.{ℕ, ◌*◌, ◌<◌, ◌≤◌, ◌≡◌, Bool, true, false, ◌↔◌, List, [], ◌∷◌, ◌++◌, length, drop, get_or, replicate}
+use Rattle.std.specs.Prelude.{ℕ, ◌*◌, ◌<◌, ◌≤◌, ◌≡◌, Bool, true, false, ◌↔◌, List, [], ◌∷◌, ◌++◌, length, drop, get_or, replicate}
 use Rattle.little.specs.Bytes.{Bytes}
 use Rattle.code.specs.{declared.Instruction.Instruction, Listed.decode_of}
 use Rattle.code.specs.declared.Decoded.TheVariants.{Whole}

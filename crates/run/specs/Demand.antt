@@ -1,6 +1,6 @@
 -- Demand 3: how a repeating copy or compare ends, told by its start alone. Each statement is proved in proofs/Endings.antt
 -- or proofs/Known.antt.
-use Rattle.little.specs.Words.{ℕ, zero, suc, ◌+◌, ◌-◌, ◌*◌, ◌%◌, ◌^◌, ◌<◌, ◌≤◌, ◌≡◌, ◌⊎◌, List, true, false, cond, eqb, length}
+use Rattle.std.specs.Prelude.{ℕ, zero, suc, ◌+◌, ◌-◌, ◌*◌, ◌%◌, ◌^◌, ◌<◌, ◌≤◌, ◌≡◌, ◌⊎◌, List, true, false, cond, eqb, length}
 use Rattle.answer.specs.declared.{Answer.TheVariants.Done, Answer.TheVariants.Refused, Why.Why}
 use Rattle.little.specs.{declared.Size.TheVariants.Long, Width.bytes_of, Bytes.Bytes}
 use Rattle.memory.specs.{declared.Place.Place, declared.Place.TheVariants.Rom, declared.Place.TheVariants.Missing}

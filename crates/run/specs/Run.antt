@@ -1,5 +1,5 @@
 -- Many steps.
-use Rattle.little.specs.Words.{ℕ, ◌≡◌, List, cond, ltb}
+use Rattle.std.specs.Prelude.{ℕ, ◌≡◌, List, cond, ltb}
 use Rattle.answer.specs.declared.{Answer.TheVariants.Refused, Why.TheVariants.TooMany}
 use Rattle.state.specs.declared.State.{State}
 use Rattle.operand.specs.Try.{did, no}

@@ -1,6 +1,6 @@
 -- The outlet's search, and copies, spelt out: where pointers, BC, flags and memory are at the end. Each statement is proved in proofs/Search.antt
 -- and proofs/Copies.antt.
-use Rattle.little.specs.Words.{ℕ, ◌+◌, ◌-◌, ◌*◌, ◌%◌, ◌^◌, ◌≤◌, ◌≡◌, ◌⊎◌, List, true, false, length, get_or, take, drop, replicate}
+use Rattle.std.specs.Prelude.{ℕ, ◌+◌, ◌-◌, ◌*◌, ◌%◌, ◌^◌, ◌≤◌, ◌≡◌, ◌⊎◌, List, true, false, length, get_or, take, drop, replicate}
 use Rattle.answer.specs.declared.Answer.TheVariants.{Done}
 use Rattle.little.specs.{declared.Size.TheVariants.Byte, declared.Size.TheVariants.Long, Width.bytes_of, Bytes.replaced}
 use Rattle.state.specs.{declared.State.State, State.marks_of, Register.get_register}

@@ -1,5 +1,5 @@
 -- What is proved of a run, beside what the call promises and demand 3. Each statement is proved in proofs/Joins.antt.
-use Rattle.little.specs.Words.{ℕ, ◌+◌, ◌<◌, ◌≤◌, ◌≡◌, List}
+use Rattle.std.specs.Prelude.{ℕ, ◌+◌, ◌<◌, ◌≤◌, ◌≡◌, List}
 use Rattle.answer.specs.declared.{Answer.TheVariants.Done, Answer.TheVariants.Refused, Why.Why}
 use Rattle.state.specs.declared.State.{State}
 use Rattle.operand.specs.Try.{after, did, no}

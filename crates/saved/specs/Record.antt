@@ -1,6 +1,6 @@
 -- A saved state: one record of bytes with no header. The old record is the first 88 bytes of it: it has no nesting count and no marks.
-use Rattle.little.specs.Words.{ℕ, zero, suc, ◌+◌, ◌-◌, ◌*◌, ◌/◌, ◌%◌, ◌^◌, ◌≡◌, List, [], ◌∷◌, ◌++◌, Bool, cond, ◌&&◌}
-use Rattle.little.specs.Words.{length, get_or, take, drop, replicate, eqb}
+use Rattle.std.specs.Prelude.{ℕ, zero, suc, ◌+◌, ◌-◌, ◌*◌, ◌/◌, ◌%◌, ◌^◌, ◌≡◌, List, [], ◌∷◌, ◌++◌, Bool, cond, ◌&&◌}
+use Rattle.std.specs.Prelude.{length, get_or, take, drop, replicate, eqb}
 use Rattle.answer.specs.declared.{Answer.Answer, Answer.TheVariants.Done, Answer.TheVariants.Refused, Why.Why, Why.TheVariants.Invalid}
 use Rattle.little.specs.Bytes.{value_of, bytes_from}
 use Rattle.state.specs.{declared.State.State, State.valid_of, State.zero_state, State.f_of, State.marks_of}

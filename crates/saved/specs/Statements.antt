@@ -1,5 +1,5 @@
 -- What is proved of saving and loading, beside what each call promises. Each statement is proved in proofs/RoundTrip.antt, Refusals.antt or Marked.antt.
-use Rattle.little.specs.Words.{ℕ, ◌≡◌, true, false, ◌⊎◌, List, [], ◌∷◌, length, drop, get_or, set, replicate}
+use Rattle.std.specs.Prelude.{ℕ, ◌≡◌, true, false, ◌⊎◌, List, [], ◌∷◌, length, drop, get_or, set, replicate}
 use Rattle.answer.specs.declared.{Answer.Answer, Answer.TheVariants.Done, Answer.TheVariants.Refused, Why.TheVariants.Invalid}
 use Rattle.little.specs.Bytes.{Bytes}
 use Rattle.state.specs.{declared.State.State, State.zero_state, State.with_nesting, State.with_both_flags, State.clear, State.valid_of, Sound.Sound}

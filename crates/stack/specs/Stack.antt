@@ -1,5 +1,5 @@
 -- Pushes, pops, calls and returns.
-use Rattle.little.specs.Words.{ℕ, ◌%◌, ◌^◌, List, cond}
+use Rattle.std.specs.Prelude.{ℕ, ◌%◌, ◌^◌, List, cond}
 use Rattle.little.specs.{declared.Size.Size, declared.Size.TheVariants.Byte, declared.Size.TheVariants.Long, Width.bytes_of}
 use Rattle.flags.specs.Flag.{byte_of, flags_of, any_marked}
 use Rattle.memory.specs.Access.{load_bytes}

@@ -1,5 +1,5 @@
 -- Every part of every bank, by a code byte (request K1). 000's picture of this map is lost: docs/DECISIONS.md says what it stands on.
-use Rattle.little.specs.Words.{ℕ, ◌+◌, ◌-◌, ◌*◌, ◌/◌, ◌%◌, List, Bool, ◌&&◌, ◌||◌, cond, get_or, ltb, leb, eqb}
+use Rattle.std.specs.Prelude.{ℕ, ◌+◌, ◌-◌, ◌*◌, ◌/◌, ◌%◌, List, Bool, ◌&&◌, ◌||◌, cond, get_or, ltb, leb, eqb}
 use Rattle.little.specs.declared.Size.{Size}
 use Rattle.little.specs.declared.Size.TheVariants.{Byte, Word, Long}
 use Rattle.state.specs.{declared.State.State, State.long_of, State.with_long, Register.get_bits, Register.set_bits}

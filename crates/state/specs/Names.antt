@@ -1,6 +1,6 @@
 -- The names of the registers, as one table: for each name, what it holds in a state where no byte is like another, and what a
 -- write to it leaves. All numbers but 01's codes and places are in hex.
-use Rattle.little.specs.Words.{ℕ, ◌≡◌, List, [], ◌∷◌, map, set}
+use Rattle.std.specs.Prelude.{ℕ, ◌≡◌, List, [], ◌∷◌, map, set}
 use Rattle.little.specs.{declared.Size.Size, Width.bytes_of}
 use Rattle.little.specs.declared.Size.TheVariants.{Byte, Word, Long}
 use Rattle.state.specs.{declared.State.State, State.lent, State.reset_state, Register.get_register, Register.set_register, Named.Bits, Named.nowhere, Named.named, Named.held_in, Named.with_held}

@@ -1,5 +1,5 @@
 -- What holds of the parts that codes name, once over the three widths: statements, each proved in proofs/.
-use Rattle.little.specs.Words.{ℕ, ◌+◌, ◌*◌, ◌/◌, ◌%◌, ◌^◌, ◌<◌, ◌≤◌, ◌≡◌, true, ◌⊎◌, ◌↔◌, List, get_or}
+use Rattle.std.specs.Prelude.{ℕ, ◌+◌, ◌*◌, ◌/◌, ◌%◌, ◌^◌, ◌<◌, ◌≤◌, ◌≡◌, true, ◌⊎◌, ◌↔◌, List, get_or}
 use Rattle.little.specs.{declared.Size.Size, Width.bytes_of, Width.bits_of}
 use Rattle.state.specs.declared.{Bank.Bank, State.State}
 use Rattle.state.specs.{State.banked, Register.get_bits, Register.register_at, Register.set_register, Sound.Sound}

@@ -1,5 +1,5 @@
 -- Registers by size and code, through one naming of the parts of the twenty longs.
-use Rattle.little.specs.Words.{ℕ, ◌+◌, ◌*◌, ◌/◌, ◌%◌, ◌^◌, cond, List, get_or, ltb, eqb}
+use Rattle.std.specs.Prelude.{ℕ, ◌+◌, ◌*◌, ◌/◌, ◌%◌, ◌^◌, cond, List, get_or, ltb, eqb}
 use Rattle.little.specs.declared.Size.{Size}
 use Rattle.little.specs.declared.Size.TheVariants.{Byte, Word, Long}
 use Rattle.state.specs.{declared.Bank.Bank, declared.State.State, State.long_of, State.with_long}

@@ -1,6 +1,6 @@
 -- What the type of a state says of its value: twenty registers, and each number fits where it is held.
 -- Every state that the code handles is so; a statement about every State of the specifications has to ask for it.
-use Rattle.little.specs.Words.{ℕ, ◌<◌, ◌^◌, ◌≡◌, length, get_or}
+use Rattle.std.specs.Prelude.{ℕ, ◌<◌, ◌^◌, ◌≡◌, length, get_or}
 use Rattle.state.specs.declared.State.{State}
 
 pub record Sound (s : State) : Type 0 where

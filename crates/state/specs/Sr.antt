@@ -1,5 +1,5 @@
 -- The status register SR.
-use Rattle.little.specs.Words.{ℕ, ◌+◌, ◌*◌, ◌/◌, ◌%◌, ◌^◌, Bool, ◌&&◌, eqb}
+use Rattle.std.specs.Prelude.{ℕ, ◌+◌, ◌*◌, ◌/◌, ◌%◌, ◌^◌, Bool, ◌&&◌, eqb}
 use Rattle.state.specs.declared.{Bank.Bank, Level.Level, State.State}
 use Rattle.state.specs.State.{f_of}
 

@@ -1,5 +1,5 @@
 -- The machine's state.
-use Rattle.little.specs.Words.{ℕ, ◌/◌, ◌%◌, ◌^◌, List, Bool, ◌&&◌, ◌||◌, get_or, set, replicate, ltb, eqb}
+use Rattle.std.specs.Prelude.{ℕ, ◌/◌, ◌%◌, ◌^◌, List, Bool, ◌&&◌, ◌||◌, get_or, set, replicate, ltb, eqb}
 use Rattle.state.specs.declared.{Bank.Bank, State.State}
 
 -- all zero

@@ -1,5 +1,5 @@
 -- Reset.
-use Rattle.little.specs.Words.{ℕ, ◌≡◌, List, cond, length}
+use Rattle.std.specs.Prelude.{ℕ, ◌≡◌, List, cond, length}
 use Rattle.answer.specs.declared.{Why.TheVariants.TooLong, Why.TheVariants.Missing, Answer.TheVariants.Done}
 use Rattle.little.specs.declared.Size.TheVariants.{Long}
 use Rattle.memory.specs.{declared.Loaded.Loaded, Access.load_of}

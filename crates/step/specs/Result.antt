@@ -1,5 +1,5 @@
 -- What a function answers of a step, and what a call leaves with it.
-use Rattle.little.specs.Words.{ℕ, List}
+use Rattle.std.specs.Prelude.{ℕ, List}
 use Rattle.answer.specs.declared.{Why.Why, Answer.TheVariants.Done, Answer.TheVariants.Refused}
 use Rattle.state.specs.declared.State.{State}
 use Rattle.operand.specs.Try.{Outcome}

@@ -1,5 +1,5 @@
 -- An instruction's bytes, shown where they stand.
-use Rattle.little.specs.Words.{ℕ, ◌^◌, ◌≡◌, List, [], cond, length, take, ltb, eqb}
+use Rattle.std.specs.Prelude.{ℕ, ◌^◌, ◌≡◌, List, [], cond, length, take, ltb, eqb}
 use Rattle.answer.specs.declared.{Answer.Answer, Answer.TheVariants.Done, Answer.TheVariants.Refused}
 use Rattle.answer.specs.declared.Why.TheVariants.{TooLong, Invalid, NoCode, Unlisted}
 use Rattle.memory.specs.{Access.code_at, Access.stands_at, Place.place_of}

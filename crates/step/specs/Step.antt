@@ -1,5 +1,5 @@
 -- One step: its checks in order, then the instruction at the counter.
-use Rattle.little.specs.Words.{ℕ, ◌^◌, ◌≡◌, List, Bool, cond, ◌||◌, length, ltb}
+use Rattle.std.specs.Prelude.{ℕ, ◌^◌, ◌≡◌, List, Bool, cond, ◌||◌, length, ltb}
 use Rattle.answer.specs.declared.Why.TheVariants.{TooLong, Invalid}
 use Rattle.state.specs.{declared.State.State, State.valid_of}
 use Rattle.turn.specs.Once.{once_of}

@@ -1,5 +1,5 @@
 -- A line that is being made: its bytes so far, and a byte more where there is room.
-use Rattle.little.specs.Words.{ℕ, ◌+◌, List, [], ◌∷◌, cond, take, set, replicate, ltb}
+use Rattle.std.specs.Prelude.{ℕ, ◌+◌, List, [], ◌∷◌, cond, take, set, replicate, ltb}
 use Rattle.text.specs.declared.Line.{Line}
 
 -- the bytes of a line so far

@@ -1,5 +1,5 @@
 -- Numbers as text, in ASCII, and fields with one space between.
-use Rattle.little.specs.Words.{ℕ, zero, suc, ◌+◌, ◌/◌, ◌%◌, List, [], ◌∷◌, ◌++◌, cond, ltb}
+use Rattle.std.specs.Prelude.{ℕ, zero, suc, ◌+◌, ◌/◌, ◌%◌, List, [], ◌∷◌, ◌++◌, cond, ltb}
 
 -- 0 to 9, then A to F
 abbrev pub digit_of : ℕ → ℕ

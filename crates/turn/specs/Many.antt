@@ -1,5 +1,5 @@
 -- Many steps of a state, whatever state it is, one after the other.
-use Rattle.little.specs.Words.{ℕ, zero, suc, ◌+◌, List}
+use Rattle.std.specs.Prelude.{ℕ, zero, suc, ◌+◌, List}
 use Rattle.answer.specs.declared.{Answer.Answer, Answer.TheVariants.Done, Answer.TheVariants.Refused}
 use Rattle.state.specs.declared.State.{State}
 use Rattle.operand.specs.Try.{did, no}

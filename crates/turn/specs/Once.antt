@@ -1,5 +1,5 @@
 -- What stands at the counter, done or refused.
-use Rattle.little.specs.Words.{ℕ, List}
+use Rattle.std.specs.Prelude.{ℕ, List}
 use Rattle.memory.specs.Access.{code_at}
 use Rattle.code.specs.Listed.{decode_of}
 use Rattle.state.specs.declared.State.{State}

@@ -1,5 +1,5 @@
 -- V of logic and shifts, as the function that looks it up promises it.
-use Rattle.little.specs.Words.{ℕ, Bool, not, ◌&&◌}
+use Rattle.std.specs.Prelude.{ℕ, Bool, not, ◌&&◌}
 use Rattle.flags.specs.Undefined.{by_parity, undefined_of, marks_v}
 use Rattle.alu.specs.Parity.{even_ones}
 

@@ -1,5 +1,5 @@
 -- What stays the same from place to place of a shift: all that one place is made by.
-use Rattle.little.specs.Words.{ℕ, ◌-◌, ◌^◌, ◌<◌, ◌≡◌, Bool, true, false}
+use Rattle.std.specs.Prelude.{ℕ, ◌-◌, ◌^◌, ◌<◌, ◌≡◌, Bool, true, false}
 use Rattle.flags.specs.{Width.weighed}
 use Rattle.alu.specs.{declared.Shift.Shift}
 use Rattle.alu.specs.declared.Shift.TheVariants.{Sla, Sra, Sll, Srl}

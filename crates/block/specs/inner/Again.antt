@@ -1,5 +1,5 @@
 -- Whether another round is done in the same call.
-use Rattle.little.specs.Words.{ℕ, Bool, true, false, ◌&&◌, ltb}
+use Rattle.std.specs.Prelude.{ℕ, Bool, true, false, ◌&&◌, ltb}
 use Rattle.memory.specs.declared.Place.{Place}
 use Rattle.memory.specs.declared.Place.TheVariants.{Ram, Rom, Missing}
 use Rattle.code.specs.declared.Form.{Form}

@@ -1,5 +1,5 @@
 -- What is put where the address of the operand is known, as the functions of compute::form promise it.
-use Rattle.little.specs.Words.{ℕ, List, cond}
+use Rattle.std.specs.Prelude.{ℕ, List, cond}
 use Rattle.answer.specs.declared.{Answer.Answer, Answer.TheVariants.Done, Answer.TheVariants.Refused}
 use Rattle.little.specs.declared.Size.{Size}
 use Rattle.flags.specs.declared.{Computed.Computed}

@@ -1,5 +1,5 @@
 -- An instruction's bytes in pieces, as the code makes them.
-use Rattle.little.specs.Words.{ℕ, zero, suc, ◌%◌, List, [], ◌∷◌, ◌++◌, map}
+use Rattle.std.specs.Prelude.{ℕ, zero, suc, ◌%◌, List, [], ◌∷◌, ◌++◌, map}
 use Rattle.little.specs.Bytes.{bytes_from}
 use Rattle.encode.specs.declared.spell.{Place.Place, Code.Code}
 

@@ -1,5 +1,5 @@
 -- Where an instruction leaves the counter.
-use Rattle.little.specs.Words.{ℕ, ◌+◌, ◌%◌, ◌^◌}
+use Rattle.std.specs.Prelude.{ℕ, ◌+◌, ◌%◌, ◌^◌}
 use Rattle.answer.specs.declared.{Answer.Answer, Answer.TheVariants.Done, Answer.TheVariants.Refused}
 
 -- where an answer leaves the counter: a refusal `here`, where the instruction stands

@@ -1,5 +1,5 @@
 -- What `exec::feed` promises: a form of the feed calculation, read and done.
-use Rattle.little.specs.Words.{ℕ, ◌≡◌, List, cond, eqb}
+use Rattle.std.specs.Prelude.{ℕ, ◌≡◌, List, cond, eqb}
 use Rattle.answer.specs.declared.{Answer.Answer, Answer.TheVariants.Done, Answer.TheVariants.Refused}
 use Rattle.answer.specs.declared.Why.{TheVariants.NoCode, TheVariants.Unlisted}
 use Rattle.state.specs.declared.State.{State}

@@ -1,6 +1,6 @@
 -- A number with a sign as the functions of feed::scale have it: how large it is, and apart from that whether it is below zero. The top
 -- bit of its bits has the weight t.
-use Rattle.little.specs.Words.{ℕ, ◌-◌, ◌*◌, Bool, cond, ◌&&◌, ltb, leb}
+use Rattle.std.specs.Prelude.{ℕ, ◌-◌, ◌*◌, Bool, cond, ◌&&◌, ltb, leb}
 
 -- how large x is
 abbrev pub magnitude_of : ℕ → ℕ → ℕ

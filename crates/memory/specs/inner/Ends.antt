@@ -1,5 +1,5 @@
 -- The missing byte by the ends of the memories, as the code finds it.
-use Rattle.little.specs.Words.{ℕ, ◌%◌, ◌^◌, cond}
+use Rattle.std.specs.Prelude.{ℕ, ◌%◌, ◌^◌, cond}
 use Rattle.memory.specs.Place.{ram_holds, rom_holds}
 
 -- the address past the end of the memory that holds a; where none does, a itself; either modulo 2^24

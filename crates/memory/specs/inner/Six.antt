@@ -1,5 +1,5 @@
 -- An operand of six bytes, which the code handles as its low two and its high four.
-use Rattle.little.specs.Words.{ℕ, ◌+◌, ◌*◌, ◌^◌, ◌<◌}
+use Rattle.std.specs.Prelude.{ℕ, ◌+◌, ◌*◌, ◌^◌, ◌<◌}
 use Rattle.memory.specs.declared.{Loaded.Loaded, LoadedSix.LoadedSix, LoadedSix.TheVariants.Values, LoadedSix.TheVariants.Missing}
 use Rattle.memory.specs.declared.Loaded.TheVariants as loaded
 

@@ -1,5 +1,5 @@
 -- What a room is filled with.
-use Rattle.little.specs.Words.{ℕ, List, ◌++◌, take, replicate}
+use Rattle.std.specs.Prelude.{ℕ, List, ◌++◌, take, replicate}
 
 -- n bytes: those of a record, and zeros past its end
 abbrev pub filled : ℕ → List ℕ → List ℕ

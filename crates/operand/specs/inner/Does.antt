@@ -1,5 +1,5 @@
 -- What a function within a step does, as its promise says it.
-use Rattle.little.specs.Words.{ℕ, ◌≡◌, List}
+use Rattle.std.specs.Prelude.{ℕ, ◌≡◌, List}
 use Rattle.answer.specs.declared.Answer.{Answer}
 use Rattle.state.specs.declared.State.{State}
 use Rattle.operand.specs.Try.{Try, after, leaves}

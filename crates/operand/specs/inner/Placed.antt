@@ -1,5 +1,5 @@
 -- An operand in the registers, by where it begins.
-use Rattle.little.specs.Words.{◌+◌, ◌%◌, ◌<◌, ◌≤◌, ◌≡◌, Bool, false, eqb}
+use Rattle.std.specs.Prelude.{◌+◌, ◌%◌, ◌<◌, ◌≤◌, ◌≡◌, Bool, false, eqb}
 use Rattle.little.specs.{declared.Size.Size, Width.bytes_of, Width.bits_of}
 use Rattle.little.specs.declared.Size.TheVariants.{Byte, Word, Long}
 use Rattle.state.specs.declared.{Bank.Bank, named.Field.Field}

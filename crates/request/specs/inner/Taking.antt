@@ -1,5 +1,5 @@
 -- What the functions within a request promise.
-use Rattle.little.specs.Words.{ℕ, ◌%◌, ◌^◌, ◌≡◌, List, true}
+use Rattle.std.specs.Prelude.{ℕ, ◌%◌, ◌^◌, ◌≡◌, List, true}
 use Rattle.memory.specs.inner.Six.{six_from}
 use Rattle.state.specs.{declared.State.State, Sr.sr_of}
 use Rattle.operand.specs.Try.{Try, after, leaves}

@@ -1,5 +1,5 @@
 -- A part of the registers by where it begins, as the functions of state::named promise it.
-use Rattle.little.specs.Words.{ℕ, ◌+◌, ◌*◌, ◌/◌, ◌%◌, ◌^◌, ◌<◌, ◌≤◌, ◌≡◌, List, cond, get_or, set, ltb}
+use Rattle.std.specs.Prelude.{ℕ, ◌+◌, ◌*◌, ◌/◌, ◌%◌, ◌^◌, ◌<◌, ◌≤◌, ◌≡◌, List, cond, get_or, set, ltb}
 use Rattle.little.specs.{declared.Size.Size, Width.bits_of}
 use Rattle.state.specs.{declared.named.Field.Field, Register.get_bits, Register.set_bits}
 

@@ -1,5 +1,5 @@
 -- A state whose parts lie apart, as the functions within a step are lent some of them.
-use Rattle.little.specs.Words.{ℕ, List}
+use Rattle.std.specs.Prelude.{ℕ, List}
 use Rattle.state.specs.{declared.Bank.Bank, declared.State.State, State.lent, State.nested}
 
 -- the registers, the bank and F

@@ -1,5 +1,5 @@
 -- Several steps in one call.
-use Rattle.little.specs.Words.{ℕ, Bool, zero, suc, ◌+◌, ◌%◌, ◌^◌, ◌≤◌, ◌≡◌, List, cond, eqb}
+use Rattle.std.specs.Prelude.{ℕ, Bool, zero, suc, ◌+◌, ◌%◌, ◌^◌, ◌≤◌, ◌≡◌, List, cond, eqb}
 use Rattle.answer.specs.declared.{Answer.Answer, Answer.TheVariants.Done, Answer.TheVariants.Refused}
 use Rattle.memory.specs.Access.{code_at}
 use Rattle.state.specs.{declared.State.State, inner.Lent.standing_at}
