@@ -28,7 +28,7 @@ static const struct size memory_sizes[] = {{0, 1}, {0, 0}, {255, 0}, {256, 0}, {
 static const struct size whole = {92, 0}, small = {256, 0};
 
 static struct lent record, ram, rom;
-static uint32_t word[3], kept_word;   /* `done`, `length` or `written`, between two others */
+static uint32_t word[3], kept_word;   /* `done` or `length`, between two others */
 static uint32_t place[3], kept_place; /* `at`, between two others */
 static uint8_t flag[3], kept_flag;    /* `taken`, between two others */
 static uint8_t noise;                 /* 00H, then FFH: a byte written by mistake differs from what stood there in one of them */
@@ -126,14 +126,6 @@ static uint8_t widen(void) { return tlcs900h_widen(at(&record), record.length, a
 
 static uint8_t narrow(void) { return tlcs900h_narrow(at(&record), record.length, at(&ram), ram.length); }
 
-/* A row of code stands where records stand, and the room for it where RAM otherwise stands. So much is `written`, which does not stand
-   there before. */
-static uint8_t rewrite_to(uint32_t written) {
-    kept_word = written;
-    word[1] = ~written;
-    return tlcs900h_rewrite(at(&record), record.length, at(&ram), ram.length, &word[1]);
-}
-
 static int too_long(void) { return ram.length > 65536 || rom.length > 65536; }
 
 /* Does a thing for every length of the record and of both memories. */
@@ -158,14 +150,12 @@ static void same_number(unsigned long is, unsigned long expected) {
 
 static void constants(void) {
     same_number(TLCS900H_VERSION_MAJOR, 3);
-    same_number(TLCS900H_VERSION_MINOR, 5);
+    same_number(TLCS900H_VERSION_MINOR, 4);
     same_number(TLCS900H_RECORD, 92);
     same_number(TLCS900H_OLD_RECORD, 88);
     same_number(TLCS900H_MEMORY, 65536);
     same_number(TLCS900H_LEAST_ROM, 256);
     same_number(TLCS900H_MOST_STEPS, 1000000);
-    same_number(TLCS900H_MOST_LISTED, 64);
-    same_number(TLCS900H_LONGEST, 7);
     same_number(TLCS900H_XIX, 64);
     same_number(TLCS900H_XIY, 68);
     same_number(TLCS900H_XIZ, 72);
@@ -218,11 +208,7 @@ static void numbers(void) {
     same_name(TLCS900H_UNDEFINED, 8, "undefined flag");
     same_name(TLCS900H_BAD_REQUEST, 9, "bad request");
     same_name(TLCS900H_NO_OLD_FORM, 10, "no old form");
-    same_name(TLCS900H_NO_LIST, 30, "no such list");
-    same_name(TLCS900H_NO_ROOM, 31, "no room");
     same_name(11, 11, "no such number");
-    same_name(29, 29, "no such number");
-    same_name(32, 32, "no such number");
     same_name(255, 255, "no such number");
 }
 
@@ -1508,174 +1494,6 @@ static void all_moves(void) {
     turn_moved_bits(0, 2 | 4);
 }
 
-/* ---- rows of code, read and written again: 30, 3 or 4, as the row is read from its front; then 31 */
-static void lend_row(struct size size, struct size room) {
-    lend(&record, size);
-    lend(&ram, room);
-    lend(&rom, small);
-}
-
-/* Writes again what was lent; done, the room begins with the same bytes. */
-static void rewrite_held(uint8_t number) {
-    keep();
-    if (number == 0) memcpy(kept(&ram), kept(&record), record.length);
-    held("rewrite", rewrite_to(number == 0 ? (uint32_t)record.length : 0), number);
-    if (number == 0) return;
-    held("rewrite", rewrite_to(0), number); /* the same again, while nothing has changed */
-}
-
-/* A row of NOPs; and with a byte at an end of it that begins no instruction, or one that it does not end. */
-static void nops_at(struct size size, struct size room) {
-    uint8_t *row = record.bytes + GUARD;
-    int many = size.length > TLCS900H_MOST_LISTED;
-    lend_row(size, room);
-    memset(row, 0, size.length);
-    rewrite_held(many ? TLCS900H_NO_LIST : room.length < size.length ? TLCS900H_NO_ROOM : 0);
-    if (size.length == 0) return;
-    lend_row(size, room);
-    memset(row, 0, size.length);
-    row[size.length - 1] = 0x01;
-    rewrite_held(many ? TLCS900H_NO_LIST : 4);
-    row[size.length - 1] = 0x20;
-    rewrite_held(many ? TLCS900H_NO_LIST : 3);
-    row[0] = 0x01;
-    rewrite_held(4);
-}
-
-static void rows_at(void) {
-    static const struct size sizes[] = {{0, 1},   {0, 0},   {1, 0},   {2, 0},   {63, 0},  {64, 0},    {65, 0},    {66, 0},   {128, 0},
-                                        {255, 0}, {256, 0}, {320, 0}, {448, 0}, {449, 0}, {65535, 0}, {65536, 0}, {65537, 0}};
-    size_t i, j;
-    for (i = 0; i < COUNT(sizes); i++)
-        for (j = 0; j < COUNT(sizes); j++) nops_at(sizes[i], sizes[j]);
-}
-
-/* A row that is put together piece by piece. */
-static uint8_t pieces[1024];
-static size_t pieces_length;
-
-static void add(int times, const uint8_t *bytes, size_t length) {
-    for (; times > 0; times--, pieces_length += length) memcpy(pieces + pieces_length, bytes, length);
-}
-
-static void row_of(int times, const struct code *c) {
-    pieces_length = 0;
-    add(times, c->bytes, c->length);
-}
-
-/* The row in a room of no byte, in rooms that are short of a byte, right, and a byte too long, and in a very long one. */
-static void row_held(uint8_t number) {
-    size_t length = pieces_length, i;
-    size_t rooms[5] = {0, 0, 0, 0, 65537};
-    rooms[1] = length > 0 ? length - 1 : 0;
-    rooms[2] = length;
-    rooms[3] = length + 1;
-    for (i = 0; i < COUNT(rooms); i++) {
-        struct size size = {0, 0}, room = {0, 0};
-        size.length = length;
-        room.length = rooms[i];
-        lend_row(size, room);
-        memcpy(record.bytes + GUARD, pieces, length);
-        rewrite_held(number == 0 && rooms[i] < length ? (uint8_t)TLCS900H_NO_ROOM : number);
-    }
-}
-
-/* An instruction, alone, as often as a list may have it and once more; and cut behind each of its bytes, within a list and behind one. */
-static void listed_held(const struct code *c) {
-    static const uint8_t nop[1] = {0};
-    size_t cut;
-    row_of(1, c);
-    row_held(0);
-    row_of(64, c);
-    row_held(0);
-    row_of(65, c);
-    row_held(TLCS900H_NO_LIST);
-    pieces_length = 0;
-    add(63, nop, 1);
-    add(1, c->bytes, c->length);
-    row_held(0);
-    for (cut = 1; cut < c->length; cut++) {
-        row_of(1, c);
-        pieces_length = cut;
-        row_held(3);
-        row_of(63, c);
-        add(1, c->bytes, cut);
-        row_held(3);
-        row_of(64, c);
-        add(1, c->bytes, cut);
-        row_held(TLCS900H_NO_LIST);
-    }
-}
-
-/* Bytes that begin nothing, in front, as the last that a list may have, and behind that, where they are not judged. */
-static void unlisted_held(const struct code *c) {
-    static const uint8_t nop[1] = {0};
-    row_of(1, c);
-    row_held(4);
-    add(70, nop, 1);
-    row_held(4);
-    pieces_length = 0;
-    add(63, nop, 1);
-    add(1, c->bytes, c->length);
-    row_held(4);
-    add(5, nop, 1);
-    row_held(4);
-    pieces_length = 0;
-    add(64, nop, 1);
-    add(1, c->bytes, c->length);
-    row_held(TLCS900H_NO_LIST);
-}
-
-/* Instructions that do the same under two codes: a constant loaded, a register loaded, a place, an address, a displacement, a shift, a
-   register named by a byte. Each comes back as it was. */
-static const struct code twice[][2] = {{{2, {0x20, 0x5A}}, {3, {0xC8, 0x03, 0x5A}}},
-                                       {{5, {0x47, 1, 2, 3, 4}}, {6, {0xEF, 0x03, 1, 2, 3, 4}}},
-                                       {{2, {0xC9, 0x8B}}, {2, {0xCB, 0x99}}},
-                                       {{2, {0x83, 0x21}}, {3, {0x8B, 0x00, 0x21}}},
-                                       {{2, {0xB3, 0x41}}, {3, {0xBB, 0x00, 0x41}}},
-                                       {{3, {0xC0, 0x07, 0x21}}, {4, {0xC1, 0x07, 0x00, 0x21}}},
-                                       {{4, {0xF1, 0x07, 0x00, 0x41}}, {5, {0xF2, 0x07, 0x00, 0x00, 0x41}}},
-                                       {{3, {0x1A, 0x34, 0x12}}, {4, {0x1B, 0x34, 0x12, 0x00}}},
-                                       {{3, {0x1C, 0x34, 0x12}}, {4, {0x1D, 0x34, 0x12, 0x00}}},
-                                       {{2, {0x66, 0xF0}}, {3, {0x76, 0xF0, 0xFF}}},
-                                       {{3, {0xDB, 0xEC, 0x04}}, {3, {0xDB, 0xEE, 0x04}}},
-                                       {{2, {0xC9, 0x61}}, {3, {0xC7, 0xE0, 0x61}}},
-                                       {{3, {0xCF, 0x08, 0x5A}}, {4, {0xC7, 0xEC, 0x08, 0x5A}}}};
-
-static void forms_kept(void) {
-    size_t i, j;
-    for (i = 0; i < COUNT(twice); i++)
-        for (j = 0; j < 2; j++) {
-            row_of(1, &twice[i][j]);
-            row_held(0);
-            add(1, twice[i][1 - j].bytes, twice[i][1 - j].length);
-            row_held(0);
-        }
-}
-
-/* All of the listed ones of above in one row, from front to back and from back to front; and twice that, and the fewest too many. */
-static void all_in_a_row(void) {
-    int left = (int)COUNT(listed), more = 64 - 2 * left;
-    size_t i;
-    pieces_length = 0;
-    for (i = 0; i < COUNT(listed); i++) add(1, listed[i].bytes, listed[i].length);
-    row_held(0);
-    for (i = COUNT(listed); i > 0; i--) add(1, listed[i - 1].bytes, listed[i - 1].length);
-    row_held(0);
-    add(more, listed[3].bytes, listed[3].length);
-    row_held(0);
-    add(1, listed[0].bytes, listed[0].length);
-    row_held(TLCS900H_NO_LIST);
-}
-
-static void all_rows(void) {
-    size_t i;
-    for (i = 0; i < COUNT(listed); i++) listed_held(&listed[i]);
-    for (i = 0; i < COUNT(unlisted); i++) unlisted_held(&unlisted[i]);
-    forms_kept();
-    all_in_a_row();
-}
-
 static void group(const char *name, void (*does)(void)) {
     tried = wrong = 0;
     noise = 0;
@@ -1716,8 +1534,6 @@ int main(void) {
     group("records with one bit turned over", record_bits);
     group("records moved at every length", moves);
     group("records moved with every mark and with one bit turned over", all_moves);
-    group("rows written again at every length", rows_at);
-    group("rows of instructions, whole, cut and bad, as many as there may be and one more", all_rows);
     printf("%u passed, %u failed\n", passed, failed);
     return failed != 0;
 }

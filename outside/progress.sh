@@ -13,7 +13,8 @@ tell() {
 stale() {
   product=$1
   shift
-  [ ! -e "$product" ] || [ -n "$(find "$@" -newer "$product" -print -quit)" ]
+  # what the prover keeps in out/ is made, and no source
+  [ ! -e "$product" ] || [ -n "$(find "$@" -name out -prune -o -newer "$product" -print -quit)" ]
 }
 
 # How many crates there are to prove for those named: these and all that they know; with none named, every crate.

@@ -5,9 +5,7 @@
  * banks, and behind a register it is also DIVS with a constant and MINC2 with a number; from RAM and from ROM; with registers
  * that point to RAM, to ROM and to neither; with H and V of F and F' marked, and with no mark. Requests of every level have
  * their vector in RAM, in ROM and in neither. Records that are moved are good ones, of which the old form holds some, and such
- * as are cut short. Rows that are written again have the instruction alone, or in front of or behind so many NOPs that the list
- * is about as long as it may be, or too long; or the row is cut, or the room too short. The header names a bound, and one of its
- * own for these; the last line counts the calls that keep below it.
+ * as are cut short. The header names a bound; the last line counts the calls that keep below it.
  * Stack that is set aside and never written is not seen. For x86-64.
  */
 #define _XOPEN_SOURCE 700
@@ -17,14 +15,14 @@
 
 #include "tlcs900h.h"
 
-enum { CASES = 256, MEMORY = 256, SPACE = 65536, ROW = TLCS900H_MOST_LISTED + 2 * TLCS900H_LONGEST };
+enum { CASES = 256, MEMORY = 256, SPACE = 65536 };
 
 static uint8_t records[CASES][TLCS900H_RECORD], rams[CASES][MEMORY], roms[CASES][MEMORY];
 static uint8_t space[SPACE], *top; /* the painted stack; where it stood just before a call */
 static uint32_t counter, count, place;
 static uint8_t was_taken;
-static uint8_t moved[TLCS900H_RECORD], rows[CASES][ROW], room[ROW];
-static unsigned long answers[TLCS900H_NO_ROOM + 1], taken_requests;
+static uint8_t moved[TLCS900H_RECORD];
+static unsigned long answers[11], taken_requests;
 static ucontext_t here, there;
 
 /* The stack pointer: what a call pushes for itself lies below it. */
@@ -75,26 +73,6 @@ static void narrows(void) {
     for (int i = 0; i < CASES; i++) answers[tlcs900h_narrow(records[i], cut(TLCS900H_RECORD, i), moved, TLCS900H_OLD_RECORD)]++;
 }
 
-/* Where an instruction stands among NOPs, and how long the row and the room are. */
-enum { LAST = TLCS900H_MOST_LISTED - TLCS900H_LONGEST };
-struct shape {
-    size_t place, length, room;
-};
-static const struct shape shapes[6] = {
-    {0, TLCS900H_LONGEST, TLCS900H_LONGEST},
-    {0, TLCS900H_MOST_LISTED, ROW},
-    {LAST, TLCS900H_MOST_LISTED, TLCS900H_MOST_LISTED},
-    {LAST, ROW, ROW},                                    /* too many */
-    {LAST, LAST + 1, ROW},                               /* cut */
-    {0, TLCS900H_MOST_LISTED, TLCS900H_MOST_LISTED - 1}, /* no room */
-};
-static const struct shape *shape;
-
-static void rewrites(void) {
-    MARK();
-    for (int i = 0; i < CASES; i++) answers[tlcs900h_rewrite(rows[i], shape->length, room, shape->room, &count)]++;
-}
-
 static void put(uint8_t *to, uint32_t value) {
     for (int i = 0; i < 4; i++, value >>= 8) to[i] = (uint8_t)value;
 }
@@ -104,13 +82,11 @@ static void prepare(int first, int second, int behind, int in_rom, uint32_t poin
     counter = in_rom ? 0xFFFF10 : 0x10;
     memset(rams, 0, sizeof rams);
     memset(roms, 0, sizeof roms);
-    memset(rows, 0, sizeof rows);
     for (int i = 0; i < CASES; i++) {
         uint8_t *code = (in_rom ? roms : rams)[i] + 0x10;
         code[0] = (uint8_t)first;
         code[1] = (uint8_t)second;
         code[1 + behind] = (uint8_t)i;
-        memcpy(rows[i] + shape->place, code, TLCS900H_LONGEST);
         put(roms[i], counter);
         for (int r = TLCS900H_XWA; r <= TLCS900H_XSP; r += 4) put(records[i] + r, pointer);
         put(records[i] + TLCS900H_COUNTER, counter);
@@ -140,7 +116,6 @@ static size_t most_of(void (*call)(void), int first, int second) {
     size_t deepest = 0;
     for (int round = 0; round < 24; round++) {
         size_t bytes;
-        shape = &shapes[round / 4]; /* a row asks for no memory and no pointer */
         prepare(first, second, round % 4, round / 4 % 2, pointers[round / 8]);
         bytes = taken(call, first % 2 ? 0xA5 : 0x5A);
         if (bytes > deepest) deepest = bytes;
@@ -164,18 +139,16 @@ static size_t most(void (*call)(void)) {
     return deepest;
 }
 
-static int keeps_below(size_t bound, const char *name, void (*call)(void)) {
+static int keeps(const char *name, void (*call)(void)) {
     size_t bytes;
     memset(answers, 0, sizeof answers);
     bytes = most(call);
-    printf("%s takes %lu bytes of stack at most; it answered 0 to 6, 8 to 10, 30 and 31 so often:", name, (unsigned long)bytes);
-    for (int number = 0; number <= TLCS900H_NO_ROOM; number++)
-        if (number != TLCS900H_TOO_MANY && (number <= TLCS900H_NO_OLD_FORM || number >= TLCS900H_NO_LIST)) printf(" %lu", answers[number]);
+    printf("%s takes %lu bytes of stack at most; it answered 0 to 6 and 8 to 10 so often:", name, (unsigned long)bytes);
+    for (int number = 0; number <= TLCS900H_NO_OLD_FORM; number++)
+        if (number != TLCS900H_TOO_MANY) printf(" %lu", answers[number]);
     printf("\n");
-    return bytes < bound && answers[0] > 0;
+    return bytes < TLCS900H_STACK && answers[0] > 0;
 }
-
-static int keeps(const char *name, void (*call)(void)) { return keeps_below(TLCS900H_STACK, name, call); }
 
 int main(void) {
     int passed = 0;
@@ -186,8 +159,6 @@ int main(void) {
     passed += keeps("tlcs900h_request", requests) && taken_requests > 0;
     passed += keeps("tlcs900h_widen", widens) && answers[TLCS900H_INVALID] > 0;
     passed += keeps("tlcs900h_narrow", narrows) && answers[TLCS900H_INVALID] > 0 && answers[TLCS900H_NO_OLD_FORM] > 0;
-    passed += keeps_below(TLCS900H_REWRITE_STACK, "tlcs900h_rewrite", rewrites) && answers[TLCS900H_NO_CODE] > 0 &&
-              answers[TLCS900H_UNLISTED] > 0 && answers[TLCS900H_NO_LIST] > 0 && answers[TLCS900H_NO_ROOM] > 0;
-    printf("%d passed, %d failed\n", passed, 8 - passed);
-    return passed != 8;
+    printf("%d passed, %d failed\n", passed, 7 - passed);
+    return passed != 7;
 }

@@ -15,20 +15,19 @@ END
 apart=run::run
 
 doc=$(rt doc)
-kit=${doc%/docs/*}
-own=$kit/on/$(uname -m)
+kit=${doc%/*}
 
 # An archive of objects, or of those in archives.
 archive() { # FILE FROM...
-  "$own/toolchain/bin/llvm-ar" qcsDL "$@"
+  "$kit/toolchain/bin/llvm-ar" qcsDL "$@"
 }
 
 # Makes the objects in each way of standard input, in INTO/NAME: all in one reading of the crates, side by side. Where FIRST is given, the
-# proved libraries in it stand before those of target/rlib. It works in a folder of its own, since one that was broken off may still go on.
+# proved libraries in it stand before those of crates/. It works in a folder of its own, since one that was broken off may still go on.
 in_ways() { # INTO [FIRST]
   mkdir -p target
   into=$(mktemp -d "$PWD/target/ways.XXXXXX")
-  goal=$1 first=${2:-target/rlib} working= broken=
+  goal=$1 first=${2-} working= broken=
   cat >"$into/ways"
   printf '%s,noinline\n' $apart >"$into/ways.apart"
   for crate in $surface; do
@@ -51,17 +50,20 @@ in_ways() { # INTO [FIRST]
 prove_crate() {
   crate=$1 folder=$2 before=$3
   shift 3
-  for library in $(sed -nE "s/^$crate: *//p" crates.txt); do set -- "$@" --extern "$library=target/rlib/$library.rlib"; done
-  "$own/bin/rattle" build --crate-name "$crate" "$folder/src/lib.rt" --extern "std=$own/rlib/std.rlib" "$@" \
-    -L "dependency=$before" -L dependency=target/rlib -L "dependency=$own/rlib" \
-    --antt-project "$kit/logic/antt-project.json" --logic-built "$own/logic-built"
+  # where the proved libraries lie: those of FIRST, then those that rt made
+  lies() { if [ -n "$before" ] && [ -e "$before/$1.rlib" ]; then echo "$before/$1.rlib"; else echo "$PWD/crates/$1/out/rlib/$1.rlib"; fi; }
+  for library in $(sed -nE "s/^$crate( staticlib)?: *//p" crates.txt); do set -- "$@" --extern "$library=$(lies "$library")"; done
+  [ -z "$before" ] || set -- "$@" -L "dependency=$before"
+  for library in crates/*/out/rlib; do set -- "$@" -L "dependency=$PWD/$library"; done
+  (cd "$folder" && "$kit/bin/rattle" build --crate-name "$crate" src/lib.rt --extern "std=$kit/rlibs/std.rlib" "$@" \
+    -L "dependency=$kit/rlibs" --antt-project "$kit/rattle/logic/antt-project.json" --logic-built "$kit/logic_built")
 }
 
 # A folder of tools for the prover: scripts that call the kit's. Its compiler does what it is told, once for each way with the way's words
 # behind, and then without. The prover calls them with an empty environment, so that they have all paths in them.
 tools_for() { # CRATE FOLDER
   mkdir -p "$2/bin"
-  ln -s "$own/toolchain/lib" "$2/lib"
+  ln -s "$kit/toolchain/lib" "$2/lib"
   for tool in clang llvm-ar ld.lld; do
     {
       echo '#!/bin/sh'
@@ -77,11 +79,11 @@ while IFS=: read -r name words; do
       *) set -- "\$@" -mllvm "-\$word" ;;
       esac
     done
-    exec "$own/toolchain/bin/clang" "\$@" -o "$into/\$name/$1.o" </dev/null
+    exec "$kit/toolchain/bin/clang" "\$@" -o "$into/\$name/$1.o" </dev/null
   ) || exit
 done <"$into/ways"
 END
-      echo "exec \"$own/toolchain/bin/$tool\" \"\$@\""
+      echo "exec \"$kit/toolchain/bin/$tool\" \"\$@\""
     } >"$2/bin/$tool"
     chmod +x "$2/bin/$tool"
   done

@@ -5,3 +5,4 @@ pub mod Laying
 pub mod Held
 pub mod Laws
 pub mod Finds
+pub mod Ends

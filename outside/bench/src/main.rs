@@ -10,10 +10,10 @@
 //!
 //! The first prints the table; the counts of machine instructions come from
 //! outside, since a program cannot count its own. `--brief` only sees that
-//! every mix, every kind, every request, every move and every rewrite works, on both
-//! machines alike. The others are for those who count: `--mixes` names the mixes,
-//! `--kinds` the kinds and the sizes of each, the requests, the moves and the rewrites
-//! among them; `--only` does a mix, or a kind at a size, once.
+//! every mix, every kind, every request and every move works, on both machines
+//! alike. The others are for those who count: `--mixes` names the mixes, `--kinds`
+//! the kinds and the sizes of each, the requests and the moves among them; `--only`
+//! does a mix, or a kind at a size, once.
 
 #![forbid(unsafe_code)]
 
@@ -75,9 +75,6 @@ trait Worker {
     fn widen(&mut self) -> u8;
     /// Moves the state's record to the old form, at the start of RAM.
     fn narrow(&mut self) -> u8;
-    /// Reads ROM as a row of instructions and writes it again, at the start of RAM:
-    /// whether all of it was written.
-    fn rewrite(&mut self) -> bool;
 }
 
 struct Proved {
@@ -119,10 +116,6 @@ impl Worker for Proved {
     fn narrow(&mut self) -> u8 {
         LIBRARY.narrow(&self.record, &mut self.ram[..OLD_LENGTH])
     }
-
-    fn rewrite(&mut self) -> bool {
-        LIBRARY.rewrite(&self.rom, &mut self.ram) == (0, self.rom.len() as u32)
-    }
 }
 
 impl Worker for Scene {
@@ -147,10 +140,6 @@ impl Worker for Scene {
 
     fn narrow(&mut self) -> u8 {
         second::narrow(&self.record(), &mut self.ram[..OLD_LENGTH])
-    }
-
-    fn rewrite(&mut self) -> bool {
-        second::rewrite(&self.rom, &mut self.ram) == (0, self.rom.len() as u32)
     }
 }
 
@@ -185,7 +174,6 @@ fn a_turn(worker: &mut impl Worker, turn: &Turn) -> bool {
         } => worker.request(level, turns::VECTOR) == (taken, 0) && (!returns || worker.step() == 0),
         Deed::Widen => worker.widen() == 0,
         Deed::Narrow { number, .. } => worker.narrow() == number,
-        Deed::Rewrite { .. } => worker.rewrite(),
     }
 }
 

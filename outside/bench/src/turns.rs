@@ -1,5 +1,5 @@
-//! Requests, moves and rewrites, to see what one costs: each turn is a call, and
-//! for some a step more.
+//! Requests and moves, to see what one costs: each turn is a call, and for some
+//! a step more.
 
 use crate::scene::Scene;
 
@@ -25,11 +25,9 @@ pub enum Deed {
         nesting: u16,
         number: u8,
     },
-    /// A row of so many instructions is read and written again.
-    Rewrite { count: usize },
 }
 
-pub const TURNS: [Turn; 8] = [
+pub const TURNS: [Turn; 6] = [
     Turn {
         name: "request, taken",
         deed: Deed::Request {
@@ -72,27 +70,6 @@ pub const TURNS: [Turn; 8] = [
             number: 10,
         },
     },
-    Turn {
-        name: "rewrite, one",
-        deed: Deed::Rewrite { count: 1 },
-    },
-    Turn {
-        name: "rewrite, 64",
-        deed: Deed::Rewrite { count: 64 },
-    },
-];
-
-/// The instructions of a row, over and over: constants, memory, jumps and a
-/// register of another bank.
-const ROW: [&[u8]; 8] = [
-    &[0x21, 0x05],
-    &[0xC9, 0xC8, 0x03],
-    &[0xF1, 0x00, 0x80, 0x41],
-    &[0x66, 0x10],
-    &[0x43, 0x00, 0x20, 0x00, 0x00],
-    &[0x83, 0xF1],
-    &[0x1D, 0x00, 0x00, 0xFF],
-    &[0xC7, 0x25, 0x61],
 ];
 
 /// Where the vector is: ROM's last bytes.
@@ -105,13 +82,8 @@ const RETI: u8 = 0x07;
 const STACK: [(u8, u32); 1] = [(7, 0x1_0000)];
 
 impl Turn {
-    /// ROM begins with the handler, which is RETI, and ends with its vector. For a
-    /// rewrite it is the row.
+    /// ROM begins with the handler, which is RETI, and ends with its vector.
     pub fn scene(&self) -> Scene {
-        if let Deed::Rewrite { count } = self.deed {
-            let codes = ROW.into_iter().cycle().take(count);
-            return Scene::new(codes.flatten().copied().collect(), &STACK);
-        }
         let mut rom = vec![0; ROM_LENGTH];
         rom[0] = RETI;
         rom[ROM_LENGTH - 4..].copy_from_slice(&[0x00, 0xFF, 0xFF, 0x00]);

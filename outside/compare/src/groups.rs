@@ -14,7 +14,6 @@ mod misuse;
 mod moves;
 mod records;
 mod requests;
-mod rewrites;
 mod runs;
 mod straddles;
 
@@ -95,11 +94,6 @@ pub const GROUPS: &[Group] = &[
     Group("move-noise", moves::noise),
     Group("moves-and-back", moves::and_back),
     Group("moves-after-steps", moves::after_steps),
-    Group("rewrite-codes", rewrites::codes),
-    Group("rewrite-rows", rewrites::rows),
-    Group("rewrite-most", rewrites::most),
-    Group("rewrite-noise", rewrites::noise),
-    Group("rewrite-rooms", rewrites::rooms),
     Group("memory-lengths", memories::lengths),
     Group("reset", memories::reset),
     Group("show", memories::show),

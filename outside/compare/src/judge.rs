@@ -47,9 +47,9 @@ impl Guarded {
     }
 }
 
-/// What a call answered. The count is the steps of a run, the length of what is
-/// shown and of what is written again, and 1 for a request that was taken; the
-/// address is a step's, a run's or a request's. A call that has no count, or no address, has 0
+/// What a call answered. The count is the steps of a run and the length of
+/// what is shown, and 1 for a request that was taken; the address is a step's,
+/// a run's or a request's. A call that has no count, or no address, has 0
 /// there.
 #[derive(Clone, Copy, Debug, PartialEq, Eq)]
 pub struct Answer {
@@ -77,11 +77,6 @@ impl Answer {
     /// The answer of a request.
     pub fn request((taken, number, at): (u8, u8, u32)) -> Answer {
         Answer::run((u32::from(taken), number, at))
-    }
-
-    /// The answer of a rewrite.
-    pub fn rewrite((number, written): (u8, u32)) -> Answer {
-        Answer::counted((written, number))
     }
 
     /// The answer that has no address, as that of a show.
@@ -122,59 +117,6 @@ impl Moves {
     }
 }
 
-/// What became of the rows that were read and written again.
-#[derive(Clone, Copy, Debug, Default)]
-pub struct Rewrites {
-    pub done: u64,
-    /// Those refused with 3.
-    pub cut: u64,
-    /// Those refused with 4.
-    pub unlisted: u64,
-    /// Those refused with 30.
-    pub too_many: u64,
-    /// Those refused with 31.
-    pub no_room: u64,
-}
-
-impl Rewrites {
-    pub fn all(self) -> u64 {
-        self.by_number().iter().map(|(_, times)| times).sum()
-    }
-
-    /// The numbers that there can be, each with how often it was answered.
-    pub fn by_number(self) -> [(u8, u64); 5] {
-        [
-            (0, self.done),
-            (3, self.cut),
-            (4, self.unlisted),
-            (30, self.too_many),
-            (31, self.no_room),
-        ]
-    }
-
-    fn and(self, other: Rewrites) -> Rewrites {
-        Rewrites {
-            done: self.done + other.done,
-            cut: self.cut + other.cut,
-            unlisted: self.unlisted + other.unlisted,
-            too_many: self.too_many + other.too_many,
-            no_room: self.no_room + other.no_room,
-        }
-    }
-
-    fn add(&mut self, number: u8) {
-        match number {
-            0 => self.done += 1,
-            3 => self.cut += 1,
-            4 => self.unlisted += 1,
-            30 => self.too_many += 1,
-            31 => self.no_room += 1,
-            // The other machine has none of these, so it is told of.
-            _ => {}
-        }
-    }
-}
-
 /// What has been compared.
 #[derive(Clone, Copy, Debug, Default)]
 pub struct Tally {
@@ -192,13 +134,11 @@ pub struct Tally {
     pub widened: Moves,
     /// Records moved back.
     pub narrowed: Moves,
-    /// Rows read and written again.
-    pub rewritten: Rewrites,
     /// Other calls.
     pub others: u64,
     /// Steps that the library did, by either call.
     pub done: u64,
-    /// How often each number to 10 was answered. Only a rewrite has higher ones.
+    /// How often each number was answered.
     pub met: [u64; 11],
 }
 
@@ -212,7 +152,6 @@ impl Tally {
         self.left += other.left;
         self.widened = self.widened.and(other.widened);
         self.narrowed = self.narrowed.and(other.narrowed);
-        self.rewritten = self.rewritten.and(other.rewritten);
         self.others += other.others;
         self.done += other.done;
         for (met, more) in self.met.iter_mut().zip(other.met) {
@@ -244,7 +183,6 @@ impl Tally {
             }
             Call::Widen => self.widened.add(answer.number),
             Call::Narrow => self.narrowed.add(answer.number),
-            Call::Rewrite => self.rewritten.add(answer.number),
             Call::Reset | Call::Show(_) => self.others += 1,
         }
         if let Some(met) = self.met.get_mut(usize::from(answer.number)) {
@@ -353,7 +291,6 @@ impl Judge {
             }
             Call::Widen => Answer::number(self.library.widen(record, ram)),
             Call::Narrow => Answer::number(self.library.narrow(record, ram)),
-            Call::Rewrite => Answer::rewrite(self.library.rewrite(record, ram)),
         };
 
         self.other_record.clone_from(&case.record);
@@ -423,7 +360,7 @@ impl Judge {
         println!("DISAGREE");
         println!("  --case '{}'", case.text());
         match case.call {
-            Call::Widen | Call::Narrow | Call::Rewrite => {}
+            Call::Widen | Call::Narrow => {}
             Call::Request(..) => println!("  vector:  {}", spaced(case.code())),
             _ => println!("  code:    {}", spaced(case.code())),
         }
@@ -432,17 +369,13 @@ impl Judge {
         let others = written(case.call, &self.other_record, &self.other_ram);
         println!("  second:  {}", told(case.call, other, others));
         for (place, ours, others) in differing(self.record.bytes(), &self.other_record) {
-            let name = match case.call {
-                Call::Rewrite => format!("byte {place} of the row"),
-                _ => field(place),
-            };
+            let name = field(place);
             println!("  {name}: library {ours:02X}, second {others:02X}");
         }
         for (place, ours, others) in differing(self.ram.bytes(), &self.other_ram) {
-            let name = match case.call {
-                Call::Widen | Call::Narrow => format!("the room's {}", field(place)),
-                Call::Rewrite => format!("byte {place} of the room"),
-                _ => format!("RAM {place:04X}"),
+            let name = match case.call.moves() {
+                true => format!("the room's {}", field(place)),
+                false => format!("RAM {place:04X}"),
             };
             println!("  {name}: library {ours:02X}, second {others:02X}");
         }
@@ -505,25 +438,23 @@ fn register_at(place: usize) -> String {
     }
 }
 
-/// Where a call leaves a record, or a row: the one that it is given to move, or to
-/// write again, stays. Of a row's room as much as the row has is told.
+/// Where a call leaves a record: a move does not write the one that it is given.
 fn written<'a>(call: Call, record: &'a [u8], ram: &'a [u8]) -> &'a [u8] {
-    match call {
-        Call::Widen | Call::Narrow => ram,
-        Call::Rewrite => &ram[..ram.len().min(record.len())],
-        _ => record,
+    if call.moves() {
+        ram
+    } else {
+        record
     }
 }
 
 fn told(call: Call, answer: Answer, record: &[u8]) -> String {
     let Answer { count, number, at } = answer;
     let record = hex(record);
-    let (counted, left) = match call {
-        Call::Request(..) => ("taken", "record"),
-        Call::Rewrite => ("written", "room"),
-        _ => ("count", "record"),
+    let counted = match call {
+        Call::Request(..) => "taken",
+        _ => "count",
     };
-    format!("number {number}, address {at:06X}, {counted} {count}, {left} {record}")
+    format!("number {number}, address {at:06X}, {counted} {count}, record {record}")
 }
 
 fn spaced(bytes: &[u8]) -> String {

@@ -1,8 +1,8 @@
 //! The proved library and the second interpreter, held against each other.
 //!
 //! Both are given the same record, memories and call; number, address, count or
-//! whether it was taken, record and RAM, or the room for a record that is moved or
-//! for a row that is written again, must be the same afterwards. The second interpreter is unproved; that the two
+//! whether it was taken, record and RAM, or the room for a record that is moved,
+//! must be the same afterwards. The second interpreter is unproved; that the two
 //! agree proves nothing, but where they differ one is wrong.
 //!
 //! ```text
@@ -139,16 +139,6 @@ fn tell(all: &Tally) {
         narrowed.bad,
         narrowed.unheld
     );
-    let rewritten = all.rewritten;
-    println!(
-        "compare: {} rewrites compared: {} rows written again, {} refused with 3, {} with 4, {} with 30 and {} with 31",
-        rewritten.all(),
-        rewritten.done,
-        rewritten.cut,
-        rewritten.unlisted,
-        rewritten.too_many,
-        rewritten.no_room
-    );
     println!("compare: numbers 0 to 10 answered {:?} times", all.met);
 }
 
@@ -184,13 +174,12 @@ fn judged(Group(name, work): &Group, wish: &Wish) -> Judge {
         sparse: wish.sparse,
     });
     println!(
-        "{:>26}: {:>8} single steps, {:>8} steps in all, {:>7} requests, {:>6} moves, {:>6} rewrites, {:>5.1} s, {}",
+        "{:>26}: {:>8} single steps, {:>8} steps in all, {:>7} requests, {:>6} moves, {:>5.1} s, {}",
         name,
         judge.tally.single,
         judge.tally.done,
         judge.tally.requests,
         judge.tally.moves(),
-        judge.tally.rewritten.all(),
         start.elapsed().as_secs_f64(),
         if judge.failures == 0 {
             "agreed"
@@ -203,8 +192,7 @@ fn judged(Group(name, work): &Group, wish: &Wish) -> Judge {
 
 /// Whether enough was compared for the agreement to say anything: millions
 /// of steps, a million requests, half of them taken, a million moves with each
-/// outcome among them, a million rewrites with each number among them, and every
-/// number answered.
+/// outcome among them, and every number answered.
 fn enough(all: &Tally, sparse: bool) -> bool {
     let steps = if sparse { 15_000_000 } else { 80_000_000 };
     let enough = all.done >= steps
@@ -216,8 +204,6 @@ fn enough(all: &Tally, sparse: bool) -> bool {
         && all.widened.done.min(all.widened.bad) >= 50_000
         && all.narrowed.done.min(all.narrowed.bad) >= 50_000
         && all.narrowed.unheld >= 50_000
-        && all.rewritten.all() >= 1_000_000
-        && all.rewritten.by_number().iter().all(|row| row.1 >= 50_000)
         && all.met.iter().all(|&times| times > 100);
     if !enough {
         println!("WRONG: too little was compared");

@@ -1,4 +1,4 @@
-//! The second interpreter behind the same eight calls as the library.
+//! The second interpreter behind the same seven calls as the library.
 //!
 //! A state crosses as its record. 7 is looked for first, then 1, then 2 for
 //! a record that is no state's; a refusal leaves the record and RAM alone.
@@ -29,7 +29,6 @@ pub fn call(call: Call, record: &mut [u8], ram: &mut [u8], rom: &[u8]) -> Answer
         }),
         Call::Widen => Answer::number(second::widen(record, ram)),
         Call::Narrow => Answer::number(second::narrow(record, ram)),
-        Call::Rewrite => Answer::rewrite(second::rewrite(record, ram)),
     }
 }
 

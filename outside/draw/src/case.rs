@@ -3,7 +3,7 @@
 use crate::image::{hex, unhex, Image};
 use second::record::{COUNTER, SR};
 
-/// Which of the eight calls.
+/// Which of the seven calls.
 #[derive(Clone, Copy, Debug, PartialEq, Eq)]
 pub enum Call {
     Reset,
@@ -14,28 +14,17 @@ pub enum Call {
     Request(u32, u32),
     Widen,
     Narrow,
-    /// A row of instructions is read and written again.
-    Rewrite,
 }
 
 impl Call {
-    /// Whether it writes to a room, and takes no memories.
-    pub fn has_room(self) -> bool {
-        matches!(self, Call::Widen | Call::Narrow | Call::Rewrite)
-    }
-
-    /// What it is given first.
-    fn given(self) -> &'static str {
-        match self {
-            Call::Rewrite => "row",
-            _ => "record",
-        }
+    /// Whether a record is moved to the other form.
+    pub fn moves(self) -> bool {
+        matches!(self, Call::Widen | Call::Narrow)
     }
 }
 
-/// A call and what it is given. `Show` takes no record. `Widen`, `Narrow` and
-/// `Rewrite` take no memories: the room for what they write stands where RAM
-/// otherwise does. The row of a `Rewrite` stands where the record does.
+/// A call and what it is given. `Show` takes no record. `Widen` and `Narrow` take
+/// no memories: the room for what is moved stands where RAM otherwise does.
 #[derive(Clone, Debug, PartialEq, Eq)]
 pub struct Case {
     pub call: Call,
@@ -55,14 +44,12 @@ impl Case {
             Call::Request(level, vector) => format!("request:{level}:{vector}"),
             Call::Widen => "widen".to_string(),
             Call::Narrow => "narrow".to_string(),
-            Call::Rewrite => "rewrite".to_string(),
         };
-        let (given, ram) = (self.call.given(), self.ram.text());
-        let call = format!("{call} {given}={}", hex(&self.record));
-        if self.call.has_room() {
-            return format!("{call} room={ram}");
+        let (record, ram) = (hex(&self.record), self.ram.text());
+        if self.call.moves() {
+            return format!("{call} record={record} room={ram}");
         }
-        format!("{call} ram={ram} rom={}", self.rom.text())
+        format!("{call} record={record} ram={ram} rom={}", self.rom.text())
     }
 
     /// The case that [`Case::text`] tells of.
@@ -70,10 +57,10 @@ impl Case {
         let mut words = text.split_whitespace();
         let call = parse_call(words.next()?)?;
         let mut field = |name: &str| words.next()?.strip_prefix(name)?.strip_prefix('=');
-        let record = unhex(field(call.given())?)?;
-        if call.has_room() {
+        let record = unhex(field("record")?)?;
+        if call.moves() {
             let room = Image::parse(field("room")?)?;
-            return Some(Case::in_room(call, record, room));
+            return Some(Case::of_move(call, record, room));
         }
         Some(Case {
             call,
@@ -85,15 +72,6 @@ impl Case {
 
     /// A record to move, and the room for it.
     pub fn of_move(call: Call, record: Vec<u8>, room: Image) -> Case {
-        Case::in_room(call, record, room)
-    }
-
-    /// A row to read and write again, and the room for it.
-    pub fn of_row(row: Vec<u8>, room: Image) -> Case {
-        Case::in_room(Call::Rewrite, row, room)
-    }
-
-    fn in_room(call: Call, record: Vec<u8>, room: Image) -> Case {
         Case {
             call,
             record,
@@ -138,7 +116,6 @@ fn parse_call(word: &str) -> Option<Call> {
         ("request", &[level, vector]) => Some(Call::Request(level, vector)),
         ("widen", []) => Some(Call::Widen),
         ("narrow", []) => Some(Call::Narrow),
-        ("rewrite", []) => Some(Call::Rewrite),
         _ => None,
     }
 }

@@ -81,14 +81,6 @@ mod surface {
             old: *mut u8,
             old_length: usize,
         ) -> u8;
-
-        pub fn tlcs900h_rewrite(
-            code: *const u8,
-            code_length: usize,
-            out: *mut u8,
-            out_length: usize,
-            written: *mut u32,
-        ) -> u8;
     }
 }
 
@@ -101,7 +93,7 @@ pub enum Empty {
     Null,
 }
 
-/// The library's eight calls. Each takes slices of any length. Those of which the
+/// The library's seven calls. Each takes slices of any length. Those of which the
 /// benchmark counts every call are compiled into it, to add little to the count.
 #[derive(Clone, Copy, Debug)]
 pub struct Library {
@@ -247,24 +239,5 @@ impl Library {
     pub fn narrow(self, new: &[u8], old: &mut [u8]) -> u8 {
         // SAFETY: as for the other way; the old record is lent alone.
         unsafe { surface::tlcs900h_narrow(self.read(new), new.len(), self.write(old), old.len()) }
-    }
-
-    /// Reads a row of instructions and writes it again, and gives the number and how
-    /// many bytes were written.
-    #[inline]
-    pub fn rewrite(self, code: &[u8], out: &mut [u8]) -> (u8, u32) {
-        let mut written = UNWRITTEN;
-        // SAFETY: each pointer and length is one whole slice, lent for the
-        // call; the room is lent alone; `written` is a whole word of its own.
-        let number = unsafe {
-            surface::tlcs900h_rewrite(
-                self.read(code),
-                code.len(),
-                self.write(out),
-                out.len(),
-                &mut written,
-            )
-        };
-        (number, written)
     }
 }

@@ -5,45 +5,13 @@
 //! number or a member of the group in the last. Only the byte by which K1 names
 //! a register is another matter ([`Register`]). Bytes are taken one at a time,
 //! so the first byte that is missing or fits nothing decides.
-//!
-//! What an instruction does and how it was written are kept apart: a step asks
-//! for the [`Instruction`] alone, and who writes it again for its [`Form`] too.
 
 use crate::arithmetic::{Operation, Scale, Shift};
 use crate::number;
 use crate::register::Register;
 use crate::width::{gather, Width};
 
-/// An instruction in the form that was used.
-#[derive(Clone, Copy, Debug, PartialEq, Eq)]
-pub(crate) struct Coded {
-    pub instruction: Instruction,
-    pub form: Form,
-}
-
-/// Which bytes were used, where others say the same. No instruction has more
-/// than one such choice.
-#[derive(Clone, Copy, Debug, PartialEq, Eq)]
-pub(crate) enum Form {
-    /// There are no others.
-    Only,
-    /// An address or a displacement of so many bytes; (R) has none.
-    Bytes(u8),
-    /// A constant behind 20+R, 30+R or 40+R.
-    Short,
-    /// A constant behind a register form and 03.
-    Long,
-    /// 88+R: the register that this byte names is loaded.
-    ToNamed,
-    /// 98+R: the other one is loaded from it.
-    FromNamed,
-    /// SLA.
-    Arithmetic,
-    /// SLL.
-    Logical,
-}
-
-/// What a listed instruction does.
+/// A listed instruction, with everything its bytes say.
 #[derive(Clone, Copy, Debug, PartialEq, Eq)]
 pub(crate) enum Instruction {
     Nothing,
@@ -173,7 +141,7 @@ pub(crate) enum Carry {
 }
 
 /// The condition that is always met.
-pub(crate) const ALWAYS: u8 = 8;
+const ALWAYS: u8 = 8;
 
 type Decoded = Result<Instruction, u8>;
 
@@ -183,36 +151,18 @@ const NOT_LISTED: Decoded = Err(number::NOT_LISTED);
 /// all there are in that memory: 3 if they end inside a listed instruction,
 /// 4 at the first of them that rules every listed instruction out.
 pub(crate) fn decode(bytes: &[u8]) -> Result<(Instruction, usize), u8> {
-    let mut code = Code::new(bytes);
+    let mut code = Code { bytes, taken: 0 };
     let instruction = first(&mut code)?;
     Ok((instruction, code.taken))
-}
-
-/// As [`decode`], with the form that was used. A step has no use for that.
-pub(crate) fn read(bytes: &[u8]) -> Result<(Coded, usize), u8> {
-    let mut code = Code::new(bytes);
-    let instruction = first(&mut code)?;
-    let form = code.form;
-    Ok((Coded { instruction, form }, code.taken))
 }
 
 /// Code bytes, taken from the front.
 struct Code<'a> {
     bytes: &'a [u8],
     taken: usize,
-    /// What the bytes taken so far tell of the form.
-    form: Form,
 }
 
 impl Code<'_> {
-    fn new(bytes: &[u8]) -> Code<'_> {
-        Code {
-            bytes,
-            taken: 0,
-            form: Form::Only,
-        }
-    }
-
     fn byte(&mut self) -> Result<u8, u8> {
         let byte = *self.bytes.get(self.taken).ok_or(number::NO_CODE)?;
         self.taken += 1;
@@ -240,19 +190,13 @@ impl Code<'_> {
 
     /// A signed displacement.
     fn displacement(&mut self, width: Width) -> Result<i64, u8> {
-        self.form = Form::Bytes(width.bytes() as u8);
         Ok(width.signed(self.number(width.bytes())?))
     }
 
-    /// An address of one to three bytes. Bits not given are 0.
-    fn address(&mut self, bytes: u8) -> Result<u32, u8> {
-        self.form = Form::Bytes(bytes);
-        self.number(usize::from(bytes))
-    }
-
-    /// The address behind C0, C1, C2 and their like, by the low digit.
+    /// An address of one to three bytes: the low digit of C0, C1, C2 and
+    /// their like. Bits not given are 0.
     fn fixed(&mut self, digit: u8) -> Result<Place, u8> {
-        Ok(Place::Fixed(self.address(digit + 1)?))
+        Ok(Place::Fixed(self.number(usize::from(digit) + 1)?))
     }
 
     /// The byte after C7, D7 and E7: 4 if it names no register of this width.
@@ -262,12 +206,6 @@ impl Code<'_> {
 
     fn near(&mut self, register: u8) -> Result<Place, u8> {
         Ok(Place::Near(register, self.displacement(Width::Byte)?))
-    }
-
-    /// The place that a register points to, with no byte for a displacement.
-    fn pointed(&mut self, register: u8) -> Place {
-        self.form = Form::Bytes(0);
-        Place::Near(register, 0)
     }
 }
 
@@ -297,14 +235,14 @@ fn first(code: &mut Code) -> Decoded {
         },
         (0, 3, 0) => Instruction::PushFlags,
         (0, 3, 1) => Instruction::PopFlags,
-        (0, 3, 2) => Instruction::Jump(ALWAYS, Target::At(code.address(2)?)),
-        (0, 3, 3) => Instruction::Jump(ALWAYS, Target::At(code.address(3)?)),
-        (0, 3, 4) => Instruction::Call(Target::At(code.address(2)?)),
-        (0, 3, 5) => Instruction::Call(Target::At(code.address(3)?)),
+        (0, 3, 2) => Instruction::Jump(ALWAYS, Target::At(code.number(2)?)),
+        (0, 3, 3) => Instruction::Jump(ALWAYS, Target::At(code.number(3)?)),
+        (0, 3, 4) => Instruction::Call(Target::At(code.number(2)?)),
+        (0, 3, 5) => Instruction::Call(Target::At(code.number(3)?)),
         (0, 3, 6) => Instruction::Call(Target::Away(code.displacement(Word)?)),
-        (0, 4, register) => load_short(code, Byte, register)?,
-        (0, 6, register) => load_short(code, Word, register)?,
-        (1, 0, register) => load_short(code, Long, register)?,
+        (0, 4, register) => load_constant(code, Byte, Register::Short(register))?,
+        (0, 6, register) => load_constant(code, Word, Register::Short(register))?,
+        (1, 0, register) => load_constant(code, Long, Register::Short(register))?,
         (0, 5, register @ 0..=6) => Instruction::Push(Word, register),
         (0, 7, register @ 0..=6) => Instruction::Push(Long, register),
         (1, 1, register @ 0..=6) => Instruction::Pop(Word, register),
@@ -314,17 +252,14 @@ fn first(code: &mut Code) -> Decoded {
         (2, 0, register) => pointed(code, Byte, register)?,
         (2, 2, register) => pointed(code, Word, register)?,
         (2, 4, register) => {
-            let place = code.pointed(register);
+            let place = Place::Near(register, 0);
             from_memory(Long, place, code.octal()?)?
         }
         (2, group @ (1 | 3 | 5), register) => {
             let place = code.near(register)?;
             from_memory(width_of(group / 2), place, code.octal()?)?
         }
-        (2, 6, register) => {
-            let place = code.pointed(register);
-            to_memory(place, code.octal()?)?
-        }
+        (2, 6, register) => to_memory(Place::Near(register, 0), code.octal()?)?,
         (2, 7, register) => {
             let place = code.near(register)?;
             to_memory(place, code.octal()?)?
@@ -378,12 +313,6 @@ fn operation_at(high: u8, middle: u8) -> Operation {
     operation_of((high - 2) * 4 + middle / 2)
 }
 
-/// After 20+R, 30+R and 40+R.
-fn load_short(code: &mut Code, width: Width, register: u8) -> Decoded {
-    code.form = Form::Short;
-    load_constant(code, width, Register::Short(register))
-}
-
 fn load_constant(code: &mut Code, width: Width, register: Register) -> Decoded {
     Ok(Instruction::Load {
         width,
@@ -401,10 +330,7 @@ fn relative_jump(code: &mut Code, condition: u8, width: Width) -> Decoded {
 fn on_register(code: &mut Code, width: Width, register: Register) -> Decoded {
     let this = Operand::Register(register);
     Ok(match code.octal()? {
-        (0, 0, 3) => {
-            code.form = Form::Long;
-            load_constant(code, width, register)?
-        }
+        (0, 0, 3) => load_constant(code, width, register)?,
         (0, 1, count @ 0..=3) => {
             // The register is judged before the constant is missed.
             let whole = whole(width, register)?;
@@ -427,36 +353,23 @@ fn on_register(code: &mut Code, width: Width, register: Register) -> Decoded {
             register,
             by: -eight_for_zero(count),
         },
-        (2, 1, other) => {
-            code.form = Form::ToNamed;
-            Instruction::Load {
-                width,
-                to: Operand::short(other),
-                from: this,
-            }
-        }
-        (2, 3, other) => {
-            code.form = Form::FromNamed;
-            Instruction::Load {
-                width,
-                to: this,
-                from: Operand::short(other),
-            }
-        }
+        (2, 1, other) => Instruction::Load {
+            width,
+            to: Operand::short(other),
+            from: this,
+        },
+        (2, 3, other) => Instruction::Load {
+            width,
+            to: this,
+            from: Operand::short(other),
+        },
         (3, 1, count) => Instruction::Combine {
             operation: operation_of(count),
             width,
             left: this,
             right: code.constant(width)?,
         },
-        (3, 5, 4) => {
-            code.form = Form::Arithmetic;
-            shift(code, Shift::Left, width, register)?
-        }
-        (3, 5, 6) => {
-            code.form = Form::Logical;
-            shift(code, Shift::Left, width, register)?
-        }
+        (3, 5, 4 | 6) => shift(code, Shift::Left, width, register)?,
         (3, 5, 5) => shift(code, Shift::RightKeepingSign, width, register)?,
         (3, 5, 7) => shift(code, Shift::RightWithZeros, width, register)?,
         (high @ 2..=3, middle @ (0 | 2 | 4 | 6), other) => Instruction::Combine {
@@ -565,7 +478,7 @@ fn pointed(code: &mut Code, width: Width, register: u8) -> Decoded {
             pointer: register,
             round: round(digit),
         },
-        (digits, _) => from_memory(width, code.pointed(register), digits)?,
+        (digits, _) => from_memory(width, Place::Near(register, 0), digits)?,
     })
 }
 

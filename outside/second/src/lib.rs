@@ -10,8 +10,7 @@
 //! On purpose its parts are cut differently from the obvious ones:
 //!
 //! * the registers are 80 plain bytes seen through windows ([`Machine`]);
-//! * codes are told apart by matching their octal digits, with no table, and put
-//!   together from such digits again;
+//! * codes are told apart by matching their octal digits, with no table;
 //! * flags come from what they mean, by sums too wide to overflow, and H and V
 //!   are nothing at all where 000 leaves them undefined;
 //! * a step works on a copy of the state and stores to RAM as its last act,
@@ -24,10 +23,7 @@
 //! after 4 and before 5. K8 adds 9, for a request that there cannot be; it
 //! comes after 2. K9 adds 10, for a record that the old form cannot hold; it
 //! comes after 2. To 5 and 6 a step, a run or a request adds the address that
-//! K3 names; with any other number it adds 0. K11 adds 30, for a list that is too
-//! long or has an instruction that is not listed, and 31, for a room that is too
-//! short for the whole list; 30 comes first. A row is read before it is written
-//! again, so its 3 and 4 come before 31.
+//! K3 names; with any other number it adds 0.
 
 #![forbid(unsafe_code)]
 
@@ -36,7 +32,6 @@ mod decode;
 pub mod examples;
 mod execute;
 mod flags;
-mod list;
 mod machine;
 mod memory;
 mod moves;
@@ -46,7 +41,6 @@ mod refusal;
 mod register;
 mod request;
 mod width;
-mod write;
 
 /// The numbers by which a call says how it ended.
 pub mod number {
@@ -72,15 +66,10 @@ pub mod number {
     pub const BAD_REQUEST: u8 = 9;
     /// A record to move back has a mark, or its nesting count is not 0.
     pub const NO_OLD_FORM: u8 = 10;
-    /// A list has more than 64 instructions, or one that is not listed.
-    pub const NO_LIST: u8 = 30;
-    /// The room for a list's bytes is too short for all of them.
-    pub const NO_ROOM: u8 = 31;
 }
 
 pub use execute::{run, step, MOST_STEPS};
 pub use flags::Marks;
-pub use list::{rewrite, List, MOST_LISTED};
 pub use machine::Machine;
 pub use memory::{show, MOST_BYTES};
 pub use moves::{narrow, widen};

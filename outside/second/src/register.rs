@@ -49,23 +49,6 @@ impl Register {
         begins_one.then_some(Register::Among(sixteen, begin))
     }
 
-    /// K1's byte for a register of this width. One that 01's code names has none,
-    /// nor has one that begins where no register of this width does.
-    pub fn to_byte(self, width: Width) -> Option<u8> {
-        let Register::Among(sixteen, begin) = self else {
-            return None;
-        };
-        let begins_one = begin < 16 && usize::from(begin) % width.bytes() == 0;
-        let high = match sixteen {
-            Sixteen::Bank(number @ 0..=3) => number,
-            Sixteen::Bank(_) => return None,
-            Sixteen::Previous => 0xD,
-            Sixteen::Current => 0xE,
-            Sixteen::Shared => 0xF,
-        };
-        begins_one.then(|| high * 16 + begin)
-    }
-
     /// The register whose lower half this one of a width is, with its own
     /// width, if there is one (000's tables of RR and rr). Among 01's bytes it
     /// is A, C, E and L that are lower halves: 1, 3, 5 and 7.
@@ -83,25 +66,6 @@ impl Register {
             Register::Among(_, begin) => (usize::from(begin) % width.bytes() == 0, self),
         };
         is_lower.then_some((width, whole))
-    }
-
-    /// The lower half of this one of a width, with its own width, if there is one
-    /// that code can name: [`Register::whole`] the other way. WA, BC, DE and HL
-    /// have lower halves among 01's bytes, IX to SP have not.
-    pub fn lower(self, whole: Width) -> Option<(Width, Register)> {
-        let half = match whole {
-            Width::Byte => return None,
-            Width::Word => Width::Byte,
-            Width::Long => Width::Word,
-        };
-        let (has_one, lower) = match self {
-            Register::Short(code) if whole == Width::Word => {
-                (code < 4, Register::Short(code % 4 * 2 + 1))
-            }
-            Register::Short(_) => (true, self),
-            Register::Among(_, begin) => (usize::from(begin) % whole.bytes() == 0, self),
-        };
-        has_one.then_some((half, lower))
     }
 
     /// Its bytes among those of all registers, while this bank is the current

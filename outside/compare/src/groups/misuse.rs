@@ -7,7 +7,7 @@ use draw::image::Image;
 use library::Empty;
 use second::record::{LENGTH, OLD_LENGTH};
 
-const CALLS: [Call; 16] = [
+const CALLS: [Call; 15] = [
     Call::Reset,
     Call::Step,
     Call::Run(0),
@@ -23,7 +23,6 @@ const CALLS: [Call; 16] = [
     Call::Request(0xFFFF_FFFF, 0xFFFF_FFFF),
     Call::Widen,
     Call::Narrow,
-    Call::Rewrite,
 ];
 
 const LAYOUT: Layout = Layout { ram: 300, rom: 300 };
@@ -33,7 +32,6 @@ pub fn all(bench: &mut Bench) {
         bench.judge.hand_empty_as(empty);
         nothing_lent(bench);
         nothing_to_move(bench);
-        nothing_to_rewrite(bench);
         noise_lent(bench);
     }
     bench.judge.hand_empty_as(Empty::Dangling);
@@ -70,16 +68,6 @@ fn nothing_to_move(bench: &mut Bench) {
                 let room = aim::noise(&mut bench.chance, room);
                 bench.judge.hold(&Case::of_move(call, record, room));
             }
-        }
-    }
-}
-
-/// A row that is good, cut or bad, or none, and a room for it or none.
-fn nothing_to_rewrite(bench: &mut Bench) {
-    for row in [&[][..], &[0x00], &[0x20], &[0x01], &[0x00; 65]] {
-        for room in [0, 1, 65] {
-            let room = aim::noise(&mut bench.chance, room);
-            bench.judge.hold(&Case::of_row(row.to_vec(), room));
         }
     }
 }

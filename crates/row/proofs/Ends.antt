@@ -1,5 +1,5 @@
 -- How a writing ends, and both ends of a list's length.
-use Prim.Native.Nat.{ℕ, zero, suc, ◌+◌, ◌<◌, ◌≤◌}
+use Prim.Native.Nat.{ℕ, zero, suc, ◌<◌, ◌≤◌}
 use mathlib.Core.Path.{◌≡◌, refl, ap, sym, ◌∙◌}
 use mathlib.Core.Bool.{Bool, true, false, ◌&&◌}
 use mathlib.Core.List.{List, [], ◌∷◌, ◌++◌}
@@ -9,12 +9,13 @@ use lib.Dec.{leb}
 use borrow.Author.Tests.{le-leb, lt-leb}
 use Rattle.code.specs.declared.Instruction.{Instruction}
 use Rattle.code.specs.Written.{code_of}
-use Rattle.encode.specs.declared.Ended.TheVariants.{Done, NoList, NoRoom}
-use Rattle.encode.specs.One.{bytes_in, is_listed, end_of}
-use Rattle.row.specs.Row.{most, row_of, all_listed, can_write, read_of, blank}
+use Rattle.encode.specs.One.{is_listed, end_of}
+use Rattle.row.specs.Row.{most, row_of, all_listed, can_write, blank}
 use Rattle.row.specs.Statements.{WriteEnds, NotListed, Settled, Ends}
 use Rattle.row.proofs.Through.{read_none}
 use Rattle.row.proofs.Finds.{reads_again, read_refused}
+use Rattle.row.proofs.Laws.{few_in_row}
+use Rattle.little.specs.Bytes.{Bytes}
 
 and-false : (a : Bool) → a && false ≡ false
 and-false true = refl
@@ -33,11 +34,13 @@ write_ends l room = (
 somewhere : (l : List Instruction) → all_listed l ≡ false → (k : ℕ) × (k < length l) × (is_listed (get_or l k blank) ≡ false)
 unfolding all_listed
 somewhere [] h = let z : ◌≡◌ {A = ℕ} 0 1 = cc in let y : ⊥ = omega arith in absurd y
-somewhere (i ∷ l) h = go (is_listed i) refl
+somewhere (i ∷ l) h = go (λ (e : all_listed l ≡ false). somewhere l e) (is_listed i) refl
   where
-    go : (b : Bool) → is_listed i ≡ b → (k : ℕ) × (k < length (i ∷ l)) × (is_listed (get_or (i ∷ l) k blank) ≡ false)
-    go false e = (0, omega arith, e)
-    go true e = let w = somewhere l (rw e at h) in (suc w.0, omega (arith, w.1), w.2)
+    go :
+        (all_listed l ≡ false → (k : ℕ) × (k < length l) × (is_listed (get_or l k blank) ≡ false)) →
+        (b : Bool) → is_listed i ≡ b → (k : ℕ) × (k < length (i ∷ l)) × (is_listed (get_or (i ∷ l) k blank) ≡ false)
+    go later false e = (0, omega arith, e)
+    go later true e = let w = later (rw e at h) in (suc w.0, omega (arith, w.1), w.2)
 
 there : (l : List Instruction) (k : ℕ) → k < length l → is_listed (get_or l k blank) ≡ false → all_listed l ≡ false
 unfolding all_listed
@@ -65,10 +68,38 @@ nops_row (suc n) = ap (λ (s : List ℕ). 0 ∷ s) (nops_row n)
 nops_long : (n : ℕ) → length (row_of (replicate n blank)) ≡ n
 nops_long n = ap length (nops_row n) ∙ length-replicate n 0
 
+nops_can : can_write (replicate 64 blank) ≡ true
+unfolding can_write
+nops_can = rw (le-leb (length (replicate 64 blank)) most (omega (arith, length-replicate 64 blank)), nops_listed 64) refl
+
+zeros_are_bytes : Bytes (replicate 65 0)
+zeros_are_bytes = rw nops_row at (few_in_row (replicate 65 blank) (nops_listed 65)).2
+
+none_listed : all_listed [] ≡ true
+unfolding all_listed
+none_listed = refl
+
+none_row : row_of [] ≡ []
+unfolding row_of
+none_row = refl
+
 pub ends : Ends
 ends =
     let none = write_ends [] 0 in
     let full = write_ends (replicate 64 blank) in
     let over = write_ends (replicate 65 blank) in
     let can = nops_listed 64 in
-    let long = nops_long 64 in ?
+    let long = nops_long 64 in
+    let few : length (replicate 64 blank) ≤ most = omega (arith, length-replicate 64 blank) in
+    let many : most < length (replicate 65 blank) = omega (arith, length-replicate 65 blank) in
+    let behind : replicate 65 0 ≡ row_of (replicate 64 blank) ++ (0 ∷ []) = rw (nops_row 64) refl in (
+      none.3 (omega arith) none_listed (rw none_row (omega arith)),
+      read_none most [] refl,
+      (full 64).3 few can (omega arith),
+      (full 63).2 few can (omega arith),
+      rw (← nops_row 64) (reads_again (replicate 64 blank) nops_can),
+      (over 64).0 many,
+      (over 65).0 many,
+      (read_refused (replicate 65 0) zeros_are_bytes).2.1
+          (replicate 64 blank, 0 ∷ [], (can, behind, omega arith), length-replicate 64 blank),
+    )
