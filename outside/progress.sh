@@ -33,32 +33,29 @@ crates_for() {
 }
 
 # Tells of a crate, once; one that was proved before is only counted.
-tell_crate() { # LINE OF
-  name=${1#rt: } name=${name#target/staticlib/lib} name=${name%%[. ]*}
-  case " $seen " in *" $name "*) return ;; esac
-  seen="$seen $name" proved=$((proved + 1))
-  # rt says how long a crate took, but not for an archive
-  case $1 in
-  *'(unchanged '*) took= ;;
-  *' s)') took=${1##*\(} took=${took%)} ;;
-  *) took="$(($(date +%s) - since)) s" ;;
-  esac
-  since=$(date +%s)
-  [ -z "$took" ] || tell "$proved of $2 crates proved, $name in $took"
+tell_crate() { # CRATE OF
+  case " $seen " in *" $1 "*) return ;; esac
+  seen="$seen $1" proved=$((proved + 1))
+  tell "$proved of $2 crates proved, $1"
 }
 
-# Passes on what rt prints, and tells of each crate as it is proved and of each edit as it is refused.
+# Passes on what rt prints, and tells of each crate as it is proved and of the edits of each as they are tried.
 telling() { # CRATES EDITS
-  proved=0 refused=0 seen= since=$(date +%s)
+  proved=0 tried=0 seen= name=
   while IFS= read -r line || [ -n "$line" ]; do
     printf '%s\n' "$line"
     case $line in
-    'rt: must-fail '*': refused, '*)
-      refused=$((refused + 1)) line=${line#rt: must-fail }
-      tell "$refused of $2 edits refused, ${line%%:*}"
+    'rt: '*': trying its must-fail edits ('*)
+      line=${line#rt: } name=${line%%:*} line=${line##*\(}
+      tried=$((tried + ${line%\)}))
+      tell "$tried of $2 edits tried or begun, $name"
       ;;
-    'rt: must-fail '* | 'rt: '*' NOT PROVED'*) tell "${line#rt: }" ;;
-    'rt: '*' proved ('* | 'rt: target/staticlib/lib'*) tell_crate "$line" "$1" ;;
+    'rt: '*' NOT PROVED'* | 'rt: '*'NOT REFUSED'* | 'rt: '*'BAD EDIT'*) tell "${line#rt: }" ;;
+    'rt: chose --jobs '*' for '*) name=${line##* } ;;
+    'rt: '*' proved') line=${line#rt: } && tell_crate "${line% proved}" "$1" ;;
+    'rt: '*' is kept: '*) line=${line#rt: } && tell_crate "${line%% *}" "$1" ;;
+    # rt run and rt lib name a crate before they prove it, and not after
+    'logic=proved'*) [ -z "$name" ] || tell_crate "$name" "$1" ;;
     esac
   done
 }
