@@ -19,7 +19,7 @@ run_of n s ram rom =
       | no w ↦ ends 0 s ram (Refused w)
     ])
 
--- what the call promises of its result_of r, and of RAM m after it
+-- what the call promises of its result r, and of RAM m after it
 abbrev pub RunMeets : ℕ → State → List ℕ → List ℕ → Ran → List ℕ → Type 0
 RunMeets n s ram rom r m = result_of r m ≡ run_of n s ram rom
 

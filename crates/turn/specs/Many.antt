@@ -12,7 +12,7 @@ pub record Result : Type 0 where
   pub done : ℕ
   pub answer : Answer
 
--- a function's result_of, with what RAM holds after it
+-- a function's result, with what RAM holds after it
 abbrev pub result_of : Ran → List ℕ → Result
 result_of r ram = record { state = r.state; ram = ram; done = r.done; answer = r.answer }
 
