@@ -41,21 +41,21 @@ tell_crate() { # CRATE OF
 
 # Passes on what rt prints, and tells of each crate as it is proved and of the edits of each as they are tried.
 telling() { # CRATES EDITS
-  proved=0 tried=0 seen= name=
+  proved=0 tried=0 seen= began=
   while IFS= read -r line || [ -n "$line" ]; do
     printf '%s\n' "$line"
     case $line in
     'rt: '*': trying its must-fail edits ('*)
-      line=${line#rt: } name=${line%%:*} line=${line##*\(}
-      tried=$((tried + ${line%\)}))
-      tell "$tried of $2 edits tried or begun, $name"
+      many=${line##*\(} line=${line#rt: }
+      tried=$((tried + ${many%\)}))
+      tell "$tried of $2 edits tried or begun, ${line%%:*}"
       ;;
     'rt: '*' NOT PROVED'* | 'rt: '*'NOT REFUSED'* | 'rt: '*'BAD EDIT'*) tell "${line#rt: }" ;;
-    'rt: chose --jobs '*' for '*) name=${line##* } ;;
+    'rt: chose --jobs '*' for '*) began=${line##* } ;;
     'rt: '*' proved') line=${line#rt: } && tell_crate "${line% proved}" "$1" ;;
     'rt: '*' is kept: '*) line=${line#rt: } && tell_crate "${line%% *}" "$1" ;;
     # rt run and rt lib name a crate before they prove it, and not after
-    'logic=proved'*) [ -z "$name" ] || tell_crate "$name" "$1" ;;
+    'logic=proved'*) [ -z "$began" ] || tell_crate "$began" "$1" ;;
     esac
   done
 }

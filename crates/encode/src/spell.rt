@@ -3,7 +3,8 @@ ghost use Rattle.std.specs.Prelude.{◌≡◌, cond, [], ◌∷◌, ◌++◌, �
 ghost use Rattle.little.specs.Bytes.{bytes_from, replaced};
 ghost use Rattle.little.specs.Width.{bytes_of};
 ghost use Rattle.code.specs.Written.{size_step, arith_number, shift_number, scale_number, stride_number, register_in, constant_in, base_code, place_code};
-ghost use Rattle.code.specs.Written.{load_code, block_code, side_code, change_code, cycle_code, from_code, control_code, stack_code, interrupt_code, use_code, code_of};
+ghost use Rattle.code.specs.Written.{load_code, block_code, side_code, change_code, cycle_code, from_code};
+ghost use Rattle.code.specs.Written.{control_code, stack_code, interrupt_code, use_code, code_of};
 ghost use Rattle.encode.specs.inner.Spelt.{one_of, placed, spelt, eights};
 
 use alu::{Arith, Change, Shift};

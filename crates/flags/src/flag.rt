@@ -1,7 +1,8 @@
 // The byte F, and what other instructions do to the flags.
 ghost use Rattle.std.specs.Prelude.{◌≡◌, ◌*◌, ◌≤◌};
 ghost use Rattle.flags.specs.Width.{one};
-ghost use Rattle.flags.specs.Flag.{byte_of, packed_of, flags_of, any_marked, carried, rcf_of, scf_of, ccf_of, zcf_of, copied_of, compared_of, dividing, keeping};
+ghost use Rattle.flags.specs.Flag.{byte_of, packed_of, flags_of, any_marked, carried, keeping, dividing};
+ghost use Rattle.flags.specs.Flag.{rcf_of, scf_of, ccf_of, zcf_of, copied_of, compared_of};
 
 use crate::{Computed, Flags};
 

@@ -19,7 +19,7 @@ use Rattle.state.specs.Sr.{sr_of}
 use Rattle.step.specs.declared.Stepped.{Stepped}
 use Rattle.step.specs.Reset.{reset_of}
 use Rattle.turn.specs.declared.Ran.{Ran}
-use Rattle.turn.specs.Many.{Result, result_of}
+use Rattle.turn.specs.Many.{Result, result_with}
 use Rattle.run.specs.Run.{run_of}
 use Rattle.text.specs.declared.Line.{Line}
 use Rattle.text.specs.Text.{hex_of, decimal_of, following, line_of}
@@ -102,7 +102,7 @@ module _ (image : List ℕ) where
     unfolding line_for
     for_stops w e = rw (le-ltb 32768 (length image) few, reset_answer_lem e) refl
 
-    pub for_ran : (q : Ran) (m : List ℕ) → r.answer ≡ Done → result_of q m ≡ run_of 1000 r.state zeros image →
+    pub for_ran : (q : Ran) (m : List ℕ) → r.answer ≡ Done → result_with q m ≡ run_of 1000 r.state zeros image →
         line_for image ≡ ran_line q.state q.done q.answer
     unfolding line_for
     for_ran q m e f =

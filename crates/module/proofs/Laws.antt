@@ -34,7 +34,7 @@ use Rattle.facts.proofs.Statements.{keeps_valid}
 use Rattle.request.specs.declared.Requested.{Requested}
 use Rattle.request.specs.Request.{request_of, took_of, RequestMeets}
 use Rattle.turn.specs.declared.Ran.{Ran}
-use Rattle.turn.specs.Many.{Result, result_of}
+use Rattle.turn.specs.Many.{Result, result_with}
 use Rattle.run.specs.Run.{run_of}
 use Rattle.run.proofs.Joins.{Began, none, first, began, run_zero}
 use Rattle.module.specs.Calls.{reset_answer, reset_bytes, opened_of, step_left, run_left, run_done, request_left, request_taken}
@@ -187,11 +187,11 @@ module _ (n : ℕ) (b ram rom : List ℕ) where
         let f = opened_answer b ram rom o is a in
         (rw (le-ltb 1000000 n few, f, e, g, a) refl, rw (le-ltb 1000000 n few, f) refl)
 
-    pub run_ran : {k x : ℕ} {b' : List ℕ} (r : Ran) (m : List ℕ) → o.answer ≡ Done → result_of r m ≡ run_of n o.state ram rom → b' ≡ save_bytes r.state b →
+    pub run_ran : {k x : ℕ} {b' : List ℕ} (r : Ran) (m : List ℕ) → o.answer ≡ Done → result_with r m ≡ run_of n o.state ram rom → b' ≡ save_bytes r.state b →
         k ≡ number_of r.answer → x ≡ at_of r.answer → CRunMeets n b ram rom k x b' m r.done
     unfolding run_left run_done
     run_ran r m a e g h i =
         let f = opened_answer b ram rom o is a in
-        let here : result_of r m ≡ run_of n (opened_of b (length ram) (length rom)).state ram rom = e ∙ ap (λ (x : Restored). run_of n x.state ram rom) is in
+        let here : result_with r m ≡ run_of n (opened_of b (length ram) (length rom)).state ram rom = e ∙ ap (λ (x : Restored). run_of n x.state ram rom) is in
         let s = saved_over b ram rom o is r.state a (λ v. subst (λ (x : Result). Valid x.state) (sym here) (run_valid n _ ram rom v)) in
         (rw (le-ltb 1000000 n few, f, sym here, h, i, g, s.1) refl, rw (le-ltb 1000000 n few, f, sym here) refl)

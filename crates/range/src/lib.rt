@@ -4,8 +4,10 @@
 ghost use Rattle.std.specs.Prelude.{◌≡◌, ◌^◌, ltb};
 ghost use Rattle.little.specs.Width.{bytes_of};
 ghost use Rattle.code.specs.Rows.{only_byte, only_word, no_byte, no_long};
-ghost use Rattle.code.specs.Range.{◌and◌, that, holds, register_below, constant_below, base_range, memory_range, register_range, place_range, pointer_range, block_operand, block_range};
-ghost use Rattle.code.specs.Range.{alone_range, constant_range, up_to_seven_range, control_range, stack_range, interrupt_range, side_range, change_range, cycle_range, use_range, in_range};
+ghost use Rattle.code.specs.Range.{◌and◌, that, holds, register_below, constant_below, base_range, memory_range};
+ghost use Rattle.code.specs.Range.{register_range, place_range, pointer_range, block_operand, block_range};
+ghost use Rattle.code.specs.Range.{alone_range, constant_range, up_to_seven_range, control_range, stack_range};
+ghost use Rattle.code.specs.Range.{interrupt_range, side_range, change_range, cycle_range, use_range, in_range};
 
 use alu::Change;
 use code::{Base, Control, Form, Interrupt, MemoryForm, Op, Operand, Side, Stack, Use};

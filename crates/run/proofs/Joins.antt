@@ -19,14 +19,14 @@ use Rattle.operand.specs.Try.{Try, did, no, Outcome, after, leaves}
 use Rattle.turn.specs.Once.{once_of}
 use Rattle.step.specs.Step.{too_long, guarded, try_of, step_of}
 use Rattle.turn.proofs.ManySteps.{many_none, many_did, many_no}
-use Rattle.turn.specs.Many.{Result, result_of, ends, many_of}
+use Rattle.turn.specs.Many.{Result, result_with, ends, many_of}
 use Rattle.run.specs.Run.{run_of}
 use Rattle.run.specs.Statements.{RunSettled, RunsJoin, RunStops, OneStepRun, RunIsSteps, CountIsTrue, later}
 use Rattle.run.proofs.Laws.{try_once, run_many, run_long, run_invalid, run_goes, still_passes}
 
 pub run_settled : (s : State) (ram rom : List ℕ) → RunSettled s ram rom
 run_settled s ram rom n p q l m e f =
-    let g : result_of p l ≡ result_of q m = e ∙ sym f in
+    let g : result_with p l ≡ result_with q m = e ∙ sym f in
     (ap (λ (r : Result). record { state = r.state; done = r.done; answer = r.answer }) g, ap (λ (r : Result). r.ram) g)
 
 -- ---- steps left, from any count

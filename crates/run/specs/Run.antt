@@ -3,7 +3,7 @@ use Rattle.std.specs.Prelude.{ℕ, ◌≡◌, List, cond, ltb}
 use Rattle.answer.specs.declared.{Answer.TheVariants.Refused, Why.TheVariants.TooMany}
 use Rattle.state.specs.declared.State.{State}
 use Rattle.operand.specs.Try.{did, no}
-use Rattle.turn.specs.{declared.Ran.Ran, Many.Result, Many.result_of, Many.ends, Many.many_of}
+use Rattle.turn.specs.{declared.Ran.Ran, Many.Result, Many.result_with, Many.ends, Many.many_of}
 use Rattle.step.specs.{Step.guarded}
 
 -- the most steps that a run may be asked for
@@ -21,7 +21,7 @@ run_of n s ram rom =
 
 -- what the call promises of its result r, and of RAM m after it
 abbrev pub RunMeets : ℕ → State → List ℕ → List ℕ → Ran → List ℕ → Type 0
-RunMeets n s ram rom r m = result_of r m ≡ run_of n s ram rom
+RunMeets n s ram rom r m = result_with r m ≡ run_of n s ram rom
 
 -- a run of n steps from here leaves r
 abbrev pub RunLeaves : State → List ℕ → List ℕ → ℕ → Result → Type 0

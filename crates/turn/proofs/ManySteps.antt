@@ -12,7 +12,7 @@ use Rattle.operand.specs.Try.{Try, did, no, Outcome, leaves, after}
 use Rattle.turn.specs.declared.Ran.{Ran}
 use Rattle.turn.specs.Once.{once_of}
 use Rattle.turn.specs.inner.Times.{onward, times_of, Fewer}
-use Rattle.turn.specs.Many.{Result, result_of, ends, many_of}
+use Rattle.turn.specs.Many.{Result, result_with, ends, many_of}
 use Rattle.turn.proofs.Times.{state_or, ram_or, was_done, was_refused, times_one}
 
 -- ---- some steps left
@@ -32,7 +32,7 @@ unfolding many_of
 many_no n d s ram rom w e = rw (e, many_of)
 
 -- one of them
-pub one_of : (s : State) (ram rom : List ℕ) (r : Ran) (m : List ℕ) → result_of r m ≡ many_of 1 0 s ram rom →
+pub one_of : (s : State) (ram rom : List ℕ) (r : Ran) (m : List ℕ) → result_with r m ≡ many_of 1 0 s ram rom →
     after r.answer r.state m ≡ leaves s ram (once_of s ram rom)
 one_of s ram rom r m e = go (once_of s ram rom) refl
   where

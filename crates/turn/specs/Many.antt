@@ -13,8 +13,8 @@ pub record Result : Type 0 where
   pub answer : Answer
 
 -- a function's result, with what RAM holds after it
-abbrev pub result_of : Ran → List ℕ → Result
-result_of r ram = record { state = r.state; ram = ram; done = r.done; answer = r.answer }
+abbrev pub result_with : Ran → List ℕ → Result
+result_with r ram = record { state = r.state; ram = ram; done = r.done; answer = r.answer }
 
 -- what a function answers where they end after d steps
 abbrev pub stopped : State → ℕ → Answer → Ran

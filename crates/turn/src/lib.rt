@@ -15,7 +15,7 @@ ghost use Rattle.operand.specs.Try.{and_then};
 ghost use Rattle.operand.specs.inner.Does.{Does};
 ghost use Rattle.block.specs.Block.{round_of, ends_at};
 ghost use Rattle.turn.specs.inner.Times.{times_of, Fewer, most_rounds, Stands, past_name};
-ghost use Rattle.turn.specs.Many.{result_of, stopped, many_of};
+ghost use Rattle.turn.specs.Many.{result_with, stopped, many_of};
 
 use answer::{Answer, Why};
 use block::{again, ended, in_rom, round};
@@ -232,7 +232,7 @@ fn stop(s: State, done: u32, answer: Answer) -> Ran
 
 // Many steps of any state: the checks before the first are the caller's. A call of `once` may do several of those left.
 pub fn many(s: State, ram: &mut [u8], rom: &[u8], steps: u32) -> Ran
-    ensures { result_of result ram.new ≡ many_of steps 0 s ram.old rom.now }
+    ensures { result_with result ram.new ≡ many_of steps 0 s ram.old rom.now }
 {
     let mut regs = s.registers;
     let mut counter = s.counter;

@@ -9,7 +9,6 @@ use Rattle.memory.proofs.find.Goals as goal
 use Rattle.memory.proofs.find.Goals.{then-at-ram_len+else-n-ram_len, else-at-ram_len}
 use Rattle.memory.proofs.find.Goals.{then-at-le-SPACE+then-above-rom_len+else-n-above, then-at-le-SPACE+else-above-rom_len, else-at-le-SPACE}
 
--- `memory::find` meets its contract: at each return the tests that led there say which case of `place_of` holds.
 pub returns-then-n-ram_len : goal.returns-then-n-ram_len
 returns-then-n-ram_len c =
     let a = c.args in
