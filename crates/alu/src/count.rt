@@ -12,26 +12,14 @@ use little::Size;
 pub fn steps_of(n: u8) -> u32
     ensures { result ≡ steps_of n }
 {
-    let m = n % 8;
-    if m == 0 {
-        return 8;
-    }
-    m as u32
+    if n % 8 == 0 { 8 } else { (n % 8) as u32 }
 }
 
 // The flags of a result, with a carry that is kept.
 fn keeping_c(old: Flags, f: Flags) -> Flags
     ensures { result ≡ keeping_c old f }
 {
-    Flags {
-        s: f.s,
-        z: f.z,
-        h: f.h,
-        v: f.v,
-        n: f.n,
-        c: old.c,
-        marks: f.marks,
-    }
+    Flags { c: old.c, ..f }
 }
 
 // What INC and DEC leave of the flags: of a byte all but C are new, of others none is.

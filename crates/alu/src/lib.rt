@@ -20,7 +20,7 @@ mod logic;
 mod shifter;
 
 // The operations on two operands, in the order of their codes.
-#[derive(Clone, Copy)]
+#[derive(Clone, Copy, PartialEq, Eq)]
 pub enum Arith {
     Add,
     Adc,

@@ -2,7 +2,8 @@
 #![tactic(auto)]
 
 ghost use Rattle.std.specs.Prelude.{◌≡◌};
-ghost use Rattle.answer.specs.Number.{why_told, why_number, number_of, at_of};
+ghost use Rattle.answer.specs.declared.Why.TheVariants.{Missing};
+ghost use Rattle.answer.specs.Number.{why_number, why_at, number_of, at_of};
 
 // The reasons, in the order in which they are looked for.
 #[derive(Clone, Copy)]
@@ -29,27 +30,49 @@ pub enum Why {
     ToRom(u32),
 }
 
+// How a call ended: it is done, or refused for a reason.
+pub type Answer = Result<(), Why>;
+
+// The address of a byte that is missing: a load is refused with 5 or not at all.
 #[derive(Clone, Copy)]
-pub enum Answer {
-    Done,
-    Refused(Why),
+pub struct MissingByte(pub u32);
+
+impl From<MissingByte> for Why {
+    ghost from_gives = { λ byte why. why ≡ Missing byte.0 };
+
+    fn from(byte: MissingByte) -> Why {
+        Why::Missing(byte.0)
+    }
 }
 
-// The number of a reason.
-pub fn why_number(w: Why) -> u8
-    ensures { result ≡ why_number w }
-{
-    match w {
-        Why::TooMany => 7,
-        Why::TooLong => 1,
-        Why::Invalid => 2,
-        Why::BadRequest => 9,
-        Why::NoOldForm => 10,
-        Why::NoCode => 3,
-        Why::Unlisted => 4,
-        Why::Undefined => 8,
-        Why::Missing(_) => 5,
-        Why::ToRom(_) => 6,
+impl Why {
+    // The number of a reason.
+    pub fn number(self) -> u8
+        ensures { result ≡ why_number self }
+    {
+        match self {
+            Why::TooMany => 7,
+            Why::TooLong => 1,
+            Why::Invalid => 2,
+            Why::BadRequest => 9,
+            Why::NoOldForm => 10,
+            Why::NoCode => 3,
+            Why::Unlisted => 4,
+            Why::Undefined => 8,
+            Why::Missing(_) => 5,
+            Why::ToRom(_) => 6,
+        }
+    }
+
+    // The address that goes with a reason: 0 where there is none.
+    pub fn address(self) -> u32
+        ensures { result ≡ why_at self }
+    {
+        match self {
+            Why::Missing(a) => a,
+            Why::ToRom(a) => a,
+            _ => 0,
+        }
     }
 }
 
@@ -58,26 +81,8 @@ pub fn number(a: Answer) -> u8
     ensures { result ≡ number_of a }
 {
     match a {
-        Answer::Done => 0,
-        Answer::Refused(w) => why_number(w),
-    }
-}
-
-// The address that goes with a reason: 0 where there is none.
-fn why_at(w: Why) -> u32
-    ensures { result ≡ (why_told w).1 }
-{
-    match w {
-        Why::TooMany => 0,
-        Why::TooLong => 0,
-        Why::Invalid => 0,
-        Why::BadRequest => 0,
-        Why::NoOldForm => 0,
-        Why::NoCode => 0,
-        Why::Unlisted => 0,
-        Why::Undefined => 0,
-        Why::Missing(a) => a,
-        Why::ToRom(a) => a,
+        Ok(()) => 0,
+        Err(why) => why.number(),
     }
 }
 
@@ -86,7 +91,7 @@ pub fn at(a: Answer) -> u32
     ensures { result ≡ at_of a }
 {
     match a {
-        Answer::Done => 0,
-        Answer::Refused(w) => why_at(w),
+        Ok(()) => 0,
+        Err(why) => why.address(),
     }
 }

@@ -8,13 +8,9 @@ use native.Mathlib.Omega.{arith}
 use native.Mathlib.Nat.{add-zero, zero-add, add-mod}
 use lib.ListN.{length}
 use Rattle.answer.specs.Number.{number_of}
-use Rattle.answer.specs.declared.Answer.{Answer}
-use Rattle.answer.specs.declared.Answer.TheVariants.{Done, Refused}
 use Rattle.answer.specs.declared.Why.{Why}
 use Rattle.little.specs.declared.Size.TheVariants.{Long}
 use Rattle.memory.specs.Access.{code_at, load_of, store_bytes}
-use Rattle.memory.specs.declared.Loaded.{Loaded}
-use Rattle.memory.specs.declared.Loaded.TheVariants as loaded
 use Rattle.state.specs.declared.State.{State}
 use Rattle.state.specs.State.{valid_of, with_long, with_counter, with_level, with_nesting}
 use Rattle.state.specs.Register.{set_slot, get_register, set_register}
@@ -46,19 +42,22 @@ use Rattle.run.proofs.Rounds.{same_did, refused_not}
 use Rattle.request.specs.Request.{takes, entered, entering, return_address, offered_of, request_of, if_done, took_of}
 use Rattle.between.specs.History.{Event, step, offer, happens, history_of, is_reti, returns_by, return_at, stepping, taking, returning, counted_in, NestingBalances, NestingComesBack, UntakenIsRun}
 use Rattle.between.proofs.Offer.{Course, long, invalid, bad, out, let_in, course, taken_says, taken_is, taken_keeps}
+use Rattle.std.proofs.Common.{Ok, Err}
+use Rattle.answer.specs.Number.{Answer}
+use Rattle.memory.specs.Access.{Loaded}
 
 abbrev one : Bool → ℕ
 one b = cond b 1 0
 
 -- ---- what a done event leaves
 -- a step
-step_left_lem : (s : State) (ram rom : List ℕ) (t : State) (m : List ℕ) → try_of s ram rom ≡ did t m → step_of s ram rom ≡ after Done t m
+step_left_lem : (s : State) (ram rom : List ℕ) (t : State) (m : List ℕ) → try_of s ram rom ≡ did t m → step_of s ram rom ≡ after (Ok tt) t m
 unfolding step_of
 step_left_lem s ram rom t m e = ap (leaves s ram) e
 
 -- an offer: it was taken, or nothing has changed
 request_left_lem : (level address : ℕ) (s : State) (ram rom : List ℕ) (t : State) (m : List ℕ) →
-    offered_of level address s ram rom ≡ did t m → request_of level address s ram rom ≡ after Done t m
+    offered_of level address s ram rom ≡ did t m → request_of level address s ram rom ≡ after (Ok tt) t m
 unfolding request_of
 request_left_lem level address s ram rom t m e = ap (leaves s ram) e
 
@@ -71,10 +70,10 @@ pub offered : (level address : ℕ) (s : State) (ram rom : List ℕ) (t : State)
 unfolding took_of
 offered level address s ram rom t m e = go (course level address s ram rom)
   where
-    o : request_of level address s ram rom ≡ after Done t m
+    o : request_of level address s ram rom ≡ after (Ok tt) t m
     o = request_left_lem level address s ram rom t m e
 
-    a : (request_of level address s ram rom).answer ≡ Done
+    a : (request_of level address s ram rom).answer ≡ (Ok tt)
     a = ap (λ (x : Outcome). x.answer) o
 
     go : Course level address s ram rom → Offered level address s ram rom t m
@@ -108,7 +107,7 @@ event_keeps step s ram rom t m e =
     }
 event_keeps (offer level address) s ram rom t m e = go (offered level address s ram rom t m e)
   where
-    o : request_of level address s ram rom ≡ after Done t m
+    o : request_of level address s ram rom ≡ after (Ok tt) t m
     o = request_left_lem level address s ram rom t m e
 
     go : Offered level address s ram rom t m → Keeps s ram rom t m
@@ -206,12 +205,12 @@ returns_not op e f = let z : ◌≡◌ {A = ℕ} 0 1 = ap (λ (b : Bool). cond b
 -- a step goes down by one at RETI
 step_balances : (s : State) (ram rom : List ℕ) (t : State) (m : List ℕ) → Sound s → try_of s ram rom ≡ did t m →
     (t.nesting + one (return_at (decode_of (code_at ram rom s.counter)))) % 2 ^ 16 ≡ s.nesting % 2 ^ 16
-step_balances s ram rom t m ok e = go (operated s ram rom Done (inl refl) d)
+step_balances s ram rom t m ok e = go (operated s ram rom (Ok tt) (inl refl) d)
   where
-    o : step_of s ram rom ≡ after Done t m
+    o : step_of s ram rom ≡ after (Ok tt) t m
     o = step_left_lem s ram rom t m e
 
-    d : (step_of s ram rom).answer ≡ Done
+    d : (step_of s ram rom).answer ≡ (Ok tt)
     d = ap (λ (x : Outcome). x.answer) o
 
     state : (step_of s ram rom).state.nesting ≡ t.nesting
@@ -236,20 +235,20 @@ entered_counts level vector s = omega arith
 
 -- done, a push and then what is entered, by its answer
 stored_counts :
-    (s t : State) (ram m : List ℕ) (level vector : ℕ) (a : Answer) → (leaves s ram (and_then (stored_by a t m) (entered level vector))).answer ≡ Done →
+    (s t : State) (ram m : List ℕ) (level vector : ℕ) (a : Answer) → (leaves s ram (and_then (stored_by a t m) (entered level vector))).answer ≡ (Ok tt) →
     (leaves s ram (and_then (stored_by a t m) (entered level vector))).state.nesting ≡ plus 16 t.nesting 1
-stored_counts s t ram m level vector Done e = entered_counts level vector t
-stored_counts s t ram m level vector (Refused w) e = absurd (omega (arith, ap number_of e, some w))
+stored_counts s t ram m level vector (Ok _) e = entered_counts level vector t
+stored_counts s t ram m level vector (Err w) e = absurd (omega (arith, ap number_of e, some w))
 
 loaded_counts :
     (s : State) (ram rom : List ℕ) (level : ℕ) (l : Loaded) →
-    (leaves s ram (with_loaded l (λ v. entering (return_address s) level v s ram rom))).answer ≡ Done →
+    (leaves s ram (with_loaded l (λ v. entering (return_address s) level v s ram rom))).answer ≡ (Ok tt) →
     (leaves s ram (with_loaded l (λ v. entering (return_address s) level v s ram rom))).state.nesting ≡ plus 16 s.nesting 1
 unfolding set_register set_slot with_long
-loaded_counts s ram rom level (loaded.Value v) e =
+loaded_counts s ram rom level (Ok v) e =
     let x = less 32 (get_register s Long 7) 6 in
     stored_counts s (with_stack s x) ram _ level v (store_bytes ram rom (x % 2 ^ 24) 6) e
-loaded_counts s ram rom level (loaded.Missing x) e = absurd (omega (arith, ap number_of e))
+loaded_counts s ram rom level (Err x) e = absurd (omega (arith, ap number_of e))
 
 taken_counts :
     (level address : ℕ) (s : State) (ram rom : List ℕ) → took_of level address s ram rom ≡ true →
@@ -311,40 +310,40 @@ no_more e s ram u l es rom f z = go (taking e s ram rom) refl (sym (counted_on e
 -- one event before n steps that are done
 untaken :
     (e : Event) (s : State) (ram : List ℕ) (u : State) (l : List ℕ) (d n : ℕ) (t : State) (m rom : List ℕ) → Passed s ram rom →
-    happens e s ram rom ≡ did u l → taking e s ram rom ≡ false → ((c : ℕ) → many_of n c u l rom ≡ ends (c + n) t m Done) →
-    many_of (one (stepping e s ram rom) + n) d s ram rom ≡ ends (d + (one (stepping e s ram rom) + n)) t m Done
+    happens e s ram rom ≡ did u l → taking e s ram rom ≡ false → ((c : ℕ) → many_of n c u l rom ≡ ends (c + n) t m (Ok tt)) →
+    many_of (one (stepping e s ram rom) + n) d s ram rom ≡ ends (d + (one (stepping e s ram rom) + n)) t m (Ok tt)
 untaken step s ram u l d n t m rom p f k rest =
     let o = sym (try_once s ram rom (not_long (length ram) (length rom) p.0.0 p.0.1) p.1) ∙ f in
     let c : d + 1 + n ≡ d + (1 + n) = omega arith in
     let z : 1 + n ≡ suc n = omega arith in
-    ap (λ (k : ℕ). many_of k d s ram rom) z ∙ many_did n d s ram rom u l o ∙ rest (d + 1) ∙ ap (λ (x : ℕ). ends x t m Done) c
+    ap (λ (k : ℕ). many_of k d s ram rom) z ∙ many_did n d s ram rom u l o ∙ rest (d + 1) ∙ ap (λ (x : ℕ). ends x t m (Ok tt)) c
 untaken (offer level address) s ram u l d n t m rom p f k rest = go (offered level address s ram rom u l f)
   where
-    go : Offered level address s ram rom u l → many_of (0 + n) d s ram rom ≡ ends (d + (0 + n)) t m Done
+    go : Offered level address s ram rom u l → many_of (0 + n) d s ram rom ≡ ends (d + (0 + n)) t m (Ok tt)
     go (was_taken x) = let z : ◌≡◌ {A = ℕ} 0 1 = ap (λ (b : Bool). cond b 0 1) (sym x ∙ k) in absurd (omega arith)
     go (was_not x g h) = rw (zero-add, ← g, ← h) (rest d)
 
 untaken_run :
     (es : List Event) (s t : State) (ram rom m : List ℕ) → Passed s ram rom → history_of es s ram rom ≡ did t m → counted_in taking es s ram rom ≡ 0 →
-    counted_in stepping es s ram rom ≤ most_steps → run_of (counted_in stepping es s ram rom) s ram rom ≡ ends (counted_in stepping es s ram rom) t m Done
+    counted_in stepping es s ram rom ≤ most_steps → run_of (counted_in stepping es s ram rom) s ram rom ≡ ends (counted_in stepping es s ram rom) t m (Ok tt)
 untaken_run es s t ram rom m p h none few =
     run_goes s ram rom (counted_in stepping es s ram rom) few (not_long (length ram) (length rom) p.0.0 p.0.1) p.1
     ∙ walked
     (λ es s ram. Passed s ram rom → counted_in taking es s ram rom ≡ 0 → (d : ℕ) →
-    many_of (counted_in stepping es s ram rom) d s ram rom ≡ ends (d + counted_in stepping es s ram rom) t m Done)
+    many_of (counted_in stepping es s ram rom) d s ram rom ≡ ends (d + counted_in stepping es s ram rom) t m (Ok tt))
     rom t m nothing event es s ram h p none 0
-    ∙ ap (λ (n : ℕ). ends n t m Done) (zero-add (counted_in stepping es s ram rom))
+    ∙ ap (λ (n : ℕ). ends n t m (Ok tt)) (zero-add (counted_in stepping es s ram rom))
   where
     nothing : Passed t m rom → counted_in taking [] t m rom ≡ 0 → (d : ℕ) →
-        many_of (counted_in stepping [] t m rom) d t m rom ≡ ends (d + counted_in stepping [] t m rom) t m Done
+        many_of (counted_in stepping [] t m rom) d t m rom ≡ ends (d + counted_in stepping [] t m rom) t m (Ok tt)
     nothing q z d = rw (counted_none stepping t m rom, add-zero) (many_none d t m rom)
 
     event :
         (e : Event) (es : List Event) (s : State) (ram : List ℕ) (u : State) (l : List ℕ) → happens e s ram rom ≡ did u l →
         (Passed u l rom → counted_in taking es u l rom ≡ 0 → (d : ℕ) →
-        many_of (counted_in stepping es u l rom) d u l rom ≡ ends (d + counted_in stepping es u l rom) t m Done) →
+        many_of (counted_in stepping es u l rom) d u l rom ≡ ends (d + counted_in stepping es u l rom) t m (Ok tt)) →
         Passed s ram rom → counted_in taking (e ∷ es) s ram rom ≡ 0 → (d : ℕ) →
-        many_of (counted_in stepping (e ∷ es) s ram rom) d s ram rom ≡ ends (d + counted_in stepping (e ∷ es) s ram rom) t m Done
+        many_of (counted_in stepping (e ∷ es) s ram rom) d s ram rom ≡ ends (d + counted_in stepping (e ∷ es) s ram rom) t m (Ok tt)
     event e es s ram u l f rest q z d =
         rw (counted_on e es s ram rom stepping u l f)
         (untaken e s ram u l d (counted_in stepping es u l rom) t m rom q f (no_more e s ram u l es rom f z).0
@@ -352,15 +351,15 @@ untaken_run es s t ram rom m p h none few =
 
 -- a run of n steps that are done, whose next step is refused
 stopped_there :
-    (n : ℕ) (s t : State) (ram rom m : List ℕ) (w : Why) → n < most_steps → run_of n s ram rom ≡ ends n t m Done → try_of t m rom ≡ no w →
-    run_of (n + 1) s ram rom ≡ ends n t m (Refused w)
+    (n : ℕ) (s t : State) (ram rom m : List ℕ) (w : Why) → n < most_steps → run_of n s ram rom ≡ ends n t m (Ok tt) → try_of t m rom ≡ no w →
+    run_of (n + 1) s ram rom ≡ ends n t m (Err w)
 stopped_there n s t ram rom m w few e f =
-    let d : (run_of n s ram rom).answer ≡ Done = ap (λ (r : Result). r.answer) e in
-    let one : run_of 1 t m rom ≡ ends 0 t m (Refused w) = (run_is_steps t m rom 0 (omega arith)).1 w f in
+    let d : (run_of n s ram rom).answer ≡ (Ok tt) = ap (λ (r : Result). r.answer) e in
+    let one : run_of 1 t m rom ≡ ends 0 t m (Err w) = (run_is_steps t m rom 0 (omega arith)).1 w f in
     runs_join s ram rom n 1 (omega arith) d
     ∙ ap (λ (r : Result). later n (run_of 1 r.state r.ram rom)) e
     ∙ ap (later n) one
-    ∙ ap (λ (k : ℕ). ends k t m (Refused w)) (add-zero n)
+    ∙ ap (λ (k : ℕ). ends k t m (Err w)) (add-zero n)
 
 pub untaken_is_run : (es : List Event) (s t : State) (ram rom m : List ℕ) → UntakenIsRun es s t ram rom m
 untaken_is_run es s t ram rom m p h none few =

@@ -9,8 +9,6 @@ use lib.Dec.{leb}
 use lib.ListN.{length}
 use borrow.Author.Tests.{leb-true, leb-false, le-leb, lt-leb}
 use Rattle.answer.specs.Number.{number_of, why_number}
-use Rattle.answer.specs.declared.Answer.{Answer}
-use Rattle.answer.specs.declared.Answer.TheVariants.{Done, Refused}
 use Rattle.answer.specs.declared.Why.{Why}
 use Rattle.answer.specs.declared.Why.TheVariants.{TooLong, Invalid, BadRequest}
 use Rattle.little.specs.declared.Size.TheVariants.{Long}
@@ -29,6 +27,8 @@ use Rattle.code.specs.declared.Op.TheVariants.{Interrupts}
 use Rattle.code.specs.declared.Interrupt.TheVariants.{Reti}
 use Rattle.request.specs.Request.{bad_request, takes, return_address, entered, taken_of, offered_of, request_of, if_done, took_of}
 use Rattle.between.specs.Offer.{Good, OfferedWhen, NotTaken, OfferRefused, TakenKeeps}
+use Rattle.std.proofs.Common.{Ok, Err}
+use Rattle.answer.specs.Number.{Answer}
 
 -- ---- 9
 pub good_not_bad : (level address : ℕ) → Good level address → bad_request level address ≡ false
@@ -68,15 +68,15 @@ module _ (level address : ℕ) (s : State) (ram rom : List ℕ) where
   abbrev admitted : Bool
   admitted = takes s.level.0 level
 
-  offer_long : too_long (length ram) (length rom) ≡ true → request_of level address s ram rom ≡ after (Refused TooLong) s ram
+  offer_long : too_long (length ram) (length rom) ≡ true → request_of level address s ram rom ≡ after (Err TooLong) s ram
   unfolding request_of offered_of guarded
   offer_long e = rw e refl
 
-  offer_invalid : too_long (length ram) (length rom) ≡ false → valid_of s ≡ false → request_of level address s ram rom ≡ after (Refused Invalid) s ram
+  offer_invalid : too_long (length ram) (length rom) ≡ false → valid_of s ≡ false → request_of level address s ram rom ≡ after (Err Invalid) s ram
   unfolding request_of offered_of guarded
   offer_invalid e f = rw (e, f) refl
 
-  offer_bad : Passed s ram rom → bad_request level address ≡ true → request_of level address s ram rom ≡ after (Refused BadRequest) s ram
+  offer_bad : Passed s ram rom → bad_request level address ≡ true → request_of level address s ram rom ≡ after (Err BadRequest) s ram
   unfolding request_of offered_of guarded
   offer_bad p b = rw (not_long (length ram) (length rom) p.0.0 p.0.1, p.1, b) refl
 
@@ -101,10 +101,10 @@ module _ (level address : ℕ) (s : State) (ram rom : List ℕ) where
 
   -- the five courses of an offer
   pub data Course : Type 0 where
-    long : (2 ^ 16 < length ram) ⊎ (2 ^ 16 < length rom) → answer ≡ Refused TooLong → Course
-    invalid : Within ram rom → valid_of s ≡ false → answer ≡ Refused Invalid → Course
-    bad : Passed s ram rom → bad_request level address ≡ true → answer ≡ Refused BadRequest → Course
-    out : Passed s ram rom → bad_request level address ≡ false → admitted ≡ false → request_of level address s ram rom ≡ after Done s ram → Course
+    long : (2 ^ 16 < length ram) ⊎ (2 ^ 16 < length rom) → answer ≡ Err TooLong → Course
+    invalid : Within ram rom → valid_of s ≡ false → answer ≡ Err Invalid → Course
+    bad : Passed s ram rom → bad_request level address ≡ true → answer ≡ Err BadRequest → Course
+    out : Passed s ram rom → bad_request level address ≡ false → admitted ≡ false → request_of level address s ram rom ≡ after (Ok tt) s ram → Course
     let_in : Passed s ram rom → bad_request level address ≡ false → admitted ≡ true → answer ≡ operands → Course
 
   pub course : Course
@@ -119,7 +119,7 @@ module _ (level address : ℕ) (s : State) (ram rom : List ℕ) where
       go false true false true e f g h = let_in (within _ _ e, f) g h (in_answer (within _ _ e, f) g h)
 
   -- no other number than 0, 5 and 6 comes from the operands
-  not_operands : (w : Why) → (why_number w ≤ 4) ⊎ (7 ≤ why_number w) → answer ≡ operands → answer ≡ Refused w → ⊥
+  not_operands : (w : Why) → (why_number w ≤ 4) ⊎ (7 ≤ why_number w) → answer ≡ operands → answer ≡ Err w → ⊥
   not_operands w h e f = go (by_operands ram rom (bytes address 4) (below_stack s 6)) h
     where
       n : number_of operands ≡ why_number w
@@ -130,54 +130,54 @@ module _ (level address : ℕ) (s : State) (ram rom : List ℕ) where
       go (inr z) (inl g) = omega (arith, n, z.0)
       go (inr z) (inr g) = omega (arith, n, z.1)
 
-  done_not : (w : Why) → request_of level address s ram rom ≡ after Done s ram → answer ≡ Refused w → ⊥
+  done_not : (w : Why) → request_of level address s ram rom ≡ after (Ok tt) s ram → answer ≡ Err w → ⊥
   done_not w e f = omega (arith, ap number_of (sym (ap (λ (o : Outcome). o.answer) e) ∙ f), some w)
 
-  one_holds : (answer ≡ Refused TooLong) ⇔ ((2 ^ 16 < length ram) ⊎ (2 ^ 16 < length rom))
+  one_holds : (answer ≡ Err TooLong) ⇔ ((2 ^ 16 < length ram) ⊎ (2 ^ 16 < length rom))
   one_holds = (go course, back course)
     where
-      go : Course → answer ≡ Refused TooLong → (2 ^ 16 < length ram) ⊎ (2 ^ 16 < length rom)
+      go : Course → answer ≡ Err TooLong → (2 ^ 16 < length ram) ⊎ (2 ^ 16 < length rom)
       go (long l a) e = l
       go (invalid w v a) e = absurd (omega (arith, ap number_of (sym a ∙ e)))
       go (bad p b a) e = absurd (omega (arith, ap number_of (sym a ∙ e)))
       go (out p b t a) e = absurd (done_not TooLong a e)
       go (let_in p b t a) e = absurd (not_operands TooLong (inl (omega arith)) a e)
 
-      back : Course → (2 ^ 16 < length ram) ⊎ (2 ^ 16 < length rom) → answer ≡ Refused TooLong
+      back : Course → (2 ^ 16 < length ram) ⊎ (2 ^ 16 < length rom) → answer ≡ Err TooLong
       back (long l a) h = a
       back (invalid w v a) h = absurd (far s ram rom h w)
       back (bad p b a) h = absurd (far s ram rom h p.0)
       back (out p b t a) h = absurd (far s ram rom h p.0)
       back (let_in p b t a) h = absurd (far s ram rom h p.0)
 
-  two_holds : (answer ≡ Refused Invalid) ⇔ (Within ram rom × (valid_of s ≡ false))
+  two_holds : (answer ≡ Err Invalid) ⇔ (Within ram rom × (valid_of s ≡ false))
   two_holds = (go course, back course)
     where
-      go : Course → answer ≡ Refused Invalid → Within ram rom × (valid_of s ≡ false)
+      go : Course → answer ≡ Err Invalid → Within ram rom × (valid_of s ≡ false)
       go (long l a) e = absurd (omega (arith, ap number_of (sym a ∙ e)))
       go (invalid w v a) e = (w, v)
       go (bad p b a) e = absurd (omega (arith, ap number_of (sym a ∙ e)))
       go (out p b t a) e = absurd (done_not Invalid a e)
       go (let_in p b t a) e = absurd (not_operands Invalid (inl (omega arith)) a e)
 
-      back : Course → Within ram rom × (valid_of s ≡ false) → answer ≡ Refused Invalid
+      back : Course → Within ram rom × (valid_of s ≡ false) → answer ≡ Err Invalid
       back (long l a) h = absurd (far s ram rom l h.0)
       back (invalid w v a) h = a
       back (bad p b a) h = absurd (both s ram rom p.1 h.1)
       back (out p b t a) h = absurd (both s ram rom p.1 h.1)
       back (let_in p b t a) h = absurd (both s ram rom p.1 h.1)
 
-  nine_holds : (answer ≡ Refused BadRequest) ⇔ (Passed s ram rom × (Good level address → ⊥))
+  nine_holds : (answer ≡ Err BadRequest) ⇔ (Passed s ram rom × (Good level address → ⊥))
   nine_holds = (go course, back course)
     where
-      go : Course → answer ≡ Refused BadRequest → Passed s ram rom × (Good level address → ⊥)
+      go : Course → answer ≡ Err BadRequest → Passed s ram rom × (Good level address → ⊥)
       go (long l a) e = absurd (omega (arith, ap number_of (sym a ∙ e)))
       go (invalid w v a) e = absurd (omega (arith, ap number_of (sym a ∙ e)))
       go (bad p b a) e = (p, λ g. let z : ◌≡◌ {A = ℕ} 0 1 = ap (λ (x : Bool). cond x 0 1) (sym b ∙ good_not_bad level address g) in omega arith)
       go (out p b t a) e = absurd (done_not BadRequest a e)
       go (let_in p b t a) e = absurd (not_operands BadRequest (inr (omega arith)) a e)
 
-      back : Course → Passed s ram rom × (Good level address → ⊥) → answer ≡ Refused BadRequest
+      back : Course → Passed s ram rom × (Good level address → ⊥) → answer ≡ Err BadRequest
       back (long l a) h = absurd (far s ram rom l h.0.0)
       back (invalid w v a) h = absurd (both s ram rom h.0.1 v)
       back (bad p b a) h = a
@@ -190,7 +190,7 @@ module _ (level address : ℕ) (s : State) (ram rom : List ℕ) where
       let e = left_by_lem (did s ram) (offer_out p (good_not_bad level address g) t) in
       (e, ap (λ (o : Outcome). if_done o.answer admitted) e ∙ t)
 
-  unchanged : (t : Try) (w : Why) → (leaves s ram t).answer ≡ Refused w → ((leaves s ram t).state ≡ s) × ((leaves s ram t).ram ≡ ram)
+  unchanged : (t : Try) (w : Why) → (leaves s ram t).answer ≡ Err w → ((leaves s ram t).state ≡ s) × ((leaves s ram t).ram ≡ ram)
   unchanged (did u m) w e = absurd (omega (arith, ap number_of e, some w))
   unchanged (no v) w e = (refl, refl)
 
@@ -206,17 +206,17 @@ module _ (level address : ℕ) (s : State) (ram rom : List ℕ) where
     pub passed : Passed s ram rom
     pub good : bad_request level address ≡ false
     pub lets : admitted ≡ true
-    pub done : answer ≡ Done
+    pub done : answer ≡ (Ok tt)
 
-  took_done : (a : Answer) (b : Bool) → if_done a b ≡ true → (a ≡ Done) × (b ≡ true)
-  took_done Done b e = (refl, e)
-  took_done (Refused w) b e = let z : ◌≡◌ {A = ℕ} 0 1 = cc in absurd (omega arith)
+  took_done : (a : Answer) (b : Bool) → if_done a b ≡ true → (a ≡ (Ok tt)) × (b ≡ true)
+  took_done (Ok _) b e = (refl, e)
+  took_done (Err w) b e = let z : ◌≡◌ {A = ℕ} 0 1 = cc in absurd (omega arith)
 
   pub taken_says : took_of level address s ram rom ≡ true → Taken
   unfolding took_of
   taken_says e = let d = took_done answer admitted e in go course d.0 d.1
     where
-      go : Course → answer ≡ Done → admitted ≡ true → Taken
+      go : Course → answer ≡ (Ok tt) → admitted ≡ true → Taken
       go (long l a) d t = absurd (omega (arith, ap number_of (sym a ∙ d)))
       go (invalid w v a) d t = absurd (omega (arith, ap number_of (sym a ∙ d)))
       go (bad p b a) d t = absurd (omega (arith, ap number_of (sym a ∙ d)))
@@ -224,7 +224,7 @@ module _ (level address : ℕ) (s : State) (ram rom : List ℕ) where
       go (let_in p b i a) d t = record { passed = p; good = b; lets = t; done = d }
 
   taken_holds :
-      (took_of level address s ram rom ≡ true) ⇔ (Passed s ram rom × Good level address × (admitted ≡ true) × (operands ≡ Done))
+      (took_of level address s ram rom ≡ true) ⇔ (Passed s ram rom × Good level address × (admitted ≡ true) × (operands ≡ (Ok tt)))
   unfolding took_of
   taken_holds = (
     λ e. let t = taken_says e in (t.passed, not_bad_good level address t.good, t.lets, sym (in_answer t.passed t.good t.lets) ∙ t.done),
@@ -255,16 +255,16 @@ module _ (level address : ℕ) (s : State) (ram rom : List ℕ) where
       (valid_from _ x.0, (λ ok. (taken_left Whole whole_kept (whole_recounted (Interrupts Reti) refl) (v, ok) t).0.1), x.1)
 
   -- ---- whatever comes of it
-  refused_some : (a : Answer) → if_done a true ≡ false → (w : Why) × (a ≡ Refused w)
-  refused_some Done e = let z : ◌≡◌ {A = ℕ} 0 1 = cc in absurd (omega arith)
-  refused_some (Refused w) e = (w, refl)
+  refused_some : (a : Answer) → if_done a true ≡ false → (w : Why) × (a ≡ Err w)
+  refused_some (Ok _) e = let z : ◌≡◌ {A = ℕ} 0 1 = cc in absurd (omega arith)
+  refused_some (Err w) e = (w, refl)
 
   -- where it is not taken, all is as it was
   pub untaken_same : took_of level address s ram rom ≡ false → ((request_of level address s ram rom).state ≡ s) × ((request_of level address s ram rom).ram ≡ ram)
   unfolding took_of
   untaken_same e = go course
     where
-      kept : (w : Why) → answer ≡ Refused w → ((request_of level address s ram rom).state ≡ s) × ((request_of level address s ram rom).ram ≡ ram)
+      kept : (w : Why) → answer ≡ Err w → ((request_of level address s ram rom).state ≡ s) × ((request_of level address s ram rom).ram ≡ ram)
       kept w f = let r = offer_refused w f in (r.0, r.1)
 
       go : Course → ((request_of level address s ram rom).state ≡ s) × ((request_of level address s ram rom).ram ≡ ram)

@@ -7,8 +7,6 @@ use native.Mathlib.Omega.{arith}
 use lib.ListN.{length, get_or, set, take, drop}
 use lib.Seq.{set-set, set-get_or}
 use Rattle.answer.specs.Number.{number_of}
-use Rattle.answer.specs.declared.Answer.{Answer}
-use Rattle.answer.specs.declared.Answer.TheVariants.{Done, Refused}
 use Rattle.little.specs.declared.Size.TheVariants.{Byte, Long}
 use Rattle.little.specs.Bytes.{value_of, bytes_from, replaced}
 use Rattle.little.proofs.Laws.{length_bytes, value_bytes, replaced_part, replaced_length}
@@ -17,8 +15,6 @@ use Rattle.flags.proofs.Packed.{byte_low}
 use Rattle.memory.specs.Access.{bytes_at, load_from, load_bytes, load_of, store_to, store_bytes, ram_with, ram_bytes, code_at}
 use Rattle.memory.specs.declared.Place.{Place}
 use Rattle.memory.specs.declared.Place.TheVariants.{Ram, Rom, Missing}
-use Rattle.memory.specs.declared.Loaded.{Loaded}
-use Rattle.memory.specs.declared.Loaded.TheVariants as loaded
 use Rattle.memory.proofs.Laws.{place_ram, ram_fits_lem}
 use Rattle.state.specs.declared.State.{State}
 use Rattle.state.specs.declared.Bank.{Bank}
@@ -65,6 +61,9 @@ use Rattle.between.specs.History.{Event, history_of}
 use Rattle.between.specs.Return.{unmarked, GivesBack, HandlerReturns, ReturnsAtOnce, GoesOn, RoundsGoOn}
 use Rattle.between.proofs.Offer.{Taken, taken_says, taken_is, taken_keeps}
 use Rattle.between.proofs.History.{history_keeps}
+use Rattle.std.proofs.Common.{Ok, Err}
+use Rattle.answer.specs.Number.{Answer}
+use Rattle.memory.specs.Access.{Loaded}
 
 -- ---- XSP
 -- it is the last of the twenty longs, in every bank
@@ -105,8 +104,8 @@ module _ (level address : ℕ) (s : State) (ram rom : List ℕ) where
   -- what a taken request leaves, with the vector that it read
   record Left : Type 0 where
     vector : ℕ
-    left : request_of level address s ram rom ≡ after Done (entered level vector (with_stack s end)) (ram_bytes ram rom at 6 (return_address s))
-    stored : store_bytes ram rom at 6 ≡ Done
+    left : request_of level address s ram rom ≡ after (Ok tt) (entered level vector (with_stack s end)) (ram_bytes ram rom at 6 (return_address s))
+    stored : store_bytes ram rom at 6 ≡ (Ok tt)
 
   left_by_lem : Taken level address s ram rom → Left
   left_by_lem t = loading (load_of ram rom address Long) (taken_is level address s ram rom t)
@@ -114,16 +113,16 @@ module _ (level address : ℕ) (s : State) (ram rom : List ℕ) where
       storing :
           (v : ℕ) (a : Answer) → store_bytes ram rom at 6 ≡ a →
           request_of level address s ram rom ≡ leaves s ram (and_then (stored_by a (with_stack s end) (ram_bytes ram rom at 6 (return_address s))) (entered level v)) → Left
-      storing v Done e h = record { vector = v; left = h; stored = e }
-      storing v (Refused w) e h = absurd (omega (arith, ap number_of (sym (ap (λ (o : Outcome). o.answer) h) ∙ t.done), some w))
+      storing v (Ok _) e h = record { vector = v; left = h; stored = e }
+      storing v (Err w) e h = absurd (omega (arith, ap number_of (sym (ap (λ (o : Outcome). o.answer) h) ∙ t.done), some w))
 
       loading :
           (l : Loaded) → request_of level address s ram rom ≡ leaves s ram (with_loaded l (λ v. entering (return_address s) level v s ram rom)) → Left
-      loading (loaded.Value v) h = storing v (store_bytes ram rom at 6) refl h
-      loading (loaded.Missing x) h = absurd (omega (arith, ap number_of (sym (ap (λ (o : Outcome). o.answer) h) ∙ t.done)))
+      loading (Ok v) h = storing v (store_bytes ram rom at 6) refl h
+      loading (Err x) h = absurd (omega (arith, ap number_of (sym (ap (λ (o : Outcome). o.answer) h) ∙ t.done)))
 
   -- the six bytes are in RAM
-  in_ram : (p : Place) → bytes_at ram rom at 6 ≡ p → store_to p at ≡ Done → (bytes_at ram rom at 6 ≡ Ram at) × (at + 6 ≤ length ram)
+  in_ram : (p : Place) → bytes_at ram rom at 6 ≡ p → store_to p at ≡ (Ok tt) → (bytes_at ram rom at 6 ≡ Ram at) × (at + 6 ≤ length ram)
   in_ram (Ram o) e d = let f = ram_fits_lem (length ram) (length rom) at 6 o e in (e ∙ ap Ram f.0, omega (arith, f.0, f.1))
   in_ram (Rom o) e d = absurd (omega (arith, ap number_of d))
   in_ram (Missing x) e d = absurd (omega (arith, ap number_of d))
@@ -197,14 +196,14 @@ is_reti_lem rest = reads_back (Interrupts Reti) Byte (Constant 0) rest refl
 -- with six bytes v on the stack, whose end is x
 module _ (u : State) (l rom rest : List ℕ) (v x : ℕ) where
   reti_done :
-      register_at u.registers u.bank Long 7 ≡ x → load_bytes l rom (x % 2 ^ 24) 6 ≡ loaded.Value v →
-      leaves u l (executed_of reti u l rom) ≡ after Done (returned (with_stack (past_of 1 u) (plus 32 x 6)) v) l
+      register_at u.registers u.bank Long 7 ≡ x → load_bytes l rom (x % 2 ^ 24) 6 ≡ Ok v →
+      leaves u l (executed_of reti u l rom) ≡ after (Ok tt) (returned (with_stack (past_of 1 u) (plus 32 x 6)) v) l
   unfolding executed_of effect_of interrupt_of past_of with_counter
   reti_done e h = rw (e, h) refl
 
   reti_step :
       Passed u l rom → code_at l rom u.counter ≡ 0x07 ∷ rest → register_at u.registers u.bank Long 7 ≡ x →
-      load_bytes l rom (x % 2 ^ 24) 6 ≡ loaded.Value v → step_of u l rom ≡ after Done (returned (with_stack (past_of 1 u) (plus 32 x 6)) v) l
+      load_bytes l rom (x % 2 ^ 24) 6 ≡ Ok v → step_of u l rom ≡ after (Ok tt) (returned (with_stack (past_of 1 u) (plus 32 x 6)) v) l
   reti_step p c e h = step_whole u l rom reti p (ap decode_of c ∙ is_reti_lem rest) ∙ reti_done e h
 
 -- what a pop moves past an instruction: XSP alone
@@ -304,7 +303,7 @@ module _ (level address : ℕ) (s : State) (ram rom : List ℕ) (ok : Sound s) (
       ∙ ap (λ (v : ℕ). set s.registers 19 v) y
       ∙ set-get_or s.registers 19 0
 
-  came_back : (es : List Event) (u : State) (l : List ℕ) → GivesBack t m rom es u l → step_of u l rom ≡ after Done (unmarked s) l
+  came_back : (es : List Event) (u : State) (l : List ℕ) → GivesBack t m rom es u l → step_of u l rom ≡ after (Ok tt) (unmarked s) l
   came_back es u l g =
       let h = history_keeps es t m rom u l g.came in
       let n : length l ≡ length ram = h.room ∙ m_length in
@@ -312,12 +311,12 @@ module _ (level address : ℕ) (s : State) (ram rom : List ℕ) (ok : Sound s) (
       let part : take 6 (drop a l) ≡ bytes_from 6 (return_address s) =
       rw t_pointer at g.stack ∙ m_part in
       let value : value_of (take 6 (drop a l)) ≡ return_address s = ap value_of part ∙ value_bytes 6 (return_address s) address_lt in
-      let loads : load_bytes l rom a 6 ≡ loaded.Value (return_address s) =
-      ap (λ (p : Place). load_from p l rom 6) (place_ram (length l) (length rom) a 6 fits) ∙ ap loaded.Value value in
+      let loads : load_bytes l rom a 6 ≡ Ok (return_address s) =
+      ap (λ (p : Place). load_from p l rom 6) (place_ram (length l) (length rom) a 6 fits) ∙ ap Ok value in
       let w = with_stack (past_of 1 u) (plus 32 x 6) in
       let kept = past_parts u (plus 32 x 6) in
       reti_step u l rom g.rest (return_address s) x (h.passed passed) g.reti (stack_end u.registers u.bank g.registers) loads
-      ∙ ap (λ (z : State). after Done z l)
+      ∙ ap (λ (z : State). after (Ok tt) z l)
       (returned_is w (return_address s)
       ∙ all_same (registers_back u (h.sound t_sound) g.registers) (back_counter s valid) (back_bank s valid) (back_level s valid) (back_flags s valid)
       (kept.0 ∙ g.spare ∙ t_parts.1)
@@ -346,7 +345,7 @@ unmarked_same s e = let f : f_of s.flags ≡ s.flags = omega arith in rw f refl
 module _ (f : Form) (rom : List ℕ) where
   goes_on_lem : (t : State) (m : List ℕ) → At f t m rom → marks_of t.flags ≡ 0 → GoesOn f rom t m
   goes_on_lem t m at none level address es u l k g =
-      let back = handler_returns level address t m rom es u l at.sound k g ∙ ap (λ (z : State). after Done z l) (unmarked_same t none) in
+      let back = handler_returns level address t m rom es u l at.sound k g ∙ ap (λ (z : State). after (Ok tt) z l) (unmarked_same t none) in
       let h = history_keeps es _ _ rom u l g.came in
       let n : length l ≡ length m = h.room ∙ spares_length (below_stack t 6) m (request_of level address t m rom).ram (taken_keeps level address t m rom k).2 in (
         back,

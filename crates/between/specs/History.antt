@@ -1,6 +1,6 @@
 -- Steps with offers of requests between them, one after the other (request K8). Each statement is proved in proofs/History.antt.
-use Rattle.std.specs.Prelude.{ℕ, ◌+◌, ◌%◌, ◌^◌, ◌<◌, ◌≡◌, List, [], ◌∷◌, Bool, true, false, cond}
-use Rattle.answer.specs.declared.{Answer.TheVariants.Done, Answer.TheVariants.Refused, Why.Why}
+use Rattle.std.specs.Prelude.{ℕ, ◌+◌, ◌%◌, ◌^◌, ◌<◌, ◌≡◌, List, [], ◌∷◌, Bool, true, false, cond, Ok, Err}
+use Rattle.answer.specs.declared.{Why.Why}
 use Rattle.memory.specs.Access.{code_at}
 use Rattle.state.specs.{declared.State.State, Sound.Sound}
 use Rattle.code.specs.{declared.Op.Op, declared.Interrupt.Interrupt, declared.Decoded.Decoded, Listed.decode_of}
@@ -93,4 +93,4 @@ module _ (es : List Event) (s t : State) (ram rom m : List ℕ) where
   UntakenIsRun =
       let n = counted_in stepping es s ram rom in
       Passed s ram rom → history_of es s ram rom ≡ did t m → counted_in taking es s ram rom ≡ 0 → n < most_steps →
-      (run_of n s ram rom ≡ ends n t m Done) × ((w : Why) → try_of t m rom ≡ no w → run_of (n + 1) s ram rom ≡ ends n t m (Refused w))
+      (run_of n s ram rom ≡ ends n t m (Ok tt)) × ((w : Why) → try_of t m rom ≡ no w → run_of (n + 1) s ram rom ≡ ends n t m (Err w))

@@ -1,7 +1,6 @@
 -- The return from a request that was taken, at once or after a handler, also between two rounds of a repeating copy or compare
 -- (request K8). Each statement is proved in proofs/Return.antt.
-use Rattle.std.specs.Prelude.{ℕ, ◌<◌, ◌≡◌, List, ◌∷◌, true, take, drop}
-use Rattle.answer.specs.declared.Answer.TheVariants.{Done}
+use Rattle.std.specs.Prelude.{ℕ, ◌<◌, ◌≡◌, List, ◌∷◌, true, take, drop, Ok}
 use Rattle.little.specs.Bytes.{Bytes}
 use Rattle.memory.specs.Access.{code_at}
 use Rattle.state.specs.{declared.State.State, State.f_of, State.with_flags, Sound.Sound}
@@ -36,7 +35,7 @@ module _ (level address : ℕ) (s : State) (ram rom : List ℕ) where
   HandlerReturns =
       (es : List Event) (u : State) (l : List ℕ) → Sound s → took_of level address s ram rom ≡ true →
       GivesBack (request_of level address s ram rom).state (request_of level address s ram rom).ram rom es u l →
-      step_of u l rom ≡ after Done (unmarked s) l
+      step_of u l rom ≡ after (Ok tt) (unmarked s) l
 
   -- RETI at once: registers, counter, SR and count are those before the request, the marks of F are cleared, and of RAM nothing
   -- has changed but the six bytes below the stack
@@ -45,7 +44,7 @@ module _ (level address : ℕ) (s : State) (ram rom : List ℕ) where
       (rest : List ℕ) → Sound s → took_of level address s ram rom ≡ true →
       code_at (request_of level address s ram rom).ram rom (request_of level address s ram rom).state.counter ≡ 0x07 ∷ rest →
       (step_of (request_of level address s ram rom).state (request_of level address s ram rom).ram rom
-      ≡ after Done (unmarked s) (request_of level address s ram rom).ram)
+      ≡ after (Ok tt) (unmarked s) (request_of level address s ram rom).ram)
       × KeepsRest (below_stack s 6) ram (request_of level address s ram rom).ram
 
 -- ---- between two rounds
@@ -56,7 +55,7 @@ module _ (f : Form) (rom : List ℕ) where
   GoesOn t m =
       (level address : ℕ) (es : List Event) (u : State) (l : List ℕ) → took_of level address t m rom ≡ true →
       GivesBack (request_of level address t m rom).state (request_of level address t m rom).ram rom es u l →
-      (step_of u l rom ≡ after Done t l)
+      (step_of u l rom ≡ after (Ok tt) t l)
       × (Bytes l → decode_of (code_at l rom t.counter) ≡ decode_of (code_at m rom t.counter) → At f t l rom × EveryStart f t l rom)
 
   -- a run comes through n rounds of a repeating form, one or more, that nothing ends, and the counter is at it still; a request is taken there,
@@ -64,4 +63,4 @@ module _ (f : Form) (rom : List ℕ) where
   abbrev pub RoundsGoOn : Type 0
   RoundsGoOn =
       (s : State) (ram : List ℕ) (n : ℕ) → At f s ram rom → 0 < n → n < count_of s → Passes f s ram rom n → Spares f s n →
-      (t : State) × (m : List ℕ) × (rounds_of n f s ram rom ≡ did t m) × (run_of n s ram rom ≡ ends n t m Done) × (t.counter ≡ s.counter) × GoesOn t m
+      (t : State) × (m : List ℕ) × (rounds_of n f s ram rom ≡ did t m) × (run_of n s ram rom ≡ ends n t m (Ok tt)) × (t.counter ≡ s.counter) × GoesOn t m

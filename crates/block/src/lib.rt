@@ -19,7 +19,7 @@ use answer::{Answer, Why};
 use code::Form;
 use flags::Computed;
 use little::{ADDRESSES, Size};
-use memory::{Loaded, Place};
+use memory::Place;
 use operand::pointer;
 use state::Bank;
 
@@ -31,17 +31,12 @@ fn more(bank: Bank, regs: &[u32; 20]) -> bool
 }
 
 // BC less one.
+#[tactic(auto, using(state::proofs::Laws::register_lt, operand::proofs::Laws::less_is), unfolding(crate::specs::Block::counted))]
 fn counted(bank: Bank, regs: &mut [u32; 20])
     ensures { (s : State) → banked s regs.new bank ≡ counted (banked s regs.old bank) }
 {
     let bc = (state::read(&*regs, bank, Size::Word, 1) % 65536) as u16;
-    state::write(
-        regs,
-        bank,
-        Size::Word,
-        1,
-        std::num::wrapping_sub_u16(bc, 1) as u32,
-    );
+    state::write(regs, bank, Size::Word, 1, bc.wrapping_sub(1) as u32);
 }
 
 // A pointer's value past its element.
@@ -49,14 +44,15 @@ fn stepped(f: Form, x: u32) -> u32
     ensures { result ≡ stepped_of f x }
 {
     let size = f.size;
-    let n = little::bytes(size) as u32;
+    let n = size.bytes() as u32;
     if f.up {
-        return std::num::wrapping_add_u32(x, n);
+        return x.wrapping_add(n);
     }
-    std::num::wrapping_sub_u32(x, n)
+    x.wrapping_sub(n)
 }
 
 // A pointer past its element.
+#[tactic(auto, unfolding(crate::specs::Block::moved))]
 fn moved(f: Form, r: u8, bank: Bank, regs: &mut [u32; 20])
     ensures { (s : State) → banked s regs.new bank ≡ moved f r (banked s regs.old bank) }
 {
@@ -101,6 +97,7 @@ fn compared(f: Form, v: u32, bank: Bank, flags: &mut u16, regs: &mut [u32; 20])
 }
 
 // The second half of a copy's round.
+#[tactic(auto, using(operand::proofs::Laws::stored, operand::proofs::Laws::not_stored))]
 fn copy(
     f: Form,
     v: u32,
@@ -115,15 +112,13 @@ fn copy(
         result (banked_with s regs.new bank flags.new) ram.new }
 {
     let size = f.size;
-    let a = memory::store(ram, rom, pointer(bank, &*regs, f.to), size, v);
-    if let Answer::Refused(_) = a {
-        return a;
-    }
+    memory::store(ram, rom, pointer(bank, &*regs, f.to), size, v)?;
     copied(f, bank, flags, regs);
-    Answer::Done
+    Ok(())
 }
 
 // One round: what LDI, LDD, CPI and CPD do, but for the counter.
+#[tactic(auto, unfolding(crate::specs::Block::round_of))]
 fn one_round(
     f: Form,
     bank: Bank,
@@ -137,16 +132,12 @@ fn one_round(
         result (banked_with s regs.new bank flags.new) ram.new }
 {
     let size = f.size;
-    match memory::load(&*ram, rom, pointer(bank, &*regs, f.from), size) {
-        Loaded::Value(v) => {
-            if f.copies {
-                return copy(f, v, bank, flags, regs, ram, rom);
-            }
-            compared(f, v, bank, flags, regs);
-            Answer::Done
-        }
-        Loaded::Missing(a) => Answer::Refused(Why::Missing(a)),
+    let v = memory::load(&*ram, rom, pointer(bank, &*regs, f.from), size)?;
+    if f.copies {
+        return copy(f, v, bank, flags, regs, ram, rom);
     }
+    compared(f, v, bank, flags, regs);
+    Ok(())
 }
 
 // The round that others call: a call and no more, so that a wrong round can be tried in its place.
@@ -165,6 +156,7 @@ pub fn round(
     one_round(f, bank, flags, regs, ram, rom)
 }
 
+#[tactic(auto, unfolding(crate::specs::Block::goes_on))]
 fn goes_on(f: Form, bank: Bank, flags: u16, regs: &[u32; 20]) -> bool
     ensures { (s : State) → result ≡ goes_on f (banked_with s regs.now bank flags) }
 {
@@ -179,6 +171,7 @@ fn goes_on(f: Form, bank: Bank, flags: u16, regs: &[u32; 20]) -> bool
 }
 
 // The counter at the form again, where it goes on.
+#[tactic(auto, unfolding(crate::specs::Block::ends_at, state::specs::State::with_counter))]
 pub fn ended(f: Form, at: u32, bank: Bank, flags: u16, regs: &[u32; 20], counter: u32) -> u32
     ensures { (s : State) → banked_at_with s regs.now bank result flags
         ≡ ends_at f at (banked_at_with s regs.now bank counter flags) }
@@ -193,11 +186,7 @@ pub fn ended(f: Form, at: u32, bank: Bank, flags: u16, regs: &[u32; 20], counter
 pub fn in_rom(ram_len: usize, rom_len: usize, at: u32) -> bool
     ensures { result ≡ in_rom (place_of ram_len rom_len at 1) }
 {
-    match memory::find(ram_len, rom_len, at, 1) {
-        Place::Ram(_) => false,
-        Place::Rom(_) => true,
-        Place::Missing(_) => false,
-    }
+    matches!(memory::find(ram_len, rom_len, at, 1), Place::Rom(_))
 }
 
 // Whether another round is done in the same call.

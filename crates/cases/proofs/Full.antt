@@ -12,7 +12,6 @@ use Rattle.memory.specs.Place.{place_of, Present}
 use Rattle.memory.specs.Access.{load_of, load_from, code_at}
 use Rattle.memory.specs.declared.Place.{Place}
 use Rattle.memory.specs.declared.Place.TheVariants.{Ram, Rom}
-use Rattle.memory.specs.declared.Loaded.TheVariants.{Value}
 use Rattle.memory.proofs.Laws.{place_ram, place_rom}
 use Rattle.state.specs.State.{reset_state, valid_of, long_of, with_long, with_counter, with_both_flags, with_flags}
 use Rattle.state.specs.Register.{get_bits, set_bits, slot_in, set_slot, slot_of, register_at, get_register, set_register}
@@ -25,6 +24,7 @@ use Rattle.run.specs.Demand.{At, Spares, EqualAt, Passes, at_count, count_of, pa
 use Rattle.cases.specs.Table.{machine, begin}
 use Rattle.cases.specs.Evidence.{ldir, cpir, full_ram, full_rom, seek_rom, full_copy, full_seek, StartMet, tells}
 use Rattle.cases.proofs.Tests.{at_by}
+use Rattle.std.proofs.Common.{Ok}
 
 -- ---- the memories and the registers
 full_ram_lem : length full_ram ≡ 65536
@@ -108,9 +108,9 @@ first_of [] (suc i) = refl
 first_of (x ∷ l) zero = omega arith
 first_of (x ∷ l) (suc i) = first_of l i
 
-seek_loads : (i : ℕ) → i < 65536 → load_of full_ram seek_rom (element_of cpir full_seek i) Byte ≡ Value 0
+seek_loads : (i : ℕ) → i < 65536 → load_of full_ram seek_rom (element_of cpir full_seek i) Byte ≡ Ok 0
 unfolding load_of
-seek_loads i h = ap (λ (p : Place). load_from p full_ram seek_rom 1) (seek_place i h) ∙ ap Value (first_of full_ram i ∙ full_zero i h)
+seek_loads i h = ap (λ (p : Place). load_from p full_ram seek_rom 1) (seek_place i h) ∙ ap Ok (first_of full_ram i ∙ full_zero i h)
 
 seek_one : get_register full_seek Byte 1 ≡ 1
 unfolding full_seek begin reset_state long_of with_long with_counter with_both_flags with_flags get_bits set_bits slot_in set_slot slot_of register_at set_register
@@ -118,7 +118,7 @@ seek_one = refl
 
 seek_none : (i : ℕ) → i < 65536 → EqualAt cpir full_seek full_ram seek_rom i → ⊥
 seek_none i h q =
-    let a = sym (seek_loads i h) ∙ q.1 ∙ ap Value seek_one in
+    let a = sym (seek_loads i h) ∙ q.1 ∙ ap Ok seek_one in
     let z : ◌≡◌ {A = ℕ} 0 1 = cc in
     omega arith
 

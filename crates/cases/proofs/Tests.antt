@@ -12,9 +12,6 @@ use Rattle.little.specs.Width.{bytes_of}
 use Rattle.memory.specs.Access.{load_of, code_at}
 use Rattle.memory.specs.declared.Place.{Place}
 use Rattle.memory.specs.declared.Place.TheVariants.{Ram, Rom, Missing}
-use Rattle.memory.specs.declared.Loaded.{Loaded}
-use Rattle.memory.specs.declared.Loaded.TheVariants.{Value}
-use Rattle.memory.specs.declared.Loaded.TheVariants as loaded
 use Rattle.state.specs.State.{valid_of}
 use Rattle.state.specs.declared.State.{State}
 use Rattle.state.proofs.Sound.{and_left, and_right, fits, fits_says, sound_test, sound_by}
@@ -29,6 +26,8 @@ use Rattle.block.specs.Block.{accumulator}
 use Rattle.run.specs.Demand.{At, Spares, EqualAt, RefusedAt, element_of, target_of, element_place, count_of, at_count, at_equal, at_refusal, Passes}
 use Rattle.cases.specs.Table.{Machine}
 use Rattle.cases.specs.Evidence.{StartMet, tells}
+use Rattle.std.proofs.Common.{Ok, Err}
+use Rattle.memory.specs.Access.{Loaded}
 
 or_says : (a b : Bool) → T (a || b) → T a ⊎ T b
 or_says true b t = inl tt
@@ -56,14 +55,14 @@ present (Rom o) = true
 present (Missing x) = false
 
 unfoldable pub differs : Loaded → ℕ → Bool
-differs (Value v) a = not (eqb v a)
-differs (loaded.Missing x) a = true
+differs (Ok v) a = not (eqb v a)
+differs (Err x) a = true
 
 missing_not : (x : ℕ) → T (present (Missing x)) → ⊥
 unfolding present
 missing_not x t = t
 
-value_not : (a : ℕ) → T (differs (Value a) a) → ⊥
+value_not : (a : ℕ) → T (differs (Ok a) a) → ⊥
 unfolding differs
 value_not a t = T_not (eqb a a) t (eqb_refl a)
 

@@ -1,6 +1,5 @@
 -- Registers of every bank, by a code byte (request K1): the timer routine's kind of work.
-use Rattle.std.specs.Prelude.{ℕ, List, [], ◌∷◌}
-use Rattle.answer.specs.declared.Answer.TheVariants.{Refused}
+use Rattle.std.specs.Prelude.{ℕ, List, [], ◌∷◌, Err}
 use Rattle.answer.specs.declared.Why.{Why}
 use Rattle.answer.specs.declared.Why.TheVariants.{NoCode, Unlisted}
 use Rattle.cases.specs.Table.{Case, ComesOut, OfEach, begin, ◌▹◌, ◌&◌, nothing, A, WA, F, Bank, Counter, Nth, row, does}
@@ -49,7 +48,7 @@ counting =
 
 -- a code byte that names nothing is 4 at that byte, even where no byte follows; 3 where a byte lacks that could still make it whole
 abbrev pub halts : Why → List ℕ → Case
-halts w code = row 1 (begin 0xD7 code) [] 0 nothing (Refused w)
+halts w code = row 1 (begin 0xD7 code) [] 0 nothing (Err w)
 
 unfoldable pub unnamed : List Case
 unnamed =

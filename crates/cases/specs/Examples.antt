@@ -1,8 +1,7 @@
 -- The book's execution examples for the listed instructions, as one table. All numbers are in hex.
 -- What an example does not give is zero. An address beyond RAM is cut to its low byte. F after a step is by the flag lines of the same page.
 -- CALL and RET are left out, since their examples are for minimum mode.
-use Rattle.std.specs.Prelude.{ℕ, ◌-◌, List, [], ◌∷◌, ◌++◌, length, replicate}
-use Rattle.answer.specs.declared.Answer.TheVariants.{Done}
+use Rattle.std.specs.Prelude.{ℕ, ◌-◌, List, [], ◌∷◌, ◌++◌, length, replicate, Ok}
 use Rattle.state.specs.State.{zero_state}
 use Rattle.cases.specs.Table.{machine, Case, ComesOut, OfEach, Setting, ◌▹◌, ◌&◌, nothing, row, does, A, WA, BC, DE, HL, IX, XIX, XIY, XSP, F, Bank}
 use Rattle.cases.specs.Table.{Counter, Ram}
@@ -11,7 +10,7 @@ use Rattle.cases.specs.Table.{Counter, Ram}
 abbrev steps : ℕ → List ℕ → Setting → Setting → Case
 steps n code before after =
     row n (machine zero_state (replicate 0x102 0) ▹ Counter (0xFFFFF0 - length code) & before) (code ++ replicate 0x10 0) n
-    (Counter 0xFFFFF0 & after) Done
+    (Counter 0xFFFFF0 & after) (Ok tt)
 
 -- an example of one step
 abbrev step : List ℕ → Setting → Setting → Case

@@ -1,6 +1,5 @@
 -- Interrupts (request K8): EI, SR on the stack and RETI; and histories, which are steps with offers of requests among them.
-use Rattle.std.specs.Prelude.{ℕ, ◌≡◌, List, [], ◌∷◌, true, replicate}
-use Rattle.answer.specs.declared.Answer.TheVariants.{Done}
+use Rattle.std.specs.Prelude.{ℕ, ◌≡◌, List, [], ◌∷◌, true, replicate, Ok}
 use Rattle.answer.specs.declared.Why.TheVariants.{TooLong, Invalid, BadRequest, NoCode, Unlisted, Undefined, Missing, ToRom}
 use Rattle.step.specs.Step.{step_of}
 use Rattle.request.specs.Request.{request_of, took_of}
@@ -56,7 +55,7 @@ pops =
     ∷ does 1 (marked 0xD7 (0x03 ∷ 0x00 ∷ 0x55 ∷ 0x52 ∷ []) ▹ XSP 2 & F' 0x300 & Nesting 9) (XSP 4 & F 0x55 & Bank 2 & Level 5 & Counter 1)
     -- out of ROM, and XSP goes round
     ∷ row 1 (marked 0xD7 (0x03 ∷ []) ▹ XSP 0xFFFFFFFE) (0x00 ∷ 0x00 ∷ 0x01 ∷ 0x11 ∷ []) 1
-    (XSP 0 & F 0x01 & Bank 1 & Level 1 & Counter 1) Done
+    (XSP 0 & F 0x01 & Bank 1 & Level 1 & Counter 1) (Ok tt)
     -- 5: the second byte is past RAM's end
     ∷ stops (marked 0xD7 (0x03 ∷ []) ▹ XSP 7) [] (Missing 8)
     -- and PUSH SR after it: bits 15 and 11 are 1, bits 10, 5 and 3 are 0, whatever was popped
@@ -78,7 +77,7 @@ returns =
     ∷ does 1 (marked 0xD7 (0x07 ∷ []) ▹ XSP 2 & Bank 3 & Nesting 65535) (XSP 8 & F 0x00 & Bank 0 & Level 0 & Counter 0 & Nesting 65534)
     -- out of ROM, and XSP goes round
     ∷ row 1 (marked 0xD7 (0x07 ∷ []) ▹ XSP 0xFFFFFFFA & Nesting 1) (0x00 ∷ 0x00 ∷ 0x01 ∷ 0x11 ∷ 0x02 ∷ 0x00 ∷ 0x00 ∷ 0x00 ∷ []) 1
-    (XSP 0 & F 0x01 & Bank 1 & Level 1 & Counter 2 & Nesting 0) Done
+    (XSP 0 & F 0x01 & Bank 1 & Level 1 & Counter 2 & Nesting 0) (Ok tt)
     -- 5: one byte of the six, or five, past RAM's end; over the top; nothing is there
     ∷ stops (marked 0xD7 (0x07 ∷ []) ▹ XSP 3) [] (Missing 8) ∷ stops (marked 0xD7 (0x07 ∷ []) ▹ XSP 7) [] (Missing 8)
     ∷ stops (marked 0xD7 (0x07 ∷ []) ▹ XSP 0xFFFFFC) four_rom (Missing 0)

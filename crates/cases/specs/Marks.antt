@@ -1,6 +1,5 @@
 -- Marks, and the steps that stop at one (request K6): set, cleared, kept and exchanged; each condition, and PUSH F.
-use Rattle.std.specs.Prelude.{ℕ, ◌+◌, List, [], ◌∷◌, replicate}
-use Rattle.answer.specs.declared.Answer.TheVariants.{Refused}
+use Rattle.std.specs.Prelude.{ℕ, ◌+◌, List, [], ◌∷◌, replicate, Err}
 use Rattle.answer.specs.declared.Why.TheVariants.{Invalid, Undefined}
 use Rattle.cases.specs.Table.{Machine, Case, ComesOut, OfEach, Setting, begin, ◌▹◌, ◌&◌, nothing, A, WA, BC, DE, XDE, XHL, XIX, XSP, F, F'}
 use Rattle.cases.specs.Table.{Counter, Ram, row, does}
@@ -84,9 +83,9 @@ marks_stop =
     ∷ stops (marked 0x100 (0x18 ∷ []) ▹ XSP 8) [] Undefined ∷ stops (marked 0x200 (0x18 ∷ []) ▹ XSP 8) [] Undefined
     ∷ stops (marked 0x300 (0x18 ∷ []) ▹ XSP 0x100) [] Undefined ∷ stops (marked 0x100 (0x18 ∷ []) ▹ XSP 0) four_rom Undefined
     -- AND XDE,XHL and then JR LT: the jump is not done
-    ∷ row 2 (marked 0x00 (0xEB ∷ 0xC2 ∷ 0x61 ∷ 0x04 ∷ [])) [] 1 (F 0x210 & Counter 2) (Refused Undefined)
+    ∷ row 2 (marked 0x00 (0xEB ∷ 0xC2 ∷ 0x61 ∷ 0x04 ∷ [])) [] 1 (F 0x210 & Counter 2) (Err Undefined)
     -- the marks of F' come with EX F,F'
-    ∷ row 2 (marked 0x00 (0x16 ∷ 0x64 ∷ 0x04 ∷ []) ▹ F' 0x200) [] 1 (F 0x200 & F' 0x00 & Counter 1) (Refused Undefined)
+    ∷ row 2 (marked 0x00 (0x16 ∷ 0x64 ∷ 0x04 ∷ []) ▹ F' 0x200) [] 1 (F 0x200 & F' 0x00 & Counter 1) (Err Undefined)
     ∷ []
 
 -- ---- not 8: what is read is defined

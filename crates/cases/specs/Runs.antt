@@ -1,7 +1,6 @@
 -- Runs of repeating copies and compares, to the end and not so far, refused in the middle, and onto their own code; the checks of a run;
 -- the mill's start-up; and the addresses that go with 5 and 6.
-use Rattle.std.specs.Prelude.{ℕ, List, [], ◌∷◌, replicate}
-use Rattle.answer.specs.declared.Answer.TheVariants.{Done, Refused}
+use Rattle.std.specs.Prelude.{ℕ, List, [], ◌∷◌, replicate, Ok, Err}
 use Rattle.answer.specs.declared.Why.{Why}
 use Rattle.answer.specs.declared.Why.TheVariants.{TooMany, TooLong, Invalid, NoCode, Unlisted, Missing, ToRom}
 use Rattle.cases.specs.Table.{Machine, Case, ComesOut, OfEach, begin, ◌▹◌, ◌&◌, nothing, A, WA, BC, XDE, XHL, XIX, XIY, XSP, F, Bank, Counter, Ram, row, does}
@@ -51,7 +50,7 @@ whole_rom = 0xE1 ∷ 0xFD ∷ 0xFF ∷ 0x20 ∷ []
 
 -- one step that is refused and changes nothing
 abbrev pub stops : Machine → List ℕ → Why → Case
-stops m rom w = row 1 m rom 0 nothing (Refused w)
+stops m rom w = row 1 m rom 0 nothing (Err w)
 
 -- ---- the tables
 unfoldable pub copy_runs : List Case
@@ -90,12 +89,12 @@ unfoldable pub refused : List Case
 refused =
     -- the third element is past the end of RAM: its address is told
     row 5 (ldir_start ▹ XHL 8 & XDE 2 & BC 5 & Ram 8 (0xC1 ∷ 0xC2 ∷ [])) [] 2
-    (XHL 0xA & XDE 4 & BC 3 & F 0xC5 & Ram 2 (0xC1 ∷ 0xC2 ∷ [])) (Refused (Missing 0xA))
-    ∷ row 9 (cpir_start ▹ A 0x44 & XIX 5 & BC 9) [] 2 (XIX 7 & BC 7 & F 0x06) (Refused (Missing 7))
+    (XHL 0xA & XDE 4 & BC 3 & F 0xC5 & Ram 2 (0xC1 ∷ 0xC2 ∷ [])) (Err (Missing 0xA))
+    ∷ row 9 (cpir_start ▹ A 0x44 & XIX 5 & BC 9) [] 2 (XIX 7 & BC 7 & F 0x06) (Err (Missing 7))
     -- the third target is below 0, which is the end of ROM
-    ∷ row 4 to_rom_start to_rom_rom 2 (XHL 3 & XDE 0xFFFFFFFF & BC 2 & F 0x04 & Ram 0 (0xC4 ∷ 0xC5 ∷ [])) (Refused (ToRom 0xFFFFFF))
+    ∷ row 4 to_rom_start to_rom_rom 2 (XHL 3 & XDE 0xFFFFFFFF & BC 2 & F 0x04 & Ram 0 (0xC4 ∷ 0xC5 ∷ [])) (Err (ToRom 0xFFFFFF))
     -- the first target is nowhere
-    ∷ row 3 (ldir_start ▹ XDE 0x1000) [] 0 nothing (Refused (Missing 0x1000))
+    ∷ row 3 (ldir_start ▹ XDE 0x1000) [] 0 nothing (Err (Missing 0x1000))
     ∷ []
 
 -- onto its own code, which demand 3 leaves out: each step fetches afresh what the round before wrote
@@ -113,14 +112,14 @@ onto =
 unfoldable pub checks : List Case
 checks =
     -- 7: one step too many is refused first of all, and the most that may be asked for is not
-    row 1000001 (begin 0x20 (replicate 65537 0)) [] 0 nothing (Refused TooMany)
-    ∷ row 1000000 (begin 0x00 []) [] 0 nothing (Refused NoCode)
+    row 1000001 (begin 0x20 (replicate 65537 0)) [] 0 nothing (Err TooMany)
+    ∷ row 1000000 (begin 0x00 []) [] 0 nothing (Err NoCode)
     -- 1: even for 0 steps; as much as 65,536 bytes is allowed
-    ∷ row 0 (begin 0x20 (replicate 65537 0)) [] 0 nothing (Refused TooLong)
-    ∷ row 0 (begin 0x00 []) (replicate 65537 0) 0 nothing (Refused TooLong)
-    ∷ row 0 (begin 0x00 (replicate 65536 0)) (replicate 65536 0) 0 nothing Done
+    ∷ row 0 (begin 0x20 (replicate 65537 0)) [] 0 nothing (Err TooLong)
+    ∷ row 0 (begin 0x00 []) (replicate 65537 0) 0 nothing (Err TooLong)
+    ∷ row 0 (begin 0x00 (replicate 65536 0)) (replicate 65536 0) 0 nothing (Ok tt)
     -- 2: even for 0 steps
-    ∷ row 0 (begin 0x20 []) [] 0 nothing (Refused Invalid)
+    ∷ row 0 (begin 0x20 []) [] 0 nothing (Err Invalid)
     ∷ []
 
 -- the mill's start-up, and each number 4 to 7 (request K2): the bank is its low two bits; LDF changes nothing else but the counter
@@ -134,7 +133,7 @@ start_up =
     ∷ does 1 (ldf_start 0x06) (Bank 2 & Counter 2)
     ∷ does 1 (ldf_start 0x07 ▹ Bank 0) (Bank 3 & Counter 2)
     -- 08 is not listed
-    ∷ row 1 (ldf_start 0x08) [] 0 nothing (Refused Unlisted)
+    ∷ row 1 (ldf_start 0x08) [] 0 nothing (Err Unlisted)
     ∷ []
 
 -- the address that goes with 5 and 6 (request K3), with RAM 0 to 7, and ROM FFFFFCH to FFFFFFH where there is one

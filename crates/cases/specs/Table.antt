@@ -1,6 +1,6 @@
 -- How a table of runs, or of histories, is written: what they start from, and all that they leave.
-use Rattle.std.specs.Prelude.{ℕ, ◌≡◌, List, [], ◌∷◌, replicate}
-use Rattle.answer.specs.declared.{Answer.Answer, Answer.TheVariants.Done, Why.Why}
+use Rattle.std.specs.Prelude.{ℕ, ◌≡◌, List, [], ◌∷◌, replicate, Ok}
+use Rattle.answer.specs.declared.{Why.Why}
 use Rattle.little.specs.{declared.Size.Size, Bytes.replaced}
 use Rattle.little.specs.declared.Size.TheVariants.{Byte, Word, Long}
 use Rattle.state.specs.{declared.State.State, State.reset_state, State.lent, State.with_counter, State.with_bank, State.with_level, State.with_nesting, State.with_flags, State.with_both_flags, State.with_long, Register.set_register}
@@ -8,6 +8,7 @@ use Rattle.operand.specs.Try.{Try, did, no}
 use Rattle.turn.specs.Many.{ends}
 use Rattle.run.specs.Run.{run_of}
 use Rattle.between.specs.History.{Event, taking, history_of, counted_in}
+use Rattle.answer.specs.Number.{Answer}
 
 -- a state, and the bytes of RAM
 pub record Machine : Type 0 where
@@ -80,7 +81,7 @@ row steps m rom done change a = record { steps = steps; start = m; rom = rom; do
 
 -- all steps are done, with no ROM
 abbrev pub does : ℕ → Machine → Setting → Case
-does steps m change = row steps m [] steps change Done
+does steps m change = row steps m [] steps change (Ok tt)
 
 -- the run leaves just that
 abbrev pub ComesOut : Case → Type 0

@@ -20,14 +20,13 @@ use Rattle.code.specs.declared.Use.{Use}
 use Rattle.code.specs.declared.Use.TheVariants.{Scaled, ScaledWith, Cycled}
 use Rattle.code.specs.declared.Operand.{Operand}
 use Rattle.code.specs.declared.Operand.TheVariants.{Register}
-use Rattle.code.specs.declared.Found.{Found}
-use Rattle.code.specs.declared.Found.TheVariants.{Value, Missing}
 use Rattle.code.specs.declared.Decoded.{Decoded}
 use Rattle.code.specs.declared.Decoded.TheVariants.{Short, Unlisted}
 use Rattle.code.specs.Said.{Said, whole, unlisted, next, number, judge, number_at, with_found, whole_of}
 use Rattle.code.specs.Rows.{Bytes, run, Row, ◌⇒◌, has, lookup, by_rows, only, no_byte, only_word}
 use Rattle.code.proofs.Prefix.{grows, after_next}
 use Rattle.code.specs.Registers.{register_rows, places_rows, is_low, scale_kind, stride_kind, last_rows, table_rows, feed_rows}
+use Rattle.std.proofs.Common.{Some, None, Option}
 
 module _ (z : Size) (o p : Operand) where
   abbrev pub Alike : Decoded → Decoded → Type 0
@@ -57,9 +56,9 @@ module _ (z : Size) (o p : Operand) where
   unfolding judge
   same_number n f g h s i = go (number_at s i n)
     where
-      go : (w : Found) → Alike (with_found w (λ v. judge (f v) s (i + n))) (with_found w (λ v. judge (g v) s (i + n)))
-      go (Value v) = h v s (i + n)
-      go Missing = inr (inl (refl, refl))
+      go : (w : Option ℕ) → Alike (with_found w (λ v. judge (f v) s (i + n))) (with_found w (λ v. judge (g v) s (i + n)))
+      go (Some v) = h v s (i + n)
+      go None = inr (inl (refl, refl))
 
   same_next : (f g : ℕ → Said) → ((b : ℕ) → Same (f b) (g b)) → Same (next f) (next g)
   unfolding judge

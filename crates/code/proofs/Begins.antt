@@ -12,7 +12,6 @@ use borrow.Author.Tests.{ltb-true, ltb-false, leb-true, leb-false}
 use Rattle.little.specs.Bytes.{Bytes, value_of, bytes_from}
 use Rattle.code.specs.declared.Instruction.{Instruction}
 use Rattle.code.specs.declared.Decoded.TheVariants.{Whole, Short}
-use Rattle.code.specs.declared.Found.TheVariants.{Value, Missing}
 use Rattle.code.specs.Said.{Said, whole, unlisted, next, number, judge, number_at, with_found}
 use Rattle.code.specs.Rows.{by_rows}
 use Rattle.code.specs.Listed.{first_rows, decode_of}
@@ -21,6 +20,7 @@ use Rattle.code.proofs.Prefix.{step_next, step_number, byte_in_lem, value_in_lem
 use Rattle.code.proofs.Says.{bytes_append}
 use Rattle.code.proofs.Walk.{Can, Walk}
 use Rattle.code.proofs.Codes.{first_rows_lem}
+use Rattle.std.proofs.Common.{Some, None}
 
 -- ---- more bytes, all of them bytes
 abbrev Ends : Said → List ℕ → ℕ → Type 0
@@ -87,7 +87,7 @@ short_number f s i n = go (leb (i + n) (length s)) refl
   where
     go :
         (t : Bool) → leb (i + n) (length s) ≡ t →
-        with_found (cond t (Value (value_of (take n (drop i s)))) Missing) (λ v. judge (f v) s (i + n)) ≡ Short →
+        with_found (cond t (Some (value_of (take n (drop i s)))) None) (λ v. judge (f v) s (i + n)) ≡ Short →
         ((i + n ≤ length s) × (judge (f (value_of (take n (drop i s)))) s (i + n) ≡ Short)) ⊎ (length s ≤ i + n)
     go true e h = inl (leb-true _ _ e, h)
     go false e h = inr (let l : length s < i + n = leb-false _ _ e in omega arith)

@@ -14,12 +14,11 @@ use Rattle.little.specs.declared.Size.{Size}
 use Rattle.little.specs.declared.Size.TheVariants.{Byte, Word, Long}
 use Rattle.code.specs.declared.Op.{Op}
 use Rattle.code.specs.declared.Operand.{Operand}
-use Rattle.code.specs.declared.Found.{Found}
-use Rattle.code.specs.declared.Found.TheVariants.{Value, Missing}
 use Rattle.code.specs.declared.Decoded.{Decoded}
 use Rattle.code.specs.declared.Decoded.TheVariants.{Short, Unlisted}
 use Rattle.code.specs.Said.{Said, whole, next, number, judge, number_at, whole_of}
 use Rattle.code.specs.Rows.{run, ◌⇒◌, lookup, by_rows}
+use Rattle.std.proofs.Common.{Some, None, Option}
 
 module _ (f : ℕ → Said) (s : List ℕ) (i : ℕ) where
   pub next_there : (d : Decoded) → i < length s → d ≡ judge (f (get_or s i 0)) s (i + 1) → d ≡ judge (next f) s i
@@ -42,11 +41,11 @@ module _ (hi : ℕ) (f : ℕ → Said) (s : List ℕ) (i : ℕ) (h : i < length 
 
 -- ---- numbers
 module _ (s : List ℕ) (i n : ℕ) where
-  pub number_there : (v : ℕ) → i + n ≤ length s → v ≡ value_of (take n (drop i s)) → Value v ≡ number_at s i n
+  pub number_there : (v : ℕ) → i + n ≤ length s → v ≡ value_of (take n (drop i s)) → Some v ≡ number_at s i n
   unfolding number_at
   number_there v h e = simp (le-leb _ _ h, e)
 
-  pub number_missing : length s < i + n → Missing ≡ number_at s i n
+  pub number_missing : length s < i + n → None ≡ number_at s i n
   unfolding number_at
   number_missing h = simp (lt-leb _ _ h)
 
@@ -82,17 +81,17 @@ bytes_bounds Long n e = omega arith
 
 -- an instruction with a number in it that was looked for and found
 pub number_whole :
-    (op : ℕ → Op) (z : Size) (o : ℕ → Operand) (s : List ℕ) (i n v : ℕ) (f : Found) (d : Decoded) →
-    f ≡ number_at s i n → f ≡ Value v → d ≡ whole_of (op v) z (o v) (i + n) → d ≡ judge (number n (λ w. whole (op w) z (o w))) s i
+    (op : ℕ → Op) (z : Size) (o : ℕ → Operand) (s : List ℕ) (i n v : ℕ) (f : Option ℕ) (d : Decoded) →
+    f ≡ number_at s i n → f ≡ Some v → d ≡ whole_of (op v) z (o v) (i + n) → d ≡ judge (number n (λ w. whole (op w) z (o w))) s i
 unfolding judge
 number_whole op z o s i n v f d e g h = rw (← e, g) h
 
 -- what follows a number that was looked for
 module _ (k : ℕ → Said) (s : List ℕ) (i n : ℕ) where
-  pub number_then : (v : ℕ) (f : Found) (d : Decoded) → f ≡ number_at s i n → f ≡ Value v → d ≡ judge (k v) s (i + n) → d ≡ judge (number n k) s i
+  pub number_then : (v : ℕ) (f : Option ℕ) (d : Decoded) → f ≡ number_at s i n → f ≡ Some v → d ≡ judge (k v) s (i + n) → d ≡ judge (number n k) s i
   unfolding judge
   number_then v f d e g h = rw (← e, g) h
 
-  pub number_short : (f : Found) → f ≡ number_at s i n → f ≡ Missing → Short ≡ judge (number n k) s i
+  pub number_short : (f : Option ℕ) → f ≡ number_at s i n → f ≡ None → Short ≡ judge (number n k) s i
   unfolding judge
   number_short f e g = rw (← e, g)

@@ -12,11 +12,10 @@ use borrow.Author.Tests.{ltb-true, ltb-false, lt-ltb, le-ltb, leb-true, leb-fals
 use Rattle.code.specs.declared.Instruction.{Instruction}
 use Rattle.code.specs.declared.Decoded.{Decoded}
 use Rattle.code.specs.declared.Decoded.TheVariants.{Whole, Short}
-use Rattle.code.specs.declared.Found.{Found}
-use Rattle.code.specs.declared.Found.TheVariants.{Value, Missing}
 use Rattle.code.specs.Said.{Said, whole, unlisted, next, number, judge, number_at, with_found}
 use Rattle.code.specs.inner.Parts.{longer}
 use Rattle.code.proofs.Prefix.{after_next, within}
+use Rattle.std.proofs.Common.{Some, None, Option}
 
 module _ (n : ℕ) (s : List ℕ) (k : n ≤ length s) where
   byte_there : (i : ℕ) → ltb i (length (drop n s)) ≡ ltb (n + i) (length s)
@@ -42,9 +41,9 @@ module _ (n : ℕ) (s : List ℕ) (k : n ≤ length s) where
   next_later x y e true = e
   next_later x y e false = refl
 
-  number_later : (f g : ℕ → Decoded) → ((v : ℕ) → f v ≡ longer n (g v)) → (w : Found) → with_found w f ≡ longer n (with_found w g)
-  number_later f g e (Value v) = e v
-  number_later f g e Missing = refl
+  number_later : (f g : ℕ → Decoded) → ((v : ℕ) → f v ≡ longer n (g v)) → (w : Option ℕ) → with_found w f ≡ longer n (with_found w g)
+  number_later f g e (Some v) = e v
+  number_later f g e None = refl
 
   pub judged_later : (d : Said) (i : ℕ) → judge d s (n + i) ≡ longer n (judge d (drop n s) i)
   unfolding judge

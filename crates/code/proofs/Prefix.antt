@@ -12,11 +12,11 @@ use Rattle.little.specs.Bytes.{value_of}
 use Rattle.code.specs.declared.Instruction.{Instruction}
 use Rattle.code.specs.declared.Decoded.{Decoded}
 use Rattle.code.specs.declared.Decoded.TheVariants.{Whole, Short, Unlisted}
-use Rattle.code.specs.declared.Found.TheVariants.{Value, Missing}
 use Rattle.code.specs.Said.{Said, whole, unlisted, next, number, judge, number_at, with_found}
 use Rattle.code.specs.Listed.{decode_of}
 use Rattle.code.specs.Laws.{WholeStays, OwnBytes, SameStart, UnlistedStays, TwoBytes}
 use Rattle.code.proofs.Judge.{next_there, number_there, number_then}
+use Rattle.std.proofs.Common.{Some, None}
 
 -- not short
 abbrev pub Settled : Decoded → Type 0
@@ -40,7 +40,7 @@ module _ (f : ℕ → Said) (s : List ℕ) (i : ℕ) (d : Decoded) (w : Settled 
     where
       go :
           (t : Bool) → leb (i + n) (length s) ≡ t →
-          with_found (cond t (Value (value_of (take n (drop i s)))) Missing) (λ v. judge (f v) s (i + n)) ≡ d →
+          with_found (cond t (Some (value_of (take n (drop i s)))) None) (λ v. judge (f v) s (i + n)) ≡ d →
           (i + n ≤ length s) × (judge (f (value_of (take n (drop i s)))) s (i + n) ≡ d)
       go true e h = (leb-true _ _ e, h)
       go false e h = absurd (subst Settled (sym h) w)

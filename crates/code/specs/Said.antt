@@ -1,10 +1,8 @@
 -- Code bytes, judged one at a time.
-use Rattle.std.specs.Prelude.{ℕ, ◌+◌, List, cond, length, get_or, take, drop, ltb, leb}
+use Rattle.std.specs.Prelude.{ℕ, ◌+◌, List, cond, length, get_or, take, drop, ltb, leb, Some, None, Option}
 use Rattle.little.specs.{declared.Size.Size, Bytes.value_of}
 use Rattle.code.specs.declared.{Op.Op, Operand.Operand, Decoded.Decoded}
 use Rattle.code.specs.declared.Decoded.TheVariants.{Whole, Short, Unlisted}
-use Rattle.code.specs.declared.Found.{Found}
-use Rattle.code.specs.declared.Found.TheVariants.{Value, Missing}
 
 -- what the bytes so far say
 pub data Said : Type 0 where
@@ -14,13 +12,13 @@ pub data Said : Type 0 where
   number : ℕ → (ℕ → Said) → Said  -- by the number in so many bytes that follow, what is said then
 
 -- the number in n bytes of the code from i on, low byte first, where they are all there
-unfoldable pub number_at : List ℕ → ℕ → ℕ → Found
-number_at s i n = cond (leb (i + n) (length s)) (Value (value_of (take n (drop i s)))) Missing
+unfoldable pub number_at : List ℕ → ℕ → ℕ → Option ℕ
+number_at s i n = cond (leb (i + n) (length s)) (Some (value_of (take n (drop i s)))) None
 
 -- what is made of a number that was found; without it the code is short
-abbrev pub with_found : Found → (ℕ → Decoded) → Decoded
-with_found (Value v) k = k v
-with_found Missing k = Short
+abbrev pub with_found : Option ℕ → (ℕ → Decoded) → Decoded
+with_found (Some v) k = k v
+with_found None k = Short
 
 -- a whole instruction from its parts
 abbrev pub whole_of : Op → Size → Operand → ℕ → Decoded

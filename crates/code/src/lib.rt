@@ -1,5 +1,8 @@
-// The listed codes: what an instruction is, and what the bytes of one can say. There is no code here, only what it is held to.
+// The listed codes: what an instruction is, and what the bytes of one can say.
 #![tactic(auto)]
+
+ghost use Rattle.std.specs.Prelude.{◌≡◌};
+ghost use Rattle.code.specs.Written.{constant_in, register_in};
 
 use alu::{Arith, Change};
 use feed::cycle::Cycle;
@@ -29,6 +32,28 @@ pub enum Operand {
     Named(u8), // by a code byte, which can name any part of any bank
     Constant(u32),
     Memory(MemoryForm),
+}
+
+impl Operand {
+    // The number that an operand is; 0 where it is none.
+    pub fn constant(self) -> u32
+        ensures { result ≡ constant_in self }
+    {
+        match self {
+            Operand::Constant(n) => n,
+            _ => 0,
+        }
+    }
+
+    // The code, 0 to 7, of the register that an operand is; 0 where it is none.
+    pub fn register(self) -> u8
+        ensures { result ≡ register_in self }
+    {
+        match self {
+            Operand::Register(r) => r,
+            _ => 0,
+        }
+    }
 }
 
 // A copy or a compare of one element: of which size, up or down, again until the counter BC is 0 or not, and the codes of the
@@ -193,11 +218,4 @@ pub enum OfMemory {
     Blocks(Form, usize),
     Short,
     Unlisted,
-}
-
-// A number in the code, or that its bytes are not all there.
-#[derive(Clone, Copy)]
-pub enum Found {
-    Value(u32),
-    Missing,
 }

@@ -1,9 +1,8 @@
 -- What is put where the operand is in the registers, from what its function is told by those that it calls.
 use Prim.Native.Nat.{ℕ, ◌/◌}
-use mathlib.Core.Path.{◌≡◌, refl, ap, sym, subst, ◌∙◌}
+use mathlib.Core.Path.{◌≡◌, ap, sym, subst, ◌∙◌}
 use mathlib.Core.List.{List}
-use mathlib.Core.Bool.{true, false}
-use Rattle.answer.specs.declared.Answer.TheVariants.{Done}
+use mathlib.Core.Bool.{true}
 use Rattle.little.specs.declared.Size.{Size}
 use Rattle.little.specs.Width.{bits_of, twice_of}
 use Rattle.flags.specs.declared.Computed.{Computed}
@@ -34,6 +33,7 @@ use Rattle.operand.specs.inner.Placed.{field_of, BeginsAt}
 use Rattle.operand.specs.inner.Does.{Does}
 use Rattle.operand.proofs.Placed.{value_at_lem, put_at_lem, register_at_lem, register_held, register_put, wide_at_lem}
 use Rattle.compute.specs.Compute.{result_in, answer_in, stores_of, scaled_at, puts_of}
+use Rattle.std.proofs.Common.{Ok}
 
 module _ (z : Size) (o : Operand) (f : Field) (bank : Bank) (there : BeginsAt bank z o f) (rest : State) (regs : List ℕ) (flags : ℕ) (ram rom : List ℕ) where
   -- a result is put there
@@ -45,15 +45,11 @@ module _ (z : Size) (o : Operand) (f : Field) (bank : Bank) (there : BeginsAt ba
   answer_put : (op : Arith) (r : Computed) (w g : ℕ) (next : List ℕ) → stores_of op ≡ true → w ≡ r.value → g ≡ packed_of r.flags → PutWithin regs next z f w → did (banked_with rest next bank g) ram ≡ answer_in op (banked_with rest regs bank flags) ram rom z o r
   answer_put op r w g next b e h p = rw b (result_put r w g next e h p)
 
-  answer_kept : (op : Arith) (r : Computed) (g : ℕ) → stores_of op ≡ false → g ≡ packed_of r.flags → did (banked_with rest regs bank g) ram ≡ answer_in op (banked_with rest regs bank flags) ram rom z o r
-  unfolding flagged with_flags with_both_flags
-  answer_kept op r g b h = rw (b, h) refl
-
   -- ---- a change, and an operation with a number
   module _ (v w g : ℕ) (next : List ℕ) (held : v ≡ field_in regs z f) (put : PutWithin regs next z f w) where
     pub changed_there :
         (how : Change) → w ≡ (changed how (bits_of z) v (flags_of flags)).value → g ≡ packed_of (changed how (bits_of z) v (flags_of flags)).flags →
-        Does (λ t m. puts_of (Changed how) z o t m rom) (banked_with rest regs bank flags) ram Done (banked_with rest next bank g) ram
+        Does (λ t m. puts_of (Changed how) z o t m rom) (banked_with rest regs bank flags) ram (Ok tt) (banked_with rest next bank g) ram
     unfolding puts_of
     changed_there how e h =
         rw (value_at_lem regs bank ram rom z o f there, ← held)
@@ -61,39 +57,31 @@ module _ (z : Size) (o : Operand) (f : Field) (bank : Bank) (there : BeginsAt ba
 
     pub with_there :
         (op : Arith) (n : ℕ) → stores_of op ≡ true → w ≡ (operated op (bits_of z) v n (flags_of flags).c).value → g ≡ packed_of (operated op (bits_of z) v n (flags_of flags).c).flags →
-        Does (λ t m. puts_of (Compute op (With n)) z o t m rom) (banked_with rest regs bank flags) ram Done (banked_with rest next bank g) ram
+        Does (λ t m. puts_of (Compute op (With n)) z o t m rom) (banked_with rest regs bank flags) ram (Ok tt) (banked_with rest next bank g) ram
     unfolding puts_of
     with_there op n b e h =
         rw (value_at_lem regs bank ram rom z o f there, ← held)
         (ap (leaves (banked_with rest regs bank flags) ram) (answer_put op (operated op (bits_of z) v n (flags_of flags).c) w g next b e h put))
 
-  pub with_kept :
-      (v g : ℕ) → v ≡ field_in regs z f → (op : Arith) (n : ℕ) → stores_of op ≡ false → g ≡ packed_of (operated op (bits_of z) v n (flags_of flags).c).flags →
-      Does (λ t m. puts_of (Compute op (With n)) z o t m rom) (banked_with rest regs bank flags) ram Done (banked_with rest regs bank g) ram
-  unfolding puts_of
-  with_kept v g held op n b h =
-      rw (value_at_lem regs bank ram rom z o f there, ← held)
-      (ap (leaves (banked_with rest regs bank flags) ram) (answer_kept op (operated op (bits_of z) v n (flags_of flags).c) g b h))
-
   -- ---- a number, and a register, put there
-  pub number_there : (v : ℕ) (next : List ℕ) → PutWithin regs next z f v → Does (λ t m. puts_of (Number v) z o t m rom) (banked_with rest regs bank flags) ram Done (banked_with rest next bank flags) ram
+  pub number_there : (v : ℕ) (next : List ℕ) → PutWithin regs next z f v → Does (λ t m. puts_of (Number v) z o t m rom) (banked_with rest regs bank flags) ram (Ok tt) (banked_with rest next bank flags) ram
   unfolding puts_of
   number_there v next put = sym (ap (leaves (banked_with rest regs bank flags) ram) (put_at_lem (banked_with rest regs bank flags) ram rom z o f v next there put))
 
   pub from_there :
       (r : ℕ) (from : Field) (next : List ℕ) → from ≡ field_of bank z (Register r) → PutWithin regs next z f (field_in regs z from) →
-      Does (λ t m. puts_of (From r) z o t m rom) (banked_with rest regs bank flags) ram Done (banked_with rest next bank flags) ram
+      Does (λ t m. puts_of (From r) z o t m rom) (banked_with rest regs bank flags) ram (Ok tt) (banked_with rest next bank flags) ram
   unfolding puts_of
   from_there r from next e put = rw (register_held regs bank z r, ← e) (number_there (field_in regs z from) next put)
 
   -- and what it holds, put into a register
   pub load_there :
       (r : ℕ) (to : Field) (next : List ℕ) → to ≡ field_of bank z (Register r) → PutWithin regs next z to (field_in regs z f) →
-      Does (λ t m. puts_of (Load r) z o t m rom) (banked_with rest regs bank flags) ram Done (banked_with rest next bank flags) ram
+      Does (λ t m. puts_of (Load r) z o t m rom) (banked_with rest regs bank flags) ram (Ok tt) (banked_with rest next bank flags) ram
   unfolding puts_of
   load_there r to next e put =
       rw (value_at_lem regs bank ram rom z o f there)
-      (sym (ap (λ (t : State). after Done t ram) (register_put (banked_with rest regs bank flags) z r (field_in regs z f) next (subst (λ (x : Field). PutWithin regs next z x (field_in regs z f)) e put))))
+      (sym (ap (λ (t : State). after (Ok tt) t ram) (register_put (banked_with rest regs bank flags) z r (field_in regs z f) next (subst (λ (x : Field). PutWithin regs next z x (field_in regs z f)) e put))))
 
 -- ---- an operation with a register, which gets the result
 module _ (z : Size) (o : Operand) (f to : Field) (bank : Bank) (there : BeginsAt bank z o f) (n : ℕ) (first : to ≡ field_of bank z (Register n)) (rest : State) (regs : List ℕ) (flags : ℕ) (ram rom : List ℕ) where
@@ -106,20 +94,11 @@ module _ (z : Size) (o : Operand) (f to : Field) (bank : Bank) (there : BeginsAt
   pub operated_there :
       (op : Arith) (v x w g : ℕ) (next : List ℕ) → v ≡ field_in regs z f → x ≡ field_in regs z to → stores_of op ≡ true →
       w ≡ (operated op (bits_of z) x v (flags_of flags).c).value → g ≡ packed_of (operated op (bits_of z) x v (flags_of flags).c).flags → PutWithin regs next z to w →
-      Does (λ t m. puts_of (Compute op (First n)) z o t m rom) (banked_with rest regs bank flags) ram Done (banked_with rest next bank g) ram
+      Does (λ t m. puts_of (Compute op (First n)) z o t m rom) (banked_with rest regs bank flags) ram (Ok tt) (banked_with rest next bank g) ram
   unfolding puts_of
   operated_there op v x w g next held other b e h put =
       rw (value_at_lem regs bank ram rom z o f there, ← held, held_first x other)
       (ap (leaves (banked_with rest regs bank flags) ram) (answer_put z (Register n) to bank into rest regs flags ram rom op (operated op (bits_of z) x v (flags_of flags).c) w g next b e h put))
-
-  pub operated_kept :
-      (op : Arith) (v x g : ℕ) → v ≡ field_in regs z f → x ≡ field_in regs z to → stores_of op ≡ false →
-      g ≡ packed_of (operated op (bits_of z) x v (flags_of flags).c).flags →
-      Does (λ t m. puts_of (Compute op (First n)) z o t m rom) (banked_with rest regs bank flags) ram Done (banked_with rest regs bank g) ram
-  unfolding puts_of
-  operated_kept op v x g held other b h =
-      rw (value_at_lem regs bank ram rom z o f there, ← held, held_first x other)
-      (ap (leaves (banked_with rest regs bank flags) ram) (answer_kept z (Register n) to bank into rest regs flags ram rom op (operated op (bits_of z) x v (flags_of flags).c) g b h))
 
 -- ---- what is twice as wide as a size, by a number
 module _ (z : Size) (w : Operand) (f : Field) (bank : Bank) (there : BeginsAt bank (twice_of z) w f) (rest : State) (regs : List ℕ) (flags : ℕ) (ram rom : List ℕ) where
@@ -127,7 +106,7 @@ module _ (z : Size) (w : Operand) (f : Field) (bank : Bank) (there : BeginsAt ba
       (how : Scale) (v x y g : ℕ) (next : List ℕ) → x ≡ field_in regs (twice_of z) f →
       y ≡ (scaled how (bits_of (twice_of z) / 2) x v (flags_of flags)).value → g ≡ packed_of (scaled how (bits_of (twice_of z) / 2) x v (flags_of flags)).flags →
       PutWithin regs next (twice_of z) f y →
-      Does (λ t m. scaled_at how z w v t m rom) (banked_with rest regs bank flags) ram Done (banked_with rest next bank g) ram
+      Does (λ t m. scaled_at how z w v t m rom) (banked_with rest regs bank flags) ram (Ok tt) (banked_with rest next bank g) ram
   unfolding scaled_at
   scaled_there how v x y g next held e h put =
       rw (value_at_lem regs bank ram rom (twice_of z) w f there, ← held)
@@ -138,7 +117,7 @@ module _ (z : Size) (w : Operand) (f : Field) (bank : Bank) (there : BeginsAt ba
       (wider : Size) → wider ≡ twice_of z → (how : Scale) (v x y g : ℕ) (next : List ℕ) → x ≡ field_in regs wider f →
       y ≡ (scaled how (bits_of wider / 2) x v (flags_of flags)).value → g ≡ packed_of (scaled how (bits_of wider / 2) x v (flags_of flags)).flags →
       PutWithin regs next wider f y →
-      Does (λ t m. scaled_at how z w v t m rom) (banked_with rest regs bank flags) ram Done (banked_with rest next bank g) ram
+      Does (λ t m. scaled_at how z w v t m rom) (banked_with rest regs bank flags) ram (Ok tt) (banked_with rest next bank g) ram
   scaled_wider wider q how v x y g next held e h put = scaled_there how v x y g next (rw q at held) (rw q at e) (rw q at h) (rw q at put)
 
 -- where a register's wider one begins
@@ -151,14 +130,14 @@ module _ (z : Size) (o : Operand) (f : Field) (bank : Bank) (there : BeginsAt ba
   -- by the operand, where it is known by the number that it holds
   pub scaled_by :
       (how : Scale) (n v g : ℕ) (next : List ℕ) → v ≡ field_in regs z f →
-      Does (λ t m. scaled_at how z (wide_of z (Register n)) v t m rom) (banked_with rest regs bank flags) ram Done (banked_with rest next bank g) ram →
-      Does (λ t m. puts_of (Scaled how n) z o t m rom) (banked_with rest regs bank flags) ram Done (banked_with rest next bank g) ram
+      Does (λ t m. scaled_at how z (wide_of z (Register n)) v t m rom) (banked_with rest regs bank flags) ram (Ok tt) (banked_with rest next bank g) ram →
+      Does (λ t m. puts_of (Scaled how n) z o t m rom) (banked_with rest regs bank flags) ram (Ok tt) (banked_with rest next bank g) ram
   unfolding puts_of
   scaled_by how n v g next held d = rw (value_at_lem regs bank ram rom z o f there, ← held) d
 
   pub cycled_there :
       (how : Cycle) (v w : ℕ) (next : List ℕ) → v ≡ field_in regs z f → w ≡ cycled how (bits_of z) v → PutWithin regs next z f w →
-      Does (λ t m. puts_of (Cycled how) z o t m rom) (banked_with rest regs bank flags) ram Done (banked_with rest next bank flags) ram
+      Does (λ t m. puts_of (Cycled how) z o t m rom) (banked_with rest regs bank flags) ram (Ok tt) (banked_with rest next bank flags) ram
   unfolding puts_of
   cycled_there how v w next held e put =
       rw (value_at_lem regs bank ram rom z o f there, ← held, ← e)

@@ -4,13 +4,12 @@ ghost use Rattle.state.specs.declared.State.{State};
 ghost use Rattle.state.specs.State.{banked};
 ghost use Rattle.state.specs.inner.Lent.{banked_with};
 ghost use Rattle.operand.specs.inner.Does.{Does};
-ghost use Rattle.compute.specs.inner.Form.{loaded_from, stored_to, first_with, second_with, kept_or};
+ghost use Rattle.compute.specs.inner.Form.{loaded_from, stored_to, first_with, second_with};
 
 use crate::stores;
 use alu::Arith;
 use answer::{Answer, Why};
 use little::Size;
-use memory::Loaded;
 use state::Bank;
 
 // Into the register r.
@@ -27,16 +26,13 @@ pub fn load(
         (banked s regs.old bank) ram.now
         result (banked s regs.new bank) ram.now }
 {
-    match memory::load(ram, rom, at, size) {
-        Loaded::Value(v) => {
-            state::write(regs, bank, size, r, v);
-            Answer::Done
-        }
-        Loaded::Missing(a) => Answer::Refused(Why::Missing(a)),
-    }
+    let v = memory::load(ram, rom, at, size)?;
+    state::write(regs, bank, size, r, v);
+    Ok(())
 }
 
 // From the register r.
+#[tactic(auto, using(operand::proofs::Laws::stored, operand::proofs::Laws::not_stored))]
 pub fn store(
     r: u8,
     at: u32,
@@ -55,6 +51,7 @@ pub fn store(
 }
 
 // The operation on the register r and the value there, into the register; CP puts nothing.
+#[tactic(auto, unfolding(operand::specs::Flag::flagged, state::specs::State::with_flags, state::specs::State::with_both_flags))]
 pub fn first(
     op: Arith,
     r: u8,
@@ -70,31 +67,17 @@ pub fn first(
         (banked_with s regs.old bank flags.old) ram.now
         result (banked_with s regs.new bank flags.new) ram.now }
 {
-    match memory::load(ram, rom, at, size) {
-        Loaded::Value(v) => {
-            let x = state::read(&*regs, bank, size, r);
-            let w = alu::operate(op, size, x, v, flags);
-            if stores(op) {
-                state::write(regs, bank, size, r, w);
-            }
-            Answer::Done
-        }
-        Loaded::Missing(a) => Answer::Refused(Why::Missing(a)),
+    let v = memory::load(ram, rom, at, size)?;
+    let x = state::read(&*regs, bank, size, r);
+    let w = alu::operate(op, size, x, v, flags);
+    if stores(op) {
+        state::write(regs, bank, size, r, w);
     }
+    Ok(())
 }
 
-// A refused store leaves F as it was before.
-fn stored(a: Answer, before: u16, flags: &mut u16) -> Answer
-    ensures { (result ≡ a) × (flags.new ≡ kept_or a before flags.old) }
-{
-    if let Answer::Refused(_) = a {
-        *flags = before;
-        return a;
-    }
-    a
-}
-
-// The operation on the value there and the register r, back there; CP puts nothing.
+// The operation on the value there and the register r, back there; CP puts nothing. F is set where the store is done.
+#[tactic(auto, using(operand::proofs::Laws::stored, operand::proofs::Laws::not_stored), unfolding(operand::specs::Flag::flagged, state::specs::State::with_flags, state::specs::State::with_both_flags))]
 pub fn second(
     op: Arith,
     r: u8,
@@ -110,16 +93,13 @@ pub fn second(
         (banked_with s regs.now bank flags.old) ram.old
         result (banked_with s regs.now bank flags.new) ram.new }
 {
-    match memory::load(&*ram, rom, at, size) {
-        Loaded::Value(v) => {
-            let y = state::read(regs, bank, size, r);
-            let before = *flags;
-            let w = alu::operate(op, size, v, y, &mut *flags);
-            if stores(op) {
-                return stored(memory::store(ram, rom, at, size, w), before, flags);
-            }
-            Answer::Done
-        }
-        Loaded::Missing(a) => Answer::Refused(Why::Missing(a)),
+    let v = memory::load(&*ram, rom, at, size)?;
+    let y = state::read(regs, bank, size, r);
+    let mut after = *flags;
+    let w = alu::operate(op, size, v, y, &mut after);
+    if stores(op) {
+        memory::store(ram, rom, at, size, w)?;
     }
+    *flags = after;
+    Ok(())
 }

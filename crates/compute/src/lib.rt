@@ -14,14 +14,5 @@ pub mod scaling;
 fn stores(op: Arith) -> bool
     ensures { result ≡ stores_of op }
 {
-    match op {
-        Arith::Add => true,
-        Arith::Adc => true,
-        Arith::Sub => true,
-        Arith::Sbc => true,
-        Arith::And => true,
-        Arith::Xor => true,
-        Arith::Or => true,
-        Arith::Cp => false,
-    }
+    op != Arith::Cp
 }

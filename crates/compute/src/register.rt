@@ -27,6 +27,7 @@ pub fn load(from: Field, to: Field, size: Size, regs: &mut [u32; 20])
 }
 
 // An operation on the register n and the operand, into n; CP puts nothing.
+#[tactic(auto, using(operand::proofs::Placed::value_at_lem, operand::proofs::Placed::register_held), unfolding(crate::specs::Compute::puts_of, operand::specs::Flag::flagged, state::specs::State::with_flags, state::specs::State::with_both_flags))]
 pub fn operate(
     op: Arith,
     n: u8,
@@ -39,7 +40,7 @@ pub fn operate(
     ensures { (o : Operand) → BeginsAt bank size o r → (s : State) (ram rom : List ℕ) →
         Does (λ t m. puts_of (Compute op (First n)) size o t m rom)
         (banked_with s regs.old bank flags.old) ram
-        Answer.Done (banked_with s regs.new bank flags.new) ram }
+        (Ok tt) (banked_with s regs.new bank flags.new) ram }
 {
     let to = of_register(bank, size, n);
     let x = state::named::read(&*regs, size, to);
@@ -51,11 +52,12 @@ pub fn operate(
 }
 
 // An operation on the operand and a number.
+#[tactic(auto, using(operand::proofs::Placed::value_at_lem), unfolding(crate::specs::Compute::puts_of, operand::specs::Flag::flagged, state::specs::State::with_flags, state::specs::State::with_both_flags))]
 pub fn with(op: Arith, n: u32, size: Size, r: Field, flags: &mut u16, regs: &mut [u32; 20])
     ensures { (o : Operand) (bank : Bank) → BeginsAt bank size o r → (s : State) (ram rom : List ℕ) →
         Does (λ t m. puts_of (Compute op (With n)) size o t m rom)
         (banked_with s regs.old bank flags.old) ram
-        Answer.Done (banked_with s regs.new bank flags.new) ram }
+        (Ok tt) (banked_with s regs.new bank flags.new) ram }
 {
     let v = state::named::read(&*regs, size, r);
     let w = alu::operate(op, size, v, n, flags);
@@ -69,7 +71,7 @@ pub fn change(how: Change, size: Size, r: Field, flags: &mut u16, regs: &mut [u3
     ensures { (o : Operand) (bank : Bank) → BeginsAt bank size o r → (s : State) (ram rom : List ℕ) →
         Does (λ t m. puts_of (Changed how) size o t m rom)
         (banked_with s regs.old bank flags.old) ram
-        Answer.Done (banked_with s regs.new bank flags.new) ram }
+        (Ok tt) (banked_with s regs.new bank flags.new) ram }
 {
     let v = state::named::read(&*regs, size, r);
     let w = alu::changed(how, size, v, flags);

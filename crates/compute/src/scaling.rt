@@ -12,7 +12,7 @@ use answer::Answer;
 use code::Operand;
 use feed::cycle::{Cycle, cycled};
 use feed::scale::{Scale, scaled};
-use little::{Size, twice};
+use little::Size;
 use state::Bank;
 use state::named::{Field, of_register, read, wide, write};
 
@@ -21,9 +21,9 @@ fn scale_at(how: Scale, to: Field, size: Size, v: u32, flags: &mut u16, regs: &m
     ensures { (o : Operand) (bank : Bank) → BeginsAt bank (twice_of size) o to → (s : State) (ram rom : List ℕ) →
         Does (λ t m. scaled_at how size o v t m rom)
         (banked_with s regs.old bank flags.old) ram
-        Answer.Done (banked_with s regs.new bank flags.new) ram }
+        (Ok tt) (banked_with s regs.new bank flags.new) ram }
 {
-    let wider = twice(size);
+    let wider = size.twice();
     let x = read(&*regs, wider, to);
     let w = scaled(how, wider, x, v, flags);
     write(regs, wider, to, w);
@@ -42,7 +42,7 @@ pub fn scale(
     ensures { (o : Operand) → BeginsAt bank size o r → (s : State) (ram rom : List ℕ) →
         Does (λ t m. puts_of (Scaled how n) size o t m rom)
         (banked_with s regs.old bank flags.old) ram
-        Answer.Done (banked_with s regs.new bank flags.new) ram }
+        (Ok tt) (banked_with s regs.new bank flags.new) ram }
 {
     let v = read(&*regs, size, r);
     let to = wide(size, of_register(bank, size, n));
@@ -50,11 +50,12 @@ pub fn scale(
 }
 
 // The register that the operand is half of, by a number.
+#[tactic(auto, using(operand::proofs::Placed::wide_at_lem), unfolding(crate::specs::Compute::puts_of))]
 pub fn scale_with(how: Scale, n: u32, size: Size, r: Field, flags: &mut u16, regs: &mut [u32; 20])
     ensures { (o : Operand) (bank : Bank) → BeginsAt bank size o r → (s : State) (ram rom : List ℕ) →
         Does (λ t m. puts_of (ScaledWith how n) size o t m rom)
         (banked_with s regs.old bank flags.old) ram
-        Answer.Done (banked_with s regs.new bank flags.new) ram }
+        (Ok tt) (banked_with s regs.new bank flags.new) ram }
 {
     scale_at(how, wide(size, r), size, n, flags, regs);
 }
@@ -64,7 +65,7 @@ pub fn cycle(how: Cycle, size: Size, r: Field, regs: &mut [u32; 20])
     ensures { (o : Operand) (bank : Bank) → BeginsAt bank size o r → (s : State) (f : ℕ) (ram rom : List ℕ) →
         Does (λ t m. puts_of (Cycled how) size o t m rom)
         (banked_with s regs.old bank f) ram
-        Answer.Done (banked_with s regs.new bank f) ram }
+        (Ok tt) (banked_with s regs.new bank f) ram }
 {
     let v = read(&*regs, size, r);
     write(regs, size, r, cycled(how, size, v));

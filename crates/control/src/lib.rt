@@ -22,64 +22,64 @@ pub fn past(counter: &mut u32, n: usize)
     ensures { counter.new ≡ (counter.old + n) % 2 ^ 24 }
 {
     let m = (n % SPACE) as u32;
-    *counter = std::num::wrapping_add_u32(*counter, m) % ADDRESSES;
+    *counter = counter.wrapping_add(m) % ADDRESSES;
 }
 
 // A jump by a displacement of a size, where its condition holds; refused where the condition reads a flag that nobody defined.
+#[tactic(auto, unfolding(crate::specs::Control::jump_of, state::specs::State::with_counter))]
 pub fn jump(flags: u16, counter: &mut u32, cc: u8, size: Size, d: u32) -> Answer
     ensures { (s : State) (ram : List ℕ) → Does (λ t m. jump_of t m cc (displaced (bits_of size) t.counter d))
         (flagged_at s counter.old flags) ram
         result (flagged_at s counter.new flags) ram }
 {
     if flags::reads_marked(flags, cc) {
-        return Answer::Refused(Why::Undefined);
+        return Err(Why::Undefined);
     }
     if flags::holds(flags::unpack(flags), cc) {
         *counter = displace(size, *counter, d);
     }
-    Answer::Done
+    Ok(())
 }
 
 // To an address.
 fn go(counter: &mut u32, to: u32) -> Answer
-    ensures { (result ≡ Answer.Done) × (counter.new ≡ to % 2 ^ 24) }
+    ensures { (result ≡ (Ok tt)) × (counter.new ≡ to % 2 ^ 24) }
 {
     *counter = to % ADDRESSES;
-    Answer::Done
+    Ok(())
 }
 
 fn select(bank: &mut u8, n: u32) -> Answer
-    ensures { (result ≡ Answer.Done) × (bank.new ≡ n % 4) }
+    ensures { (result ≡ (Ok tt)) × (bank.new ≡ n % 4) }
 {
     *bank = (n % 4) as u8;
-    Answer::Done
+    Ok(())
 }
 
 // The level becomes the number: EI.
 fn admit(level: &mut u8, n: u32) -> Answer
-    ensures { (result ≡ Answer.Done) × (level.new ≡ n % 8) }
+    ensures { (result ≡ (Ok tt)) × (level.new ≡ n % 8) }
 {
     let l = Level((n % 8) as u8);
     *level = l.0;
-    Answer::Done
+    Ok(())
 }
 
 fn set(flags: &mut u16, new: Flags) -> Answer
-    ensures { (result ≡ Answer.Done) × (flags.new ≡ packed_of new) }
+    ensures { (result ≡ (Ok tt)) × (flags.new ≡ packed_of new) }
 {
     *flags = flags::pack(new);
-    Answer::Done
+    Ok(())
 }
 
 fn exchange(flags: &mut u16, spare: &mut u16) -> Answer
-    ensures { (result ≡ Answer.Done) × ((flags.new ≡ spare.old) × (spare.new ≡ flags.old)) }
+    ensures { (result ≡ (Ok tt)) × ((flags.new ≡ spare.old) × (spare.new ≡ flags.old)) }
 {
-    let f = *flags;
-    *flags = *spare;
-    *spare = f;
-    Answer::Done
+    std::mem::swap(flags, spare);
+    Ok(())
 }
 
+#[tactic(auto, unfolding(crate::specs::Control::control_of, operand::specs::Flag::flagged, state::specs::State::with_bank, state::specs::State::with_level, state::specs::State::with_counter, state::specs::State::with_flags, state::specs::State::with_both_flags))]
 pub fn control(
     what: Control,
     number: u32,
@@ -96,7 +96,7 @@ pub fn control(
     let f = flags::unpack(*flags);
     let b = *bank as u32;
     match what {
-        Control::Nop => Answer::Done,
+        Control::Nop => Ok(()),
         Control::Incf => select(bank, b + 1),
         Control::Decf => select(bank, b + 3),
         Control::Ldf => select(bank, number),

@@ -7,25 +7,21 @@ use lib.ListN.{length, length-append}
 use Rattle.little.specs.Bytes.{Bytes, bytes_from, replaced}
 use Rattle.little.proofs.Laws.{length_bytes, replaced_length, replaced_join}
 use Rattle.encode.specs.declared.spell.{Place.Place, Code.Code}
-use Rattle.encode.specs.inner.Spelt.{one_of, placed, spelt, eights}
+use Rattle.encode.specs.inner.Spelt.{one_of, place_spelt, spelt, eights}
 
 -- ---- how many bytes
-pub some_one : (n v : ℕ) → (n ≡ 0 → ⊥) → length (one_of n v) ≡ 1
-some_one zero v h = absurd (h refl)
-some_one (suc n) v h = refl
-
-pub placed_length : (p : Place) (a : ℕ) → a ≡ length (one_of p.first.bytes p.first.value) → a + p.rest.bytes ≡ length (placed p)
+pub placed_length : (p : Place) (a : ℕ) → a ≡ length (one_of p.first.bytes p.first.value) → a + p.rest.bytes ≡ length (place_spelt p)
 placed_length p a e =
-    let f : length (placed p) ≡ length (one_of p.first.bytes p.first.value) + p.rest.bytes = length-append (one_of p.first.bytes p.first.value) (bytes_from p.rest.bytes p.rest.value) ∙ ap (λ (k : ℕ). length (one_of p.first.bytes p.first.value) + k) (length_bytes p.rest.bytes p.rest.value) in
+    let f : length (place_spelt p) ≡ length (one_of p.first.bytes p.first.value) + p.rest.bytes = length-append (one_of p.first.bytes p.first.value) (bytes_from p.rest.bytes p.rest.value) ∙ ap (λ (k : ℕ). length (one_of p.first.bytes p.first.value) + k) (length_bytes p.rest.bytes p.rest.value) in
     omega arith
 
 pub spelt_length :
-    (c : Code) (a b : ℕ) → a ≡ length (placed c.place) → b ≡ length (one_of c.next.bytes c.next.value) →
+    (c : Code) (a b : ℕ) → a ≡ length (place_spelt c.place) → b ≡ length (one_of c.next.bytes c.next.value) →
     a + (b + c.number.bytes) ≡ length (spelt c)
 spelt_length c a b e f =
     let n = one_of c.next.bytes c.next.value in
     let m = bytes_from c.number.bytes c.number.value in
-    let g : length (spelt c) ≡ length (placed c.place) + length (n ++ m) = length-append (placed c.place) (n ++ m) in
+    let g : length (spelt c) ≡ length (place_spelt c.place) + length (n ++ m) = length-append (place_spelt c.place) (n ++ m) in
     let h : length (n ++ m) ≡ length n + length m = length-append n m in
     let k : length m ≡ c.number.bytes = length_bytes c.number.bytes c.number.value in
     omega arith
@@ -75,37 +71,37 @@ laid_more p a m w l r s z h e f =
 pub laid_place :
     (p : Place) (a : ℕ) (l r s : List ℕ) → a ≡ length (one_of p.first.bytes p.first.value) → a + p.rest.bytes ≤ length l →
     r ≡ replaced 0 (bytes_from a p.first.value) l → s ≡ replaced a (bytes_from p.rest.bytes p.rest.value) r →
-    s ≡ replaced 0 (eights (placed p)) l
+    s ≡ replaced 0 (eights (place_spelt p)) l
 laid_place p a l r s z h e f =
     let one = one_of p.first.bytes p.first.value in
     let rest = bytes_from p.rest.bytes p.rest.value in
     let k : bytes_from a p.first.value ≡ eights one = ap (λ (n : ℕ). bytes_from n p.first.value) z ∙ sym (eights_one p.first.bytes p.first.value) in
-    let g : eights one ++ rest ≡ eights (placed p) = ap (λ (t : List ℕ). eights one ++ t) (sym (eights_bytes p.rest.bytes p.rest.value)) ∙ sym (eights_join one rest) in
+    let g : eights one ++ rest ≡ eights (place_spelt p) = ap (λ (t : List ℕ). eights one ++ t) (sym (eights_bytes p.rest.bytes p.rest.value)) ∙ sym (eights_join one rest) in
     laid_more (eights one) a _ _ l r s (z ∙ sym (eights_length one)) h (e ∙ ap (λ (t : List ℕ). replaced 0 t l) k) f
     ∙ ap (λ (t : List ℕ). replaced 0 t l) g
 
 pub laid_code :
-    (c : Code) (a b : ℕ) (l q r s : List ℕ) → a ≡ length (placed c.place) → b ≡ length (one_of c.next.bytes c.next.value) →
-    a + b + c.number.bytes ≤ length l → q ≡ replaced 0 (eights (placed c.place)) l → r ≡ replaced a (bytes_from b c.next.value) q →
+    (c : Code) (a b : ℕ) (l q r s : List ℕ) → a ≡ length (place_spelt c.place) → b ≡ length (one_of c.next.bytes c.next.value) →
+    a + b + c.number.bytes ≤ length l → q ≡ replaced 0 (eights (place_spelt c.place)) l → r ≡ replaced a (bytes_from b c.next.value) q →
     s ≡ replaced (a + b) (bytes_from c.number.bytes c.number.value) r → s ≡ replaced 0 (eights (spelt c)) l
 laid_code c a b l q r s za zb h eq er es =
-    let p = eights (placed c.place) in
+    let p = eights (place_spelt c.place) in
     let one = one_of c.next.bytes c.next.value in
     let next = bytes_from b c.next.value in
     let num = bytes_from c.number.bytes c.number.value in
-    let first : r ≡ replaced 0 (p ++ next) l = laid_more p a b c.next.value l q r (za ∙ sym (eights_length (placed c.place))) (omega arith) eq er in
-    let lp : length p ≡ a = eights_length (placed c.place) ∙ sym za in
+    let first : r ≡ replaced 0 (p ++ next) l = laid_more p a b c.next.value l q r (za ∙ sym (eights_length (place_spelt c.place))) (omega arith) eq er in
+    let lp : length p ≡ a = eights_length (place_spelt c.place) ∙ sym za in
     let ln : length (p ++ next) ≡ a + b = length-append p next ∙ ap₂ (λ (x y : ℕ). x + y) lp (length_bytes b c.next.value) in
     let k : next ≡ eights one = ap (λ (n : ℕ). bytes_from n c.next.value) zb ∙ sym (eights_one c.next.bytes c.next.value) in
     let g : (p ++ next) ++ num ≡ eights (spelt c) =
     append_assoc p next num
     ∙ ap (λ (t : List ℕ). p ++ t) (ap₂ (λ (x y : List ℕ). x ++ y) k (sym (eights_bytes c.number.bytes c.number.value)) ∙ sym (eights_join one num))
-    ∙ sym (eights_join (placed c.place) (one ++ num)) in
+    ∙ sym (eights_join (place_spelt c.place) (one ++ num)) in
     laid_more (p ++ next) (a + b) _ _ l r s (sym ln) h first es ∙ ap (λ (t : List ℕ). replaced 0 t l) g
 
 -- ---- there is room for each piece
 pub place_fits :
-    (p : Place) (a : ℕ) (l r : List ℕ) → a ≡ length (one_of p.first.bytes p.first.value) → length (placed p) ≤ length l →
+    (p : Place) (a : ℕ) (l r : List ℕ) → a ≡ length (one_of p.first.bytes p.first.value) → length (place_spelt p) ≤ length l →
     r ≡ replaced 0 (bytes_from a p.first.value) l → a + p.rest.bytes ≤ length r
 place_fits p a l r z h e =
     let k = placed_length p a z in
@@ -114,17 +110,17 @@ place_fits p a l r z h e =
     omega arith
 
 pub next_fits :
-    (c : Code) (a b : ℕ) (l q : List ℕ) → a ≡ length (placed c.place) → b ≡ length (one_of c.next.bytes c.next.value) →
-    length (spelt c) ≤ length l → q ≡ replaced 0 (eights (placed c.place)) l → a + (b + c.number.bytes) ≤ length q
+    (c : Code) (a b : ℕ) (l q : List ℕ) → a ≡ length (place_spelt c.place) → b ≡ length (one_of c.next.bytes c.next.value) →
+    length (spelt c) ≤ length l → q ≡ replaced 0 (eights (place_spelt c.place)) l → a + (b + c.number.bytes) ≤ length q
 next_fits c a b l q za zb h e =
     let k = spelt_length c a b za zb in
-    let m = eights_length (placed c.place) in
-    let n = laid_length (eights (placed c.place)) l q (omega arith) e in
+    let m = eights_length (place_spelt c.place) in
+    let n = laid_length (eights (place_spelt c.place)) l q (omega arith) e in
     omega arith
 
 pub number_fits :
-    (c : Code) (a b : ℕ) (l q r : List ℕ) → a ≡ length (placed c.place) → b ≡ length (one_of c.next.bytes c.next.value) →
-    length (spelt c) ≤ length l → q ≡ replaced 0 (eights (placed c.place)) l → r ≡ replaced a (bytes_from b c.next.value) q →
+    (c : Code) (a b : ℕ) (l q r : List ℕ) → a ≡ length (place_spelt c.place) → b ≡ length (one_of c.next.bytes c.next.value) →
+    length (spelt c) ≤ length l → q ≡ replaced 0 (eights (place_spelt c.place)) l → r ≡ replaced a (bytes_from b c.next.value) q →
     a + b + c.number.bytes ≤ length r
 number_fits c a b l q r za zb h e f =
     let k = next_fits c a b l q za zb h e in

@@ -1,16 +1,16 @@
 // An instruction's bytes, in pieces.
-ghost use Rattle.std.specs.Prelude.{◌≡◌, cond, [], ◌∷◌, ◌++◌, ℕ, ◌+◌, ◌*◌, ◌<◌, ◌≤◌, length, leb};
+#![tactic(auto, using(crate::proofs::Laws::no_bytes, crate::proofs::Laws::one_byte))]
+
+ghost use Rattle.std.specs.Prelude.{◌≡◌, [], ◌∷◌, ◌++◌, ℕ, ◌+◌, ◌*◌, ◌<◌, ◌≤◌, length, cond, leb};
 ghost use Rattle.little.specs.Bytes.{bytes_from, replaced};
-ghost use Rattle.little.specs.Width.{bytes_of};
-ghost use Rattle.code.specs.Written.{size_step, arith_number, shift_number, scale_number, stride_number, register_in, constant_in, base_code, place_code};
+ghost use Rattle.code.specs.Written.{size_step, base_code, place_code};
 ghost use Rattle.code.specs.Written.{load_code, block_code, side_code, change_code, cycle_code, from_code};
 ghost use Rattle.code.specs.Written.{control_code, stack_code, interrupt_code, use_code, code_of};
-ghost use Rattle.encode.specs.inner.Spelt.{one_of, placed, spelt, eights};
+ghost use Rattle.encode.specs.inner.Spelt.{one_of, place_spelt, spelt, eights};
 
-use alu::{Arith, Change, Shift};
-use code::{Base, Control, Form, Interrupt, Op, Operand, Side, Stack, Use};
-use feed::cycle::{Cycle, Stride};
-use feed::scale::Scale;
+use alu::{Arith, Change};
+use code::{Base, Control, Interrupt, Op, Operand, Side, Stack, Use};
+use feed::cycle::Cycle;
 use little::Size;
 
 // The low bytes of a number, none to four of them.
@@ -27,6 +27,9 @@ pub struct Place {
     pub rest: Piece,
 }
 
+// A piece of no bytes.
+const NOTHING: Piece = Piece { value: 0, bytes: 0 };
+
 // A whole code: behind the place a byte that says what is done, and a number.
 #[derive(Clone, Copy)]
 pub struct Code {
@@ -35,55 +38,48 @@ pub struct Code {
     pub number: Piece,
 }
 
-fn low(value: u32, bytes: u8) -> Piece
-    ensures { (result.value ≡ value) × (result.bytes ≡ bytes) }
+// A place of one byte, and what belongs to it: no byte of it where n is 0.
+fn begun(first: u32, v: u32, n: u8) -> Place
+    ensures { place_spelt result ≡ first ∷ bytes_from n v }
 {
-    Piece {
-        value: value,
-        bytes: bytes,
+    Place {
+        first: Piece {
+            value: first,
+            bytes: 1,
+        },
+        rest: Piece { value: v, bytes: n },
     }
 }
 
-// A place of one byte, and what belongs to it: no byte of it where n is 0.
-fn begun(first: u32, v: u32, n: u8) -> Place
-    ensures { placed result ≡ first ∷ bytes_from n v }
-{
-    let b = low(first, 1);
-    let m = low(v, n);
-    Place { first: b, rest: m }
-}
-
 fn nowhere() -> Place
-    ensures { placed result ≡ [] }
+    ensures { place_spelt result ≡ [] }
 {
-    let b = low(0, 0);
-    let m = low(0, 0);
-    Place { first: b, rest: m }
+    Place {
+        first: NOTHING,
+        rest: NOTHING,
+    }
 }
 
 // A code whose place has all of it.
-fn alone(p: Place) -> Code
-    ensures { spelt result ≡ placed p }
+#[tactic(auto, using(crate::proofs::Laws::spelt_alone))]
+fn alone(place: Place) -> Code
+    ensures { spelt result ≡ place_spelt place }
 {
-    let next = low(0, 0);
-    let number = low(0, 0);
     Code {
-        place: p,
-        next: next,
-        number: number,
+        place,
+        next: NOTHING,
+        number: NOTHING,
     }
 }
 
 // A byte behind a place, and a number of n bytes.
-fn behind(p: Place, b: u32, v: u32, n: u8) -> Code
-    ensures { spelt result ≡ placed p ++ (b ∷ bytes_from n v) }
+fn behind(place: Place, b: u32, v: u32, n: u8) -> Code
+    ensures { spelt result ≡ place_spelt place ++ (b ∷ bytes_from n v) }
 {
-    let next = low(b, 1);
-    let number = low(v, n);
     Code {
-        place: p,
-        next: next,
-        number: number,
+        place,
+        next: Piece { value: b, bytes: 1 },
+        number: Piece { value: v, bytes: n },
     }
 }
 
@@ -108,113 +104,21 @@ fn two(b: u32, next: u32) -> Code
     behind(begun(b, 0, 0), next, 0, 0)
 }
 
-fn wide(x: u8) -> u32
-    ensures { (result ≡ x) × (result < 256) }
-{
-    x as u32
-}
-
-fn size_bytes(size: Size) -> u8
-    ensures { result ≡ bytes_of size }
-{
-    match size {
-        Size::Byte => 1,
-        Size::Word => 2,
-        Size::Long => 4,
-    }
-}
-
 // 10H for each step of the size.
 fn size_step(size: Size) -> u32
     ensures { (result ≡ size_step size) × (result < 33) }
 {
-    match size {
-        Size::Byte => 0,
-        Size::Word => 16,
-        Size::Long => 32,
-    }
-}
-
-// The number of an operation in its code.
-fn arith_number(a: Arith) -> u32
-    ensures { (result ≡ arith_number a) × (result < 8) }
-{
-    match a {
-        Arith::Add => 0,
-        Arith::Adc => 1,
-        Arith::Sub => 2,
-        Arith::Sbc => 3,
-        Arith::And => 4,
-        Arith::Xor => 5,
-        Arith::Or => 6,
-        Arith::Cp => 7,
-    }
-}
-
-fn shift_number(s: Shift) -> u32
-    ensures { (result ≡ shift_number s) × (result < 4) }
-{
-    match s {
-        Shift::Sla => 0,
-        Shift::Sra => 1,
-        Shift::Sll => 2,
-        Shift::Srl => 3,
-    }
-}
-
-fn scale_number(s: Scale) -> u32
-    ensures { (result ≡ scale_number s) × (result < 4) }
-{
-    match s {
-        Scale::Mul => 0,
-        Scale::Muls => 1,
-        Scale::Div => 2,
-        Scale::Divs => 3,
-    }
-}
-
-fn stride_number(s: Stride) -> u32
-    ensures { (result ≡ stride_number s) × (result < 3) }
-{
-    match s {
-        Stride::One => 0,
-        Stride::Two => 1,
-        Stride::Four => 2,
-    }
-}
-
-// The register that an operand is, 0 where it is none.
-fn register_in(operand: Operand) -> u8
-    ensures { result ≡ register_in operand }
-{
-    match operand {
-        Operand::Register(r) => r,
-        Operand::Named(_) => 0,
-        Operand::Constant(_) => 0,
-        Operand::Memory(_) => 0,
-    }
-}
-
-// The number that an operand is, 0 where it is none.
-fn constant_in(operand: Operand) -> u32
-    ensures { result ≡ constant_in operand }
-{
-    match operand {
-        Operand::Register(_) => 0,
-        Operand::Named(_) => 0,
-        Operand::Constant(v) => v,
-        Operand::Memory(_) => 0,
-    }
+    16 * size as u32
 }
 
 // A memory form, in the group of its size or of the stores.
 fn base(group: u32, b: Base, v: u32) -> Place
     requires { group < 256 }
-    ensures { placed result ≡ base_code group b v }
+    ensures { place_spelt result ≡ base_code group b v }
 {
     match b {
-        Base::Indirect(r) => begun(0x80 + group + wide(r), 0, 0),
-        Base::Displaced(r) => begun(0x88 + group + wide(r), v, 1),
+        Base::Indirect(r) => begun(0x80 + group + r as u32, 0, 0),
+        Base::Displaced(r) => begun(0x88 + group + r as u32, v, 1),
         Base::Absolute8 => begun(0xC0 + group, v, 1),
         Base::Absolute16 => begun(0xC1 + group, v, 2),
         Base::Absolute24 => begun(0xC2 + group, v, 3),
@@ -224,22 +128,19 @@ fn base(group: u32, b: Base, v: u32) -> Place
 // An operand's form, in the group of its size or of the stores.
 fn formed(group: u32, operand: Operand) -> Place
     requires { group < 256 }
-    ensures { placed result ≡ place_code group operand }
+    ensures { place_spelt result ≡ place_code group operand }
 {
     match operand {
-        Operand::Register(r) => begun(0xC8 + group + wide(r), 0, 0),
-        Operand::Named(c) => begun(0xC7 + group, wide(c), 1),
+        Operand::Register(r) => begun(0xC8 + group + r as u32, 0, 0),
+        Operand::Named(c) => begun(0xC7 + group, c as u32, 1),
         Operand::Constant(_) => nowhere(),
-        Operand::Memory(m) => {
-            let b = m.base;
-            base(group, b, m.number)
-        }
+        Operand::Memory(m) => base(group, m.base, m.number),
     }
 }
 
 // An operand's form of a size.
 fn sized(size: Size, operand: Operand) -> Place
-    ensures { placed result ≡ place_code (size_step size) operand }
+    ensures { place_spelt result ≡ place_code (size_step size) operand }
 {
     formed(size_step(size), operand)
 }
@@ -249,8 +150,7 @@ fn load_code(operand: Operand) -> u32
     ensures { (result ≡ load_code operand) × (result < 256) }
 {
     match operand {
-        Operand::Register(_) => 0x88,
-        Operand::Named(_) => 0x88,
+        Operand::Register(_) | Operand::Named(_) => 0x88,
         Operand::Constant(_) => 0,
         Operand::Memory(_) => 0x20,
     }
@@ -261,33 +161,34 @@ fn from(r: u8, size: Size, operand: Operand) -> Code
     ensures { spelt result ≡ from_code r size operand }
 {
     match operand {
-        Operand::Register(_) => behind(sized(size, operand), 0x98 + wide(r), 0, 0),
-        Operand::Named(_) => behind(sized(size, operand), 0x98 + wide(r), 0, 0),
+        Operand::Register(_) | Operand::Named(_) => {
+            behind(sized(size, operand), 0x98 + r as u32, 0, 0)
+        }
         Operand::Constant(_) => alone(nowhere()),
-        Operand::Memory(_) => behind(formed(48, operand), 0x40 + size_step(size) + wide(r), 0, 0),
+        Operand::Memory(_) => behind(formed(48, operand), 0x40 + size_step(size) + r as u32, 0, 0),
     }
 }
 
 // An operation on two operands, behind the place of one.
 fn side(p: Place, a: Arith, other: Side, size: Size) -> Code
-    ensures { spelt result ≡ placed p ++ side_code a other size }
+    ensures { spelt result ≡ place_spelt p ++ side_code a other size }
 {
-    let n = arith_number(a);
+    let n = a as u32;
     match other {
-        Side::First(r) => behind(p, 0x80 + 16 * n + wide(r), 0, 0),
-        Side::Second(r) => behind(p, 0x88 + 16 * n + wide(r), 0, 0),
-        Side::With(v) => behind(p, 0xC8 + n, v, size_bytes(size)),
+        Side::First(r) => behind(p, 0x80 + 16 * n + r as u32, 0, 0),
+        Side::Second(r) => behind(p, 0x88 + 16 * n + r as u32, 0, 0),
+        Side::With(v) => behind(p, 0xC8 + n, v, size.bytes() as u8),
     }
 }
 
 // A change, behind the place of its operand.
 fn change(p: Place, how: Change) -> Code
-    ensures { spelt result ≡ placed p ++ change_code how }
+    ensures { spelt result ≡ place_spelt p ++ change_code how }
 {
     match how {
-        Change::Inc(n) => behind(p, 0x60 + wide(n), 0, 0),
-        Change::Dec(n) => behind(p, 0x68 + wide(n), 0, 0),
-        Change::ShiftBy(kind, n) => behind(p, 0xEC + shift_number(kind), wide(n), 1),
+        Change::Inc(n) => behind(p, 0x60 + n as u32, 0, 0),
+        Change::Dec(n) => behind(p, 0x68 + n as u32, 0, 0),
+        Change::ShiftBy(kind, n) => behind(p, 0xEC + kind as u32, n as u32, 1),
         Change::Extz => behind(p, 0x12, 0, 0),
         Change::Exts => behind(p, 0x13, 0, 0),
     }
@@ -295,18 +196,18 @@ fn change(p: Place, how: Change) -> Code
 
 // MINC and MDEC, behind the place of the pointer.
 fn cycle(p: Place, how: Cycle) -> Code
-    ensures { spelt result ≡ placed p ++ cycle_code how }
+    ensures { spelt result ≡ place_spelt p ++ cycle_code how }
 {
     match how {
-        Cycle::Minc(stride, last) => behind(p, 0x38 + stride_number(stride), last as u32, 2),
-        Cycle::Mdec(stride, last) => behind(p, 0x3C + stride_number(stride), last as u32, 2),
+        Cycle::Minc(stride, last) => behind(p, 0x38 + stride as u32, last as u32, 2),
+        Cycle::Mdec(stride, last) => behind(p, 0x3C + stride as u32, last as u32, 2),
     }
 }
 
 fn control(what: Control, operand: Operand) -> Code
     ensures { spelt result ≡ control_code what operand }
 {
-    let v = constant_in(operand);
+    let v = operand.constant();
     match what {
         Control::Nop => one(0x00),
         Control::Incf => one(0x0C),
@@ -319,8 +220,8 @@ fn control(what: Control, operand: Operand) -> Code
         Control::Exf => one(0x16),
         Control::Jp16 => with(0x1A, v, 2),
         Control::Jp24 => with(0x1B, v, 3),
-        Control::Jr(cc) => with(0x60 + wide(cc), v, 1),
-        Control::Jrl(cc) => with(0x70 + wide(cc), v, 2),
+        Control::Jr(cc) => with(0x60 + cc as u32, v, 1),
+        Control::Jrl(cc) => with(0x70 + cc as u32, v, 2),
         Control::Ei => two(0x06, v),
     }
 }
@@ -328,12 +229,12 @@ fn control(what: Control, operand: Operand) -> Code
 fn stack(what: Stack, size: Size, operand: Operand) -> Code
     ensures { spelt result ≡ stack_code what size operand }
 {
-    let v = constant_in(operand);
+    let v = operand.constant();
     match what {
         Stack::PushF => one(0x18),
         Stack::PopF => one(0x19),
-        Stack::Push => one(0x18 + size_step(size) + wide(register_in(operand))),
-        Stack::Pop => one(0x38 + size_step(size) + wide(register_in(operand))),
+        Stack::Push => one(0x18 + size_step(size) + operand.register() as u32),
+        Stack::Pop => one(0x38 + size_step(size) + operand.register() as u32),
         Stack::Call16 => with(0x1C, v, 2),
         Stack::Call24 => with(0x1D, v, 3),
         Stack::Calr => with(0x1E, v, 2),
@@ -356,43 +257,28 @@ fn puts(how: Use, size: Size, operand: Operand) -> Code
 {
     let p = sized(size, operand);
     match how {
-        Use::Number(n) => behind(p, 0x03, n, size_bytes(size)),
+        Use::Number(n) => behind(p, 0x03, n, size.bytes() as u8),
         Use::From(r) => from(r, size, operand),
-        Use::Load(r) => behind(p, load_code(operand) + wide(r), 0, 0),
+        Use::Load(r) => behind(p, load_code(operand) + r as u32, 0, 0),
         Use::Compute(a, other) => side(p, a, other, size),
         Use::Changed(c) => change(p, c),
-        Use::Scaled(s, r) => behind(p, 0x40 + 8 * scale_number(s) + wide(r), 0, 0),
-        Use::ScaledWith(s, n) => behind(p, 0x08 + scale_number(s), n, size_bytes(size)),
+        Use::Scaled(s, r) => behind(p, 0x40 + 8 * s as u32 + r as u32, 0, 0),
+        Use::ScaledWith(s, n) => behind(p, 0x08 + s as u32, n, size.bytes() as u8),
         Use::Cycled(c) => cycle(p, c),
     }
-}
-
-fn pick(test: bool, yes: u8, no: u8) -> u32
-    ensures { (result ≡ cond test yes no) × (result < 256) }
-{
-    if test {
-        return wide(yes);
-    }
-    wide(no)
 }
 
 // The byte of a copy or a compare behind its pointer.
 fn block_byte(copies: bool, up: bool, again: bool) -> u32
     ensures { result ≡ block_code copies up again }
 {
-    0x10 + pick(copies, 0, 4) + pick(up, 0, 2) + pick(again, 1, 0)
-}
-
-fn block(f: Form, size: Size) -> Code
-    ensures { (o : Operand) → spelt result ≡ code_of (Op.Blocks f) size o }
-{
-    two(
-        0x80 + size_step(size) + wide(f.from),
-        block_byte(f.copies, f.up, f.again),
-    )
+    let kind = if copies { 0x10 } else { 0x14 };
+    let way = if up { 0 } else { 2 };
+    kind + way + again as u32
 }
 
 // The bytes of an instruction, by the kind of work.
+#[tactic(auto, using(crate::proofs::Laws::no_bytes), unfolding(code::specs::Written::code_of))]
 pub fn code_of(op: Op, size: Size, operand: Operand) -> Code
     ensures { spelt result ≡ code_of op size operand }
 {
@@ -401,11 +287,14 @@ pub fn code_of(op: Op, size: Size, operand: Operand) -> Code
         Op::Stacks(what) => stack(what, size, operand),
         Op::Puts(how) => puts(how, size, operand),
         Op::Sets(r) => with(
-            0x20 + size_step(size) + wide(r),
-            constant_in(operand),
-            size_bytes(size),
+            0x20 + size_step(size) + r as u32,
+            operand.constant(),
+            size.bytes() as u8,
         ),
-        Op::Blocks(f) => block(f, size),
+        Op::Blocks(f) => two(
+            0x80 + size_step(size) + f.from as u32,
+            block_byte(f.copies, f.up, f.again),
+        ),
         Op::Interrupts(what) => interrupt(what),
     }
 }
@@ -414,28 +303,27 @@ pub fn code_of(op: Op, size: Size, operand: Operand) -> Code
 fn ones(n: u8) -> usize
     ensures { ((v : ℕ) → result ≡ length (one_of n v)) × (result ≤ 1) }
 {
-    if n == 0 {
-        return 0;
-    }
-    1
+    n.min(1) as usize
 }
 
+#[tactic(auto, using(crate::proofs::Laid::placed_length))]
 fn place_length(p: Place) -> usize
-    ensures { (result ≡ length (placed p)) × (result ≤ 256) }
+    ensures { (result ≡ length (place_spelt p)) × (result ≤ 256) }
 {
     ones(p.first.bytes) + p.rest.bytes as usize
 }
 
 // How many bytes a code has.
+#[tactic(auto, using(crate::proofs::Laid::spelt_length))]
 pub fn length_of(c: Code) -> usize
     ensures value { result ≡ length (spelt c) }
     ensures bounded { result ≤ 512 }
 {
-    let p = c.place;
-    place_length(p) + (ones(c.next.bytes) + c.number.bytes as usize)
+    place_length(c.place) + (ones(c.next.bytes) + c.number.bytes as usize)
 }
 
 // Writes the low n bytes of v at a place of the room.
+#[tactic(auto, using(little::proofs::Laws::written))]
 fn put(out: &mut [u8], at: usize, n: usize, v: u32)
     requires { at + n ≤ length out.old }
     ensures { out.new ≡ replaced at (bytes_from n v) out.old }
@@ -445,9 +333,10 @@ fn put(out: &mut [u8], at: usize, n: usize, v: u32)
 }
 
 // Writes a place at the front of the room, and tells how many bytes that were.
+#[tactic(auto, using(crate::proofs::Laid::placed_length, crate::proofs::Laid::laid_place, crate::proofs::Laid::place_fits))]
 fn lay_place(p: Place, out: &mut [u8]) -> usize
-    requires { length (placed p) ≤ length out.old }
-    ensures value { (result ≡ length (placed p)) × (out.new ≡ replaced 0 (eights (placed p)) out.old) }
+    requires { length (place_spelt p) ≤ length out.old }
+    ensures value { (result ≡ length (place_spelt p)) × (out.new ≡ replaced 0 (eights (place_spelt p)) out.old) }
     ensures bounded { result ≤ 256 }
 {
     let a = ones(p.first.bytes);
@@ -458,12 +347,12 @@ fn lay_place(p: Place, out: &mut [u8]) -> usize
 }
 
 // Writes a code at the front of the room.
+#[tactic(auto, using(crate::proofs::Laid::spelt_length, crate::proofs::Laid::laid_code, crate::proofs::Laid::next_fits, crate::proofs::Laid::number_fits))]
 fn lay(c: Code, out: &mut [u8])
     requires { length (spelt c) ≤ length out.old }
     ensures { out.new ≡ replaced 0 (eights (spelt c)) out.old }
 {
-    let p = c.place;
-    let a = lay_place(p, out);
+    let a = lay_place(c.place, out);
     let b = ones(c.next.bytes);
     put(out, a, b, c.next.value);
     put(out, a + b, c.number.bytes as usize, c.number.value);

@@ -6,7 +6,6 @@ use mathlib.Core.List.{List}
 use mathlib.Core.Logic.{◌⊎◌, inl, inr}
 use native.Mathlib.Omega.{arith}
 use borrow.Author.Tests.{ne_eqb}
-use Rattle.answer.specs.declared.Answer.TheVariants.{Done}
 use Rattle.little.specs.declared.Size.{Size}
 use Rattle.state.specs.declared.State.{State}
 use Rattle.state.specs.declared.Bank.{Bank}
@@ -26,16 +25,17 @@ use Rattle.exec.specs.Exec.{effect_of, done}
 use Rattle.exec.specs.inner.Counter.{on_of}
 use Rattle.exec.specs.inner.Fed.{bytes_told, answer_of, Feeds}
 use Rattle.exec.proofs.Laws.{put_on}
+use Rattle.std.proofs.Common.{Ok}
 
 -- an instruction of two bytes or more is answered as done
-told_done : (n : ℕ) → 2 ≤ n → answer_of n ≡ Done
+told_done : (n : ℕ) → 2 ≤ n → answer_of n ≡ (Ok tt)
 told_done n h = rw (ne_eqb n 0 (λ e. omega arith), ne_eqb n 1 (λ e. omega arith)) refl
 
 -- ---- in the function itself: a use of n bytes that was read and done
 module _ (z : Size) (o : Operand) (code : List ℕ) (s after : State) (ram rom : List ℕ) where
   pub put_fed :
       (how : Use) (n : ℕ) → whole_of (Puts how) z o n ≡ judge (by_rows (feed_rows z o)) code 1 →
-      Does (λ t m. puts_of how z o t m rom) s ram Done after ram →
+      Does (λ t m. puts_of how z o t m rom) s ram (Ok tt) after ram →
       Feeds (judge (by_rows (feed_rows z o)) code 1) n s ram rom after
   unfolding effect_of
   put_fed how n e d =

@@ -2,8 +2,6 @@
 use Prim.Native.Nat.{ℕ, ◌+◌, ◌%◌, ◌^◌}
 use mathlib.Core.Path.{◌≡◌, refl, ap, sym, ◌∙◌}
 use mathlib.Core.List.{List}
-use Rattle.answer.specs.declared.Answer.{Answer}
-use Rattle.answer.specs.declared.Answer.TheVariants.{Done, Refused}
 use Rattle.state.specs.declared.State.{State}
 use Rattle.state.specs.State.{with_counter}
 use Rattle.state.specs.declared.Bank.{Bank}
@@ -19,6 +17,8 @@ use Rattle.operand.specs.Try.{Try, did, no, Outcome, leaves, after}
 use Rattle.code.specs.declared.Decoded.{Decoded}
 use Rattle.exec.specs.Exec.{past_of, effect_of, executed_of, done}
 use Rattle.exec.specs.inner.Counter.{back_of, on_of}
+use Rattle.std.proofs.Common.{Ok, Err}
+use Rattle.answer.specs.Number.{Answer}
 
 -- ---- an instruction: the state past it, and back where it is refused
 -- the state with the counter that it had, not cut
@@ -35,12 +35,12 @@ pub came_back :
     after a u m ≡ leaves beyond ram t → after a (standing_at u (back_of a s.counter u.counter)) m ≡ leaves s ram t
 unfolding back_at
 came_back s beyond same ram a u m (did v l) e =
-    let b : a ≡ Done = ap (λ (o : Outcome). o.answer) e in
+    let b : a ≡ (Ok tt) = ap (λ (o : Outcome). o.answer) e in
     rw b (ap (λ (x : Answer). after x u m) (sym b) ∙ e)
 came_back s beyond same ram a u m (no x) e =
-    let b : a ≡ Refused x = ap (λ (o : Outcome). o.answer) e in
+    let b : a ≡ Err x = ap (λ (o : Outcome). o.answer) e in
     let k : back_at u s.counter ≡ s = ap (λ (o : Outcome). back_at o.state s.counter) e ∙ same in
-    rw (b, ap (λ (o : Outcome). o.ram) e) (ap (λ (v : State). after (Refused x) v ram) k)
+    rw (b, ap (λ (o : Outcome). o.ram) e) (ap (λ (v : State). after (Err x) v ram) k)
 
 module _ (s : State) (n : ℕ) (ram : List ℕ) (a : Answer) (u : State) (m : List ℕ) where
   -- what was refused past the instruction is refused at it
@@ -54,12 +54,12 @@ module _ (s : State) (n : ℕ) (ram : List ℕ) (a : Answer) (u : State) (m : Li
       → after a (standing_at u (on_of a n s.counter)) m ≡ leaves s ram t
   unfolding back_at
   moved_on (did v l) e =
-      let b : a ≡ Done = ap (λ (o : Outcome). o.answer) e in
+      let b : a ≡ (Ok tt) = ap (λ (o : Outcome). o.answer) e in
       rw b (ap (λ (x : Answer). after x (standing_at u ((s.counter + n) % 2 ^ 24)) m) (sym b) ∙ e)
   moved_on (no x) e =
-      let b : a ≡ Refused x = ap (λ (o : Outcome). o.answer) e in
+      let b : a ≡ Err x = ap (λ (o : Outcome). o.answer) e in
       let k : back_at u s.counter ≡ s = ap (λ (o : Outcome). back_at o.state s.counter) e ∙ back_is n s in
-      rw (b, ap (λ (o : Outcome). o.ram) e) (ap (λ (v : State). after (Refused x) v ram) k)
+      rw (b, ap (λ (o : Outcome). o.ram) e) (ap (λ (v : State). after (Err x) v ram) k)
 
 -- what is judged to be the same leaves the same
 pub judged : (s : State) (ram rom : List ℕ) (o : Outcome) (d e : Decoded) → d ≡ e → o ≡ leaves s ram (done d s ram rom) → o ≡ leaves s ram (done e s ram rom)
@@ -69,9 +69,9 @@ judged s ram rom o d e h k = rw (← h) k
 module _ (rest : State) (regs : List ℕ) (bank : Bank) (counter flags n : ℕ) (ram rom : List ℕ) where
   pub put_on :
       (how : Use) (z : Size) (o : Operand) (next : List ℕ) (g : ℕ) →
-      Does (λ t m. puts_of how z o t m rom) (banked_with (standing_at rest ((counter + n) % 2 ^ 24)) regs bank flags) ram Done (banked_with (standing_at rest ((counter + n) % 2 ^ 24)) next bank g) ram →
-      Does (λ t m. done (whole_of (Puts how) z o n) t m rom) (banked_at_with rest regs bank counter flags) ram Done (banked_at_with rest next bank (on_of Done n counter) g) ram
+      Does (λ t m. puts_of how z o t m rom) (banked_with (standing_at rest ((counter + n) % 2 ^ 24)) regs bank flags) ram (Ok tt) (banked_with (standing_at rest ((counter + n) % 2 ^ 24)) next bank g) ram →
+      Does (λ t m. done (whole_of (Puts how) z o n) t m rom) (banked_at_with rest regs bank counter flags) ram (Ok tt) (banked_at_with rest next bank (on_of (Ok tt) n counter) g) ram
   unfolding executed_of effect_of past_of with_counter
   put_on how z o next g h =
-      moved_on (banked_at_with rest regs bank counter flags) n ram Done (banked_at_with rest next bank counter g) ram
+      moved_on (banked_at_with rest regs bank counter flags) n ram (Ok tt) (banked_at_with rest next bank counter g) ram
       (puts_of how z o (banked_with (standing_at rest ((counter + n) % 2 ^ 24)) regs bank flags) ram rom) h

@@ -30,9 +30,8 @@ use state::{Bank, current};
 pub fn back(a: Answer, here: u32, counter: &mut u32) -> Answer
     ensures { (result ≡ a) × (counter.new ≡ back_of a here counter.old) }
 {
-    if let Answer::Refused(_) = a {
+    if a.is_err() {
         *counter = here;
-        return a;
     }
     a
 }
@@ -41,10 +40,9 @@ pub fn back(a: Answer, here: u32, counter: &mut u32) -> Answer
 pub fn on(a: Answer, counter: &mut u32, n: usize) -> Answer
     ensures { (result ≡ a) × (counter.new ≡ on_of a n counter.old) }
 {
-    if let Answer::Refused(_) = a {
-        return a;
+    if a.is_ok() {
+        past(counter, n);
     }
-    past(counter, n);
     a
 }
 
@@ -82,7 +80,7 @@ pub fn alone(
         }
         Alone::Sets(r, size, v, n) => {
             state::write(regs, current(&*bank), size, r, v);
-            on(Answer::Done, counter, n)
+            on(Ok(()), counter, n)
         }
         Alone::Interrupts(what, n) => {
             past(&mut *counter, n);
@@ -99,8 +97,8 @@ pub fn alone(
             );
             back(a, here, counter)
         }
-        Alone::Short => Answer::Refused(Why::NoCode),
-        Alone::Unlisted => Answer::Refused(Why::Unlisted),
+        Alone::Short => Err(Why::NoCode),
+        Alone::Unlisted => Err(Why::Unlisted),
     }
 }
 
@@ -163,12 +161,12 @@ fn told(n: usize, counter: &mut u32) -> Answer
     ensures { (result ≡ answer_of n) × (counter.new ≡ on_of (answer_of n) n counter.old) }
 {
     if n == 0 {
-        return Answer::Refused(Why::Unlisted);
+        return Err(Why::Unlisted);
     }
     if n == 1 {
-        return Answer::Refused(Why::NoCode);
+        return Err(Why::NoCode);
     }
-    on(Answer::Done, counter, n)
+    on(Ok(()), counter, n)
 }
 
 // What a register form says of the operand that begins at a field, and is read from the code: nothing is refused but its code. The
@@ -191,34 +189,34 @@ pub fn of_register(
     match read {
         OfRegister::Number(v, n) => {
             state::named::write(regs, size, r, v);
-            on(Answer::Done, counter, n)
+            on(Ok(()), counter, n)
         }
         OfRegister::From(from, n) => {
             load(register(bank, size, from), r, size, regs);
-            on(Answer::Done, counter, n)
+            on(Ok(()), counter, n)
         }
         OfRegister::Load(to, n) => {
             load(r, register(bank, size, to), size, regs);
-            on(Answer::Done, counter, n)
+            on(Ok(()), counter, n)
         }
         OfRegister::Compute(op, first, n) => {
             operate(op, first, size, r, bank, flags, regs);
-            on(Answer::Done, counter, n)
+            on(Ok(()), counter, n)
         }
         OfRegister::With(op, v, n) => {
             with(op, v, size, r, flags, regs);
-            on(Answer::Done, counter, n)
+            on(Ok(()), counter, n)
         }
         OfRegister::Changed(how, n) => {
             change(how, size, r, flags, regs);
-            on(Answer::Done, counter, n)
+            on(Ok(()), counter, n)
         }
         OfRegister::Rest => match size {
             Size::Byte => told(feed(code, Size::Byte, anew(r), bank, flags, regs), counter),
             Size::Word => told(feed(code, Size::Word, anew(r), bank, flags, regs), counter),
             Size::Long => told(feed(code, Size::Long, anew(r), bank, flags, regs), counter),
         },
-        OfRegister::Short => Answer::Refused(Why::NoCode),
-        OfRegister::Unlisted => Answer::Refused(Why::Unlisted),
+        OfRegister::Short => Err(Why::NoCode),
+        OfRegister::Unlisted => Err(Why::Unlisted),
     }
 }

@@ -15,8 +15,6 @@ use Rattle.alu.specs.Change.{changed}
 use Rattle.feed.specs.declared.scale.Scale.{Scale}
 use Rattle.feed.specs.Scale.{scaled}
 use Rattle.feed.specs.Cycle.{cycled}
-use Rattle.memory.specs.declared.Loaded.{Loaded}
-use Rattle.memory.specs.declared.Loaded.TheVariants.{Value}
 use Rattle.state.specs.declared.Bank.{Bank}
 use Rattle.state.specs.declared.State.{State}
 use Rattle.state.specs.State.{with_counter}
@@ -48,6 +46,8 @@ use Rattle.operand.specs.Operand.{value_in, put_at, wide_of}
 use Rattle.compute.specs.Compute.{computed, result_in, stores_of, answer_in, scaled_at, puts_of}
 use Rattle.exec.specs.Exec.{past_of, effect_of, executed_of, done}
 use Rattle.facts.specs.ByCode.{SameByCode}
+use Rattle.std.proofs.Common.{Ok}
+use Rattle.memory.specs.Access.{Loaded}
 
 -- ---- what is put
 module _ (z : Size) (r : ℕ) (h : r < 8) where
@@ -55,7 +55,7 @@ module _ (z : Size) (r : ℕ) (h : r < 8) where
   unfolding value_in
   same_value registers bank ram rom =
       let e : r % 8 ≡ r = omega arith in
-      ap Value (sym (rw e at ((plain_names bank z r).0 registers)))
+      ap Ok (sym (rw e at ((plain_names bank z r).0 registers)))
 
   same_put : (s : State) (ram rom : List ℕ) (v : ℕ) → put_at s ram rom z (Named (code_for z r)) v ≡ put_at s ram rom z (Register r) v
   same_put s ram rom v =

@@ -11,7 +11,6 @@ use borrow.Author.Tests.{eqb-true}
 use Rattle.little.specs.declared.Size.{Size}
 use Rattle.little.specs.declared.Size.TheVariants.{Byte, Word, Long}
 use Rattle.little.specs.Width.{bits_of, twice_of}
-use Rattle.memory.specs.declared.Loaded.TheVariants.{Value}
 use Rattle.state.specs.Register.{get_bits}
 use Rattle.state.specs.declared.named.Field.{Field}
 use Rattle.state.specs.inner.Field.{field_in, wide_at}
@@ -19,6 +18,7 @@ use Rattle.operand.specs.Operand.{wide_of}
 use Rattle.operand.specs.inner.Placed.{field_of, low_at}
 use Rattle.operand.proofs.Placed.{chosen_at, value_at_lem, wide_at_lem, low_at_lem}
 use Rattle.facts.specs.Halves.{LowerHalf}
+use Rattle.std.proofs.Common.{Ok}
 
 -- what begins at a multiple of its own bits begins where it is
 aligned : (z : Size) (f : Field) → low_at z f ≡ true → f.start / (2 * bits_of z) * (2 * bits_of z) ≡ f.start
@@ -51,5 +51,5 @@ lower_half z o s ram rom h e =
     let l : low_at z f ≡ true = sym (low_at_lem s.bank z o f there) ∙ e in (
       field_in s.registers (twice_of z) (wide_at z f),
       value_at_lem s.registers s.bank ram rom (twice_of z) (wide_of z o) (wide_at z f) (wide_at_lem s.bank z o f there),
-      value_at_lem s.registers s.bank ram rom z o f there ∙ ap Value (low_bits z f s.registers l),
+      value_at_lem s.registers s.bank ram rom z o f there ∙ ap Ok (low_bits z f s.registers l),
     )

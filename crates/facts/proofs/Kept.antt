@@ -5,7 +5,6 @@ use mathlib.Core.List.{List}
 use mathlib.Core.Bool.{Bool}
 use native.Mathlib.Omega.{arith}
 use lib.ListN.{length}
-use Rattle.answer.specs.declared.Answer.{Answer}
 use Rattle.little.specs.declared.Size.{Size}
 use Rattle.little.specs.Width.{bytes_of}
 use Rattle.flags.specs.Flag.{packed_of}
@@ -35,6 +34,7 @@ use Rattle.exec.specs.Exec.{past_of, executed_of, done}
 use Rattle.turn.specs.Once.{once_of}
 use Rattle.facts.specs.Touched.{Span, none, bytes, uses_marked, read_of, stored_of, KeepsRest}
 use Rattle.facts.proofs.Touched.{Kept, Recounted, past_kept, copied_kept, compared_kept, Gives, GivesBy, fair_round, fair_effect}
+use Rattle.answer.specs.Number.{Answer}
 
 -- ---- validity
 valid_part : (s : State) (z : Size) (c v : ℕ) → Valid s → Valid (with_held s (named (s.bank.0 % 4) (bytes_of z) c) v)

@@ -7,12 +7,9 @@ use native.Mathlib.Omega.{arith}
 use lib.ListN.{length}
 use borrow.Author.Tests.{lt-ltb}
 use Rattle.answer.specs.Number.{number_of}
-use Rattle.answer.specs.declared.Answer.TheVariants.{Done}
 use Rattle.little.specs.declared.Size.{Size}
 use Rattle.little.specs.declared.Size.TheVariants.{Byte, Long}
 use Rattle.memory.specs.Access.{code_at, load_bytes}
-use Rattle.memory.specs.declared.Loaded.{Loaded}
-use Rattle.memory.specs.declared.Loaded.TheVariants as loaded
 use Rattle.state.specs.State.{with_level, with_nesting, with_bank, with_flags, with_both_flags, with_counter, with_long}
 use Rattle.state.specs.Register.{set_slot, get_register, set_register}
 use Rattle.state.specs.Named.{Bits, bits, nowhere, with_held}
@@ -45,6 +42,8 @@ use Rattle.facts.proofs.Touched.{Kept}
 use Rattle.facts.proofs.Kept.{valid_kept}
 use Rattle.facts.proofs.Banks.{past_seven}
 use Rattle.facts.proofs.Statements.{not_long, step_judged, step_whole, operated, left}
+use Rattle.std.proofs.Common.{Ok, Err}
+use Rattle.memory.specs.Access.{Loaded}
 
 -- ---- EI
 abbrev ei : ℕ → Instruction
@@ -99,13 +98,13 @@ returned_counts s v = omega arith
 
 popped_counts :
     (s : State) (ram : List ℕ) (c : ℕ) (f : ℕ → State) → ((v : ℕ) → (f v).nesting ≡ c) → (l : Loaded) →
-    (leaves s ram (with_loaded l (λ v. did (f v) ram))).answer ≡ Done → (leaves s ram (with_loaded l (λ v. did (f v) ram))).state.nesting ≡ c
-popped_counts s ram c f h (loaded.Value v) e = h v
-popped_counts s ram c f h (loaded.Missing x) e = absurd (omega (arith, ap number_of e))
+    (leaves s ram (with_loaded l (λ v. did (f v) ram))).answer ≡ (Ok tt) → (leaves s ram (with_loaded l (λ v. did (f v) ram))).state.nesting ≡ c
+popped_counts s ram c f h (Ok v) e = h v
+popped_counts s ram c f h (Err x) e = absurd (omega (arith, ap number_of e))
 
 -- an operation done takes one off
 abbrev OneOff : State → State → List ℕ → Try → Type 0
-OneOff s t ram x = (leaves s ram x).answer ≡ Done → (leaves s ram x).state.nesting ≡ less 16 t.nesting 1
+OneOff s t ram x = (leaves s ram x).answer ≡ (Ok tt) → (leaves s ram x).state.nesting ≡ less 16 t.nesting 1
 
 reti_counts : (z : Size) (o : Operand) (at : ℕ) (s t : State) (ram rom : List ℕ) → OneOff s t ram (effect_of (Interrupts Reti) z o at t ram rom)
 unfolding effect_of interrupt_of set_register set_slot with_long
@@ -120,7 +119,7 @@ executed_counts s ram rom i e =
     subst (λ (op : Op). OneOff s t ram (effect_of op i.size i.operand s.counter t ram rom)) (sym e) (reti_counts i.size i.operand s.counter s t ram rom)
 
 pub step_counts : StepCounts
-step_counts s ram rom i d = go (operated s ram rom Done (inl refl) d.0)
+step_counts s ram rom i d = go (operated s ram rom (Ok tt) (inl refl) d.0)
   where
     go : (j : Instruction) × (Passed s ram rom × (decode_of (code_at ram rom s.counter) ≡ decoded.Whole j)) →
         (i.op ≡ Interrupts Reti → (step_of s ram rom).state.nesting ≡ less 16 s.nesting 1)

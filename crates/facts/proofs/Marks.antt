@@ -8,8 +8,6 @@ use native.Mathlib.Omega.{arith}
 use lib.Dec.{eqb}
 use borrow.Author.Tests.{eqb-true, not-false}
 use Rattle.answer.specs.Number.{number_of}
-use Rattle.answer.specs.declared.Answer.{Answer}
-use Rattle.answer.specs.declared.Answer.TheVariants.{Done}
 use Rattle.flags.specs.declared.Flags.{Flags}
 use Rattle.flags.specs.Flag.{packed_of, flags_of}
 use Rattle.flags.specs.Undefined.{marks_h, marks_v}
@@ -33,6 +31,8 @@ use Rattle.facts.specs.Touched.{answer_by, uses_marked}
 use Rattle.facts.specs.Statements.{Passed}
 use Rattle.facts.specs.Marks.{OnlyHAndV, MarkedSayNothing, DoneAt, JumpReadsDefined, PushStoresDefined}
 use Rattle.facts.proofs.Statements.{operated, refused_when}
+use Rattle.std.proofs.Common.{Ok}
+use Rattle.answer.specs.Number.{Answer}
 
 few : (x : ℕ) → flags_valid x ≡ true → marks_of x < 4
 unfolding flags_of
@@ -66,12 +66,12 @@ marked_say_nothing s f f' g g' x y a b =
     ap₂ (with_both_flags s) (set_same f g v.flags w.flags a) (set_same f' g' v.spare w.spare b)
 
 -- ---- a step that is done uses no marked flag
-unused : (b : Bool) (a : Answer) → answer_by b a ≡ Done → b ≡ false
+unused : (b : Bool) (a : Answer) → answer_by b a ≡ (Ok tt) → b ≡ false
 unused true a e = absurd (omega (arith, ap number_of e))
 unused false a e = refl
 
 done_unused : (s : State) (ram rom : List ℕ) (i : Instruction) → DoneAt s ram rom i → uses_marked i.op s ≡ false
-done_unused s ram rom i d = go (operated s ram rom Done (inl refl) d.0)
+done_unused s ram rom i d = go (operated s ram rom (Ok tt) (inl refl) d.0)
   where
     go : (j : Instruction) × (Passed s ram rom × (decode_of (code_at ram rom s.counter) ≡ Whole j)) → uses_marked i.op s ≡ false
     go (j, (p, h)) = unused _ _ (sym ((refused_when s ram rom).operands i p d.1) ∙ d.0)

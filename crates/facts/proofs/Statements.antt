@@ -10,8 +10,6 @@ use lib.Dec.{ltb}
 use borrow.Author.Tests.{ltb-true, ltb-false, le-ltb}
 use Rattle.answer.specs.declared.Why.{Why}
 use Rattle.answer.specs.declared.Why.TheVariants.{TooMany, TooLong, Invalid, BadRequest, NoOldForm, NoCode, Unlisted, Undefined, Missing, ToRom}
-use Rattle.answer.specs.declared.Answer.{Answer}
-use Rattle.answer.specs.declared.Answer.TheVariants.{Done, Refused}
 use Rattle.answer.specs.Number.{why_number, number_of, first_refusal}
 use Rattle.little.specs.declared.Size.TheVariants.{Long}
 use Rattle.memory.specs.Access.{code_at, load_from, store_to}
@@ -38,6 +36,8 @@ use Rattle.facts.specs.Touched.{Span, none, bytes, uses_marked, read_of, stored_
 use Rattle.facts.specs.Statements.{◌⇔◌, RefusedChangesNothing, Within, Passed, RefusedWhen, KeepsValid, StoresOnlyThere, Settled, ResetMissing, single, RoundIsSingle}
 use Rattle.facts.proofs.Touched.{Kept, Recounted, Gives}
 use Rattle.facts.proofs.Kept.{valid_kept, valid_recounted, Whole, whole_kept, whole_recounted, spares_length, executed_fair}
+use Rattle.std.proofs.Common.{Ok, Err}
+use Rattle.answer.specs.Number.{Answer}
 
 -- ---- the limits
 pub longer : (a b : ℕ) → too_long a b ≡ true → (2 ^ 16 < a) ⊎ (2 ^ 16 < b)
@@ -79,7 +79,7 @@ module _ (P : State → Type 0) (s : State) (ram rom : List ℕ) (a : Answer) (g
   fair_answer (did t m) h = sym h.1.1
   fair_answer (no w) h = sym h
 
-  pub fair_done : (t : Try) → Gives P ram rom a g t → (leaves s ram t).answer ≡ Done → P (leaves s ram t).state × KeepsRest g ram (leaves s ram t).ram
+  pub fair_done : (t : Try) → Gives P ram rom a g t → (leaves s ram t).answer ≡ (Ok tt) → P (leaves s ram t).state × KeepsRest g ram (leaves s ram t).ram
   unfolding Gives
   fair_done (did t m) h e = (h.0, h.1.0)
   fair_done (no w) h e = absurd (omega (arith, ap number_of e, some w))
@@ -114,8 +114,8 @@ by_operands ram rom r g = go (read_answer ram rom r) (reading r) (store_answer r
     storing (bytes a n) = by_store (place_of (length ram) (length rom) a n) a
 
     go : (a : Answer) → ByOperands a → (b : Answer) → ByOperands b → ByOperands (first_refusal a b)
-    go Done p b q = q
-    go (Refused w) p b q = p
+    go (Ok _) p b q = q
+    go (Err w) p b q = p
 
 by_both : (ram rom : List ℕ) (b : Bool) (r g : Span) → ByBoth (answer_by b (operands_answer ram rom r g))
 by_both ram rom true r g = inr refl
@@ -165,7 +165,7 @@ module _ (s : State) (ram rom : List ℕ) where
       ∙ fair_answer Valid s ram rom (operated_by i) (target i) (executed_of i s ram rom)
       (executed_fair Valid i s ram rom valid_kept (valid_recounted i.op) (valid_says s p.1))
 
-  pub left : (P : State → Type 0) → Kept P → P s → (i : Instruction) → Recounted P i.op → Passed s ram rom → judged ≡ decoded.Whole i → answer ≡ Done → P (step_of s ram rom).state × KeepsRest (target i) ram (step_of s ram rom).ram
+  pub left : (P : State → Type 0) → Kept P → P s → (i : Instruction) → Recounted P i.op → Passed s ram rom → judged ≡ decoded.Whole i → answer ≡ (Ok tt) → P (step_of s ram rom).state × KeepsRest (target i) ram (step_of s ram rom).ram
   left P k ok i c p e d =
       let w = step_whole i p e in
       subst (λ (o : Outcome). P o.state × KeepsRest (target i) ram o.ram) (sym w)
@@ -173,10 +173,10 @@ module _ (s : State) (ram rom : List ℕ) where
 
   -- the five courses of a step
   data Course : Type 0 where
-    long : (2 ^ 16 < length ram) ⊎ (2 ^ 16 < length rom) → answer ≡ Refused TooLong → Course
-    invalid : Within ram rom → valid_of s ≡ false → answer ≡ Refused Invalid → Course
-    short : Passed s ram rom → judged ≡ decoded.Short → answer ≡ Refused NoCode → Course
-    unlisted : Passed s ram rom → judged ≡ decoded.Unlisted → answer ≡ Refused Unlisted → Course
+    long : (2 ^ 16 < length ram) ⊎ (2 ^ 16 < length rom) → answer ≡ Err TooLong → Course
+    invalid : Within ram rom → valid_of s ≡ false → answer ≡ Err Invalid → Course
+    short : Passed s ram rom → judged ≡ decoded.Short → answer ≡ Err NoCode → Course
+    unlisted : Passed s ram rom → judged ≡ decoded.Unlisted → answer ≡ Err Unlisted → Course
     whole : (i : Instruction) → Passed s ram rom → judged ≡ decoded.Whole i → answer ≡ operated_by i → Course
 
   course : Course
@@ -203,17 +203,17 @@ module _ (s : State) (ram rom : List ℕ) where
   far (inl h) w = omega (arith, w.0)
   far (inr h) w = omega (arith, w.1)
 
-  one_holds : (answer ≡ Refused TooLong) ⇔ ((2 ^ 16 < length ram) ⊎ (2 ^ 16 < length rom))
+  one_holds : (answer ≡ Err TooLong) ⇔ ((2 ^ 16 < length ram) ⊎ (2 ^ 16 < length rom))
   one_holds = (go course, back course)
     where
-      go : Course → answer ≡ Refused TooLong → (2 ^ 16 < length ram) ⊎ (2 ^ 16 < length rom)
+      go : Course → answer ≡ Err TooLong → (2 ^ 16 < length ram) ⊎ (2 ^ 16 < length rom)
       go (long l a) e = l
       go (invalid w v a) e = absurd (omega (arith, ap number_of (sym a ∙ e)))
       go (short p d a) e = absurd (omega (arith, ap number_of (sym a ∙ e)))
       go (unlisted p d a) e = absurd (omega (arith, ap number_of (sym a ∙ e)))
-      go (whole i p d a) e = absurd (not_operands i (Refused TooLong) (omega arith) (omega arith) a e)
+      go (whole i p d a) e = absurd (not_operands i (Err TooLong) (omega arith) (omega arith) a e)
 
-      back : Course → (2 ^ 16 < length ram) ⊎ (2 ^ 16 < length rom) → answer ≡ Refused TooLong
+      back : Course → (2 ^ 16 < length ram) ⊎ (2 ^ 16 < length rom) → answer ≡ Err TooLong
       back (long l a) h = a
       back (invalid w v a) h = absurd (far h w)
       back (short p d a) h = absurd (far h p.0)
@@ -224,17 +224,17 @@ module _ (s : State) (ram rom : List ℕ) where
   pub both : valid_of s ≡ true → valid_of s ≡ false → ⊥
   both e f = let z : ◌≡◌ {A = ℕ} 0 1 = ap (λ (b : Bool). cond b 0 1) (sym e ∙ f) in omega arith
 
-  two_holds : (answer ≡ Refused Invalid) ⇔ (Within ram rom × (valid_of s ≡ false))
+  two_holds : (answer ≡ Err Invalid) ⇔ (Within ram rom × (valid_of s ≡ false))
   two_holds = (go course, back course)
     where
-      go : Course → answer ≡ Refused Invalid → Within ram rom × (valid_of s ≡ false)
+      go : Course → answer ≡ Err Invalid → Within ram rom × (valid_of s ≡ false)
       go (long l a) e = absurd (omega (arith, ap number_of (sym a ∙ e)))
       go (invalid w v a) e = (w, v)
       go (short p d a) e = absurd (omega (arith, ap number_of (sym a ∙ e)))
       go (unlisted p d a) e = absurd (omega (arith, ap number_of (sym a ∙ e)))
-      go (whole i p d a) e = absurd (not_operands i (Refused Invalid) (omega arith) (omega arith) a e)
+      go (whole i p d a) e = absurd (not_operands i (Err Invalid) (omega arith) (omega arith) a e)
 
-      back : Course → Within ram rom × (valid_of s ≡ false) → answer ≡ Refused Invalid
+      back : Course → Within ram rom × (valid_of s ≡ false) → answer ≡ Err Invalid
       back (long l a) h = absurd (far l h.0)
       back (invalid w v a) h = a
       back (short p d a) h = absurd (both p.1 h.1)
@@ -247,34 +247,34 @@ module _ (s : State) (ram rom : List ℕ) where
   kind decoded.Unlisted = 1
   kind (decoded.Whole i) = 2
 
-  three_holds : (answer ≡ Refused NoCode) ⇔ (Passed s ram rom × (judged ≡ decoded.Short))
+  three_holds : (answer ≡ Err NoCode) ⇔ (Passed s ram rom × (judged ≡ decoded.Short))
   three_holds = (go course, back course)
     where
-      go : Course → answer ≡ Refused NoCode → Passed s ram rom × (judged ≡ decoded.Short)
+      go : Course → answer ≡ Err NoCode → Passed s ram rom × (judged ≡ decoded.Short)
       go (long l a) e = absurd (omega (arith, ap number_of (sym a ∙ e)))
       go (invalid w v a) e = absurd (omega (arith, ap number_of (sym a ∙ e)))
       go (short p d a) e = (p, d)
       go (unlisted p d a) e = absurd (omega (arith, ap number_of (sym a ∙ e)))
-      go (whole i p d a) e = absurd (not_operands i (Refused NoCode) (omega arith) (omega arith) a e)
+      go (whole i p d a) e = absurd (not_operands i (Err NoCode) (omega arith) (omega arith) a e)
 
-      back : Course → Passed s ram rom × (judged ≡ decoded.Short) → answer ≡ Refused NoCode
+      back : Course → Passed s ram rom × (judged ≡ decoded.Short) → answer ≡ Err NoCode
       back (long l a) h = absurd (far l h.0.0)
       back (invalid w v a) h = absurd (both h.0.1 v)
       back (short p d a) h = a
       back (unlisted p d a) h = absurd (omega (arith, ap kind (sym d ∙ h.1)))
       back (whole i p d a) h = absurd (omega (arith, ap kind (sym d ∙ h.1)))
 
-  four_holds : (answer ≡ Refused Unlisted) ⇔ (Passed s ram rom × (judged ≡ decoded.Unlisted))
+  four_holds : (answer ≡ Err Unlisted) ⇔ (Passed s ram rom × (judged ≡ decoded.Unlisted))
   four_holds = (go course, back course)
     where
-      go : Course → answer ≡ Refused Unlisted → Passed s ram rom × (judged ≡ decoded.Unlisted)
+      go : Course → answer ≡ Err Unlisted → Passed s ram rom × (judged ≡ decoded.Unlisted)
       go (long l a) e = absurd (omega (arith, ap number_of (sym a ∙ e)))
       go (invalid w v a) e = absurd (omega (arith, ap number_of (sym a ∙ e)))
       go (short p d a) e = absurd (omega (arith, ap number_of (sym a ∙ e)))
       go (unlisted p d a) e = (p, d)
-      go (whole i p d a) e = absurd (not_operands i (Refused Unlisted) (omega arith) (omega arith) a e)
+      go (whole i p d a) e = absurd (not_operands i (Err Unlisted) (omega arith) (omega arith) a e)
 
-      back : Course → Passed s ram rom × (judged ≡ decoded.Unlisted) → answer ≡ Refused Unlisted
+      back : Course → Passed s ram rom × (judged ≡ decoded.Unlisted) → answer ≡ Err Unlisted
       back (long l a) h = absurd (far l h.0.0)
       back (invalid w v a) h = absurd (both h.0.1 v)
       back (short p d a) h = absurd (omega (arith, ap kind (sym d ∙ h.1)))
@@ -282,7 +282,7 @@ module _ (s : State) (ram rom : List ℕ) where
       back (whole i p d a) h = absurd (omega (arith, ap kind (sym d ∙ h.1)))
 
   -- 8 comes from a marked flag, and from nothing else
-  eight_marked : (i : Instruction) → answer ≡ operated_by i → answer ≡ Refused Undefined → uses i ≡ true
+  eight_marked : (i : Instruction) → answer ≡ operated_by i → answer ≡ Err Undefined → uses i ≡ true
   eight_marked i a e = go (uses i) (by_operands ram rom (reads i) (target i)) (ap number_of (sym a ∙ e))
     where
       go : (b : Bool) → ByOperands (operands_answer ram rom (reads i) (target i)) → number_of (answer_by b (operands_answer ram rom (reads i) (target i))) ≡ 8 → b ≡ true
@@ -291,23 +291,23 @@ module _ (s : State) (ram rom : List ℕ) where
       go false (inr z) n = absurd (omega (arith, z.1))
 
   eight_holds :
-      (answer ≡ Refused Undefined) ⇔ (Passed s ram rom × ((i : Instruction) × (judged ≡ decoded.Whole i) × (uses i ≡ true)))
+      (answer ≡ Err Undefined) ⇔ (Passed s ram rom × ((i : Instruction) × (judged ≡ decoded.Whole i) × (uses i ≡ true)))
   eight_holds = (go course, λ h. back h.1.0 h.0 h.1.1 h.1.2)
     where
-      go : Course → answer ≡ Refused Undefined → Passed s ram rom × ((i : Instruction) × (judged ≡ decoded.Whole i) × (uses i ≡ true))
+      go : Course → answer ≡ Err Undefined → Passed s ram rom × ((i : Instruction) × (judged ≡ decoded.Whole i) × (uses i ≡ true))
       go (long l a) e = absurd (omega (arith, ap number_of (sym a ∙ e)))
       go (invalid w v a) e = absurd (omega (arith, ap number_of (sym a ∙ e)))
       go (short p d a) e = absurd (omega (arith, ap number_of (sym a ∙ e)))
       go (unlisted p d a) e = absurd (omega (arith, ap number_of (sym a ∙ e)))
       go (whole i p d a) e = (p, (i, d, eight_marked i a e))
 
-      back : (i : Instruction) → Passed s ram rom → judged ≡ decoded.Whole i → uses i ≡ true → answer ≡ Refused Undefined
+      back : (i : Instruction) → Passed s ram rom → judged ≡ decoded.Whole i → uses i ≡ true → answer ≡ Err Undefined
       back i p d u = answered i p d ∙ ap (λ (b : Bool). answer_by b (operands_answer ram rom (reads i) (target i))) u
 
   pub refused_when : RefusedWhen s ram rom
   refused_when = record { one = one_holds; two = two_holds; three = three_holds; four = four_holds; eight = eight_holds; operands = answered }
 
-  number_most : (w : Why) → Course → answer ≡ Refused w → (why_number w ≤ 6) ⊎ (why_number w ≡ 8)
+  number_most : (w : Why) → Course → answer ≡ Err w → (why_number w ≤ 6) ⊎ (why_number w ≡ 8)
   number_most w (long l a) e = inl (omega (arith, ap number_of (sym a ∙ e)))
   number_most w (invalid x v a) e = inl (omega (arith, ap number_of (sym a ∙ e)))
   number_most w (short p d a) e = inl (omega (arith, ap number_of (sym a ∙ e)))
@@ -334,11 +334,11 @@ module _ (s : State) (ram rom : List ℕ) where
       go (whole i p d a) = (i, (p, d))
 
 -- ---- the statements
-unchanged : (s : State) (ram : List ℕ) (t : Try) (w : Why) → (leaves s ram t).answer ≡ Refused w → ((leaves s ram t).state ≡ s) × ((leaves s ram t).ram ≡ ram)
+unchanged : (s : State) (ram : List ℕ) (t : Try) (w : Why) → (leaves s ram t).answer ≡ Err w → ((leaves s ram t).state ≡ s) × ((leaves s ram t).ram ≡ ram)
 unchanged s ram (did u m) w e = absurd (omega (arith, ap number_of e, some w))
 unchanged s ram (no v) w e = (refl, refl)
 
-step_unchanged : (s : State) (ram rom : List ℕ) (w : Why) → (step_of s ram rom).answer ≡ Refused w → ((step_of s ram rom).state ≡ s) × ((step_of s ram rom).ram ≡ ram)
+step_unchanged : (s : State) (ram rom : List ℕ) (w : Why) → (step_of s ram rom).answer ≡ Err w → ((step_of s ram rom).state ≡ s) × ((step_of s ram rom).ram ≡ ram)
 unfolding step_of
 step_unchanged s ram rom w e = unchanged s ram (try_of s ram rom) w e
 
@@ -348,7 +348,7 @@ refused_changes_nothing s ram rom w e =
     (same.0, same.1, some w, number_most s ram rom w (course s ram rom) e)
 
 pub keeps_valid : KeepsValid
-keeps_valid s ram rom e = go (operated s ram rom Done (inl refl) e)
+keeps_valid s ram rom e = go (operated s ram rom (Ok tt) (inl refl) e)
   where
     go :
         (i : Instruction) × (Passed s ram rom × (decode_of (code_at ram rom s.counter) ≡ decoded.Whole i))
@@ -358,7 +358,7 @@ keeps_valid s ram rom e = go (operated s ram rom Done (inl refl) e)
         (valid_from (step_of s ram rom).state v.0, spares_length (stored_of i.op i.size i.operand (past_of i.length s)) ram (step_of s ram rom).ram v.1, λ ok. (left s ram rom Whole whole_kept (valid_says s p.1, ok) i (whole_recounted i.op) p d e).0.1)
 
 pub stores_only_there : StoresOnlyThere
-stores_only_there s ram rom i e d = go (operated s ram rom Done (inl refl) e)
+stores_only_there s ram rom i e d = go (operated s ram rom (Ok tt) (inl refl) e)
   where
     go :
         (j : Instruction) × (Passed s ram rom × (decode_of (code_at ram rom s.counter) ≡ decoded.Whole j))

@@ -8,8 +8,6 @@ use native.Mathlib.Nat.{add-zero}
 use native.Mathlib.Omega.{arith}
 use lib.ListN.{get_or, take, drop}
 use Rattle.answer.specs.Number.{first_refusal}
-use Rattle.answer.specs.declared.Answer.{Answer}
-use Rattle.answer.specs.declared.Answer.TheVariants.{Done, Refused}
 use Rattle.answer.specs.declared.Why.TheVariants.{Undefined}
 use Rattle.little.specs.declared.Size.{Size}
 use Rattle.little.specs.declared.Size.TheVariants.{Byte, Word, Long}
@@ -62,6 +60,8 @@ use Rattle.flags.specs.Sums.{difference_of}
 use Rattle.block.specs.Block.{more_in, counted, moved, accumulator, copied, compared, round_of, goes_on, ends_at}
 use Rattle.exec.specs.Exec.{past_of, effect_of}
 use Rattle.facts.specs.Touched.{Span, none, bytes, operand_span, on_stack, below_stack, stack_read, stack_stored, interrupt_read, interrupt_stored, use_span, use_read, use_stored, read_of, stored_of, load_to, read_answer, store_answer, operands_answer, answer_by, condition_in, stores_f, stores_sr, uses_marked, KeepsRest}
+use Rattle.std.proofs.Common.{Ok, Err}
+use Rattle.answer.specs.Number.{Answer}
 
 -- F alone is the flags with no mark
 unmarked : Flags → Flags
@@ -150,15 +150,15 @@ module _ (P : State → Type 0) (k : Kept P) where
 module _ (P : State → Type 0) (ram rom : List ℕ) where
   -- what is tried keeps the state's part, spares all but its target, and gives this answer
   unfoldable pub Gives : Answer → Span → Try → Type 0
-  Gives a g (did t m) = P t × (KeepsRest g ram m × (a ≡ Done))
-  Gives a g (no w) = a ≡ Refused w
+  Gives a g (did t m) = P t × (KeepsRest g ram m × (a ≡ (Ok tt)))
+  Gives a g (no w) = a ≡ Err w
 
   -- the answer by where what it reads and its target lie
   abbrev pub Fair : Span → Span → Try → Type 0
   Fair r g t = Gives (operands_answer ram rom r g) g t
 
   -- what is read is there
-  read_first : (r g : Span) (t : Try) → read_answer ram rom r ≡ Done → Fair none g t → Fair r g t
+  read_first : (r g : Span) (t : Try) → read_answer ram rom r ≡ (Ok tt) → Fair none g t → Fair r g t
   unfolding Gives operands_answer
   read_first r g (did t m) e (p, (q, a)) = (p, (q, ap (λ (x : Answer). first_refusal x (store_answer ram rom g)) e ∙ a))
   read_first r g (no w) e a = ap (λ (x : Answer). first_refusal x (store_answer ram rom g)) e ∙ a
@@ -175,8 +175,8 @@ module _ (P : State → Type 0) (ram rom : List ℕ) where
       spared i h = ⊎_elim (bytes_below ram rom a n v i) (bytes_above ram rom a n v i) h
 
       go : (r : Answer) → store_bytes ram rom a n ≡ r → Fair none (bytes a n) (stored_by r t (ram_bytes ram rom a n v))
-      go Done e = (ok, ((bytes_length ram rom a n v, spared), e))
-      go (Refused w) e = e
+      go (Ok _) e = (ok, ((bytes_length ram rom a n v, spared), e))
+      go (Err w) e = e
 
   fair_storing : (t : State) (a : ℕ) (z : Size) (v : ℕ) → P t → Fair none (bytes a (bytes_of z)) (storing t ram rom a z v)
   unfolding storing
@@ -192,7 +192,7 @@ module _ (P : State → Type 0) (ram rom : List ℕ) where
   unfolding Gives operands_answer
   fair_loaded_bytes a n g f h = go (bytes_at ram rom a n) refl
     where
-      there : (v : ℕ) → read_answer ram rom (bytes a n) ≡ Done → Fair (bytes a n) g (f v)
+      there : (v : ℕ) → read_answer ram rom (bytes a n) ≡ (Ok tt) → Fair (bytes a n) g (f v)
       there v e = read_first (bytes a n) g (f v) e (h v)
 
       go : (p : Place) → bytes_at ram rom a n ≡ p → Fair (bytes a n) g (with_loaded (load_from p ram rom n) f)

@@ -10,8 +10,6 @@ use lib.ListN.{length}
 use lib.Dec.{ltb}
 use borrow.Author.Tests.{ltb-true, ltb-false}
 use Rattle.answer.specs.Number.{why_number, number_of, first_refusal}
-use Rattle.answer.specs.declared.Answer.{Answer}
-use Rattle.answer.specs.declared.Answer.TheVariants.{Done, Refused}
 use Rattle.answer.specs.declared.Why.{Why}
 use Rattle.answer.specs.declared.Why.TheVariants as why
 use Rattle.little.specs.declared.Size.{Size}
@@ -49,6 +47,8 @@ use Rattle.facts.specs.Touched.{Span, none, bytes, operand_span, on_stack, below
 use Rattle.facts.specs.Statements.{Within, Passed}
 use Rattle.facts.specs.Where.{InRom, FirstApart, OneApart, Reads, Stores, FiveTells, SixTells}
 use Rattle.facts.proofs.Statements.{operated, refused_when}
+use Rattle.std.proofs.Common.{Ok, Err}
+use Rattle.answer.specs.Number.{Answer}
 
 -- ---- one operand whose first byte is below 2^24, within the limits
 module _ (ram rom : List ℕ) (a n x : ℕ) (w : Within ram rom) (below : a < 2 ^ 24) (some : 0 < n) where
@@ -222,10 +222,10 @@ stored_fits (Interrupts what) z o s = interrupt_stored_fits what s
 -- ---- what an answer says of the place
 -- a refusal of what is read, or of what is stored
 abbrev Either : Answer → Answer → Why → Type 0
-Either a b v = (a ≡ Refused v) ⊎ (b ≡ Refused v)
+Either a b v = (a ≡ Err v) ⊎ (b ≡ Err v)
 
 -- where neither is one
-neither : (v : Why) → 1 ≤ why_number v → Either Done Done v → ⊥
+neither : (v : Why) → 1 ≤ why_number v → Either (Ok tt) (Ok tt) v → ⊥
 neither v h e = ⊎_elim (λ u. omega (arith, ap number_of u)) (λ u. omega (arith, ap number_of u)) e
 
 either_missing : (p : Place) (a x : ℕ) → Either (load_to p) (store_to p a) (why.Missing x) → p ≡ Missing x
@@ -233,25 +233,25 @@ either_missing (Ram o) a x e = absurd (neither (why.Missing x) (omega arith) e)
 either_missing (Rom o) a x e = absurd (⊎_elim (λ u. omega (arith, ap number_of u)) (λ u. omega (arith, ap number_of u)) e)
 either_missing (Missing y) a x e = ⊎_elim (λ u. cc) (λ u. cc) e
 
-load_rom : (p : Place) (x : ℕ) → load_to p ≡ Refused (why.ToRom x) → ⊥
+load_rom : (p : Place) (x : ℕ) → load_to p ≡ Err (why.ToRom x) → ⊥
 load_rom (Ram o) x e = omega (arith, ap number_of e)
 load_rom (Rom o) x e = omega (arith, ap number_of e)
 load_rom (Missing y) x e = omega (arith, ap number_of e)
 
-store_rom : (p : Place) (a x : ℕ) → store_to p a ≡ Refused (why.ToRom x) → (o : ℕ) × (p ≡ Rom o) × (a ≡ x)
+store_rom : (p : Place) (a x : ℕ) → store_to p a ≡ Err (why.ToRom x) → (o : ℕ) × (p ≡ Rom o) × (a ≡ x)
 store_rom (Ram o) a x e = absurd (omega (arith, ap number_of e))
 store_rom (Rom o) a x e = (o, refl, cc)
 store_rom (Missing y) a x e = absurd (omega (arith, ap number_of e))
 
 -- 5 and 6 are the operands'
-unmarked : (b : Bool) (a : Answer) (v : Why) → why_number v ≤ 6 → answer_by b a ≡ Refused v → a ≡ Refused v
+unmarked : (b : Bool) (a : Answer) (v : Why) → why_number v ≤ 6 → answer_by b a ≡ Err v → a ≡ Err v
 unmarked true a v l e = absurd (omega (arith, ap number_of e))
 unmarked false a v l e = e
 
 -- the first refusal of two is one of them
-one_of : (a b : Answer) (v : Why) → first_refusal a b ≡ Refused v → Either a b v
-one_of Done b v e = inr e
-one_of (Refused u) b v e = inl e
+one_of : (a b : Answer) (v : Why) → first_refusal a b ≡ Err v → Either a b v
+one_of (Ok _) b v e = inr e
+one_of (Err u) b v e = inl e
 
 module _ (ram rom : List ℕ) (w : Within ram rom) (x : ℕ) where
   -- the span of which the byte is told
@@ -263,11 +263,11 @@ module _ (ram rom : List ℕ) (w : Within ram rom) (x : ℕ) where
   span_of (bytes a n) (fits_bytes b s) e =
       (a, n, refl, first_apart ram rom a n x w b s (either_missing (place_of (length ram) (length rom) a n) a x e))
 
-  read_not_rom : (r : Span) → read_answer ram rom r ≡ Refused (why.ToRom x) → ⊥
+  read_not_rom : (r : Span) → read_answer ram rom r ≡ Err (why.ToRom x) → ⊥
   read_not_rom none e = omega (arith, ap number_of e)
   read_not_rom (bytes a n) e = load_rom (place_of (length ram) (length rom) a n) x e
 
-  rom_of : (g : Span) → Fits g → store_answer ram rom g ≡ Refused (why.ToRom x) → (n : ℕ) × (g ≡ bytes x n) × InRom rom x
+  rom_of : (g : Span) → Fits g → store_answer ram rom g ≡ Err (why.ToRom x) → (n : ℕ) × (g ≡ bytes x n) × InRom rom x
   rom_of none f e = absurd (omega (arith, ap number_of e))
   rom_of (bytes a n) (fits_bytes b s) e = go (store_rom (place_of (length ram) (length rom) a n) a x e)
     where
@@ -289,11 +289,11 @@ module _ (s : State) (ram rom : List ℕ) (x : ℕ) where
 
   -- it is refused for one of the two
   refused_for :
-      (v : Why) → 5 ≤ why_number v → why_number v ≤ 6 → (step_of s ram rom).answer ≡ Refused v →
+      (v : Why) → 5 ≤ why_number v → why_number v ≤ 6 → (step_of s ram rom).answer ≡ Err v →
       (i : Instruction) × Within ram rom × (decode_of (code_at ram rom s.counter) ≡ Whole i)
       × Either (read_answer ram rom (reads i)) (store_answer ram rom (target i)) v
   unfolding operands_answer
-  refused_for v n l e = go (operated s ram rom (Refused v) (inr n) e)
+  refused_for v n l e = go (operated s ram rom (Err v) (inr n) e)
     where
       go :
           (i : Instruction) × (Passed s ram rom × (decode_of (code_at ram rom s.counter) ≡ Whole i))

@@ -1,8 +1,7 @@
 -- Lower halves (request K7): proved in proofs/Halves.antt.
-use Rattle.std.specs.Prelude.{ℕ, ◌≡◌, true, List}
+use Rattle.std.specs.Prelude.{ℕ, ◌≡◌, true, List, Ok}
 use Rattle.little.specs.{declared.Size.Size, Width.bits_of, Width.twice_of}
 use Rattle.flags.specs.Width.{low}
-use Rattle.memory.specs.declared.Loaded.TheVariants.{Value}
 use Rattle.state.specs.declared.State.{State}
 use Rattle.code.specs.{declared.Operand.Operand, Registers.is_low, Range.InRegisters}
 use Rattle.operand.specs.Operand.{value_at, wide_of}
@@ -11,4 +10,4 @@ use Rattle.operand.specs.Operand.{value_at, wide_of}
 abbrev pub LowerHalf : Type 0
 LowerHalf =
     (z : Size) (o : Operand) (s : State) (ram rom : List ℕ) → InRegisters z o → is_low z o ≡ true →
-    (x : ℕ) × (value_at s ram rom (twice_of z) (wide_of z o) ≡ Value x) × (value_at s ram rom z o ≡ Value (low (bits_of z) x))
+    (x : ℕ) × (value_at s ram rom (twice_of z) (wide_of z o) ≡ Ok x) × (value_at s ram rom z o ≡ Ok (low (bits_of z) x))

@@ -1,6 +1,5 @@
 -- What a step can do with a marked flag (requests K6 and K8). Each statement is proved in proofs/Marks.antt.
-use Rattle.std.specs.Prelude.{ℕ, ◌<◌, ◌≡◌, ◌⊎◌, List, true}
-use Rattle.answer.specs.declared.Answer.TheVariants.{Done}
+use Rattle.std.specs.Prelude.{ℕ, ◌<◌, ◌≡◌, ◌⊎◌, List, true, Ok}
 use Rattle.flags.specs.{declared.Flags.Flags, Flag.flags_of, Condition.holds_of, Known.Alike}
 use Rattle.memory.specs.Access.{code_at}
 use Rattle.state.specs.{declared.State.State, State.valid_of, State.marks_of, State.with_both_flags}
@@ -22,7 +21,7 @@ MarkedSayNothing =
 
 -- an instruction stands at the counter, and its step is done
 abbrev pub DoneAt : State → List ℕ → List ℕ → Instruction → Type 0
-DoneAt s ram rom i = ((step_of s ram rom).answer ≡ Done) × (decode_of (code_at ram rom s.counter) ≡ Whole i)
+DoneAt s ram rom i = ((step_of s ram rom).answer ≡ (Ok tt)) × (decode_of (code_at ram rom s.counter) ≡ Whole i)
 
 -- a jump that is done has read defined flags alone: its condition is the same whatever the bits of marked flags were
 abbrev pub JumpReadsDefined : Type 0

@@ -1,6 +1,6 @@
 -- What a user may hold each call to. Each statement is proved in proofs/Statements.antt or proofs/Shown.antt.
-use Rattle.std.specs.Prelude.{ℕ, ◌<◌, ◌≤◌, ◌^◌, ◌≡◌, List, [], ◌++◌, true, false, ◌⊎◌, length}
-use Rattle.answer.specs.{declared.Why.Why, declared.Answer.Answer, declared.Answer.TheVariants.Done, declared.Answer.TheVariants.Refused}
+use Rattle.std.specs.Prelude.{ℕ, ◌<◌, ◌≤◌, ◌^◌, ◌≡◌, List, [], ◌++◌, true, false, ◌⊎◌, length, Ok, Err}
+use Rattle.answer.specs.{declared.Why.Why}
 use Rattle.answer.specs.{Number.why_number}
 use Rattle.answer.specs.declared.Why.TheVariants.{TooLong, Invalid, NoCode, Unlisted, Undefined, Missing}
 use Rattle.little.specs.declared.Size.{Size}
@@ -15,6 +15,7 @@ use Rattle.facts.specs.Touched.{uses_marked, read_of, stored_of, operands_answer
 use Rattle.operand.specs.Try.{and_then}
 use Rattle.block.specs.Block.{round_of, ends_at}
 use Rattle.code.specs.declared.Decoded.TheVariants as decoded
+use Rattle.answer.specs.Number.{Answer}
 
 infix 5 ◌⇔◌
 -- each of two follows from the other
@@ -24,7 +25,7 @@ a ⇔ b = (a → b) × (b → a)
 -- a refused step returns the state that it was given, RAM is unchanged, and its number is one of 1 to 6, or 8
 abbrev pub RefusedChangesNothing : Type 0
 RefusedChangesNothing =
-    (s : State) (ram rom : List ℕ) (w : Why) → (step_of s ram rom).answer ≡ Refused w →
+    (s : State) (ram rom : List ℕ) (w : Why) → (step_of s ram rom).answer ≡ Err w →
     ((step_of s ram rom).state ≡ s) × ((step_of s ram rom).ram ≡ ram) × (1 ≤ why_number w) × ((why_number w ≤ 6) ⊎ (why_number w ≡ 8))
 
 -- both memories are within their limits
@@ -38,12 +39,12 @@ Passed s ram rom = Within ram rom × (valid_of s ≡ true)
 -- each number is given in its stated case and in no other; 8 by the marks of the flags that a whole instruction uses, 5 and 6, and their
 -- addresses, by where its operands lie
 pub record RefusedWhen (s : State) (ram rom : List ℕ) : Type 0 where
-  pub one : ((step_of s ram rom).answer ≡ Refused TooLong) ⇔ ((2 ^ 16 < length ram) ⊎ (2 ^ 16 < length rom))
-  pub two : ((step_of s ram rom).answer ≡ Refused Invalid) ⇔ (Within ram rom × (valid_of s ≡ false))
-  pub three : ((step_of s ram rom).answer ≡ Refused NoCode) ⇔ (Passed s ram rom × (decode_of (code_at ram rom s.counter) ≡ decoded.Short))
-  pub four : ((step_of s ram rom).answer ≡ Refused Unlisted) ⇔ (Passed s ram rom × (decode_of (code_at ram rom s.counter) ≡ decoded.Unlisted))
+  pub one : ((step_of s ram rom).answer ≡ Err TooLong) ⇔ ((2 ^ 16 < length ram) ⊎ (2 ^ 16 < length rom))
+  pub two : ((step_of s ram rom).answer ≡ Err Invalid) ⇔ (Within ram rom × (valid_of s ≡ false))
+  pub three : ((step_of s ram rom).answer ≡ Err NoCode) ⇔ (Passed s ram rom × (decode_of (code_at ram rom s.counter) ≡ decoded.Short))
+  pub four : ((step_of s ram rom).answer ≡ Err Unlisted) ⇔ (Passed s ram rom × (decode_of (code_at ram rom s.counter) ≡ decoded.Unlisted))
   pub eight :
-      ((step_of s ram rom).answer ≡ Refused Undefined)
+      ((step_of s ram rom).answer ≡ Err Undefined)
       ⇔ (Passed s ram rom × ((i : Instruction) × (decode_of (code_at ram rom s.counter) ≡ decoded.Whole i) × (uses_marked i.op s ≡ true)))
   pub operands :
       (i : Instruction) → Passed s ram rom → decode_of (code_at ram rom s.counter) ≡ decoded.Whole i →
@@ -54,13 +55,13 @@ pub record RefusedWhen (s : State) (ram rom : List ℕ) : Type 0 where
 -- an accepted step gives a valid state and keeps RAM's length; a state whose numbers fit stays so
 abbrev pub KeepsValid : Type 0
 KeepsValid =
-    (s : State) (ram rom : List ℕ) → (step_of s ram rom).answer ≡ Done →
+    (s : State) (ram rom : List ℕ) → (step_of s ram rom).answer ≡ (Ok tt) →
     (valid_of (step_of s ram rom).state ≡ true) × (length (step_of s ram rom).ram ≡ length ram) × (Sound s → Sound (step_of s ram rom).state)
 
 -- an accepted step changes no byte of RAM outside the part that its instruction stores to
 abbrev pub StoresOnlyThere : Type 0
 StoresOnlyThere =
-    (s : State) (ram rom : List ℕ) (i : Instruction) → (step_of s ram rom).answer ≡ Done →
+    (s : State) (ram rom : List ℕ) (i : Instruction) → (step_of s ram rom).answer ≡ (Ok tt) →
     decode_of (code_at ram rom s.counter) ≡ decoded.Whole i →
     KeepsRest (stored_of i.op i.size i.operand (past_of i.length s)) ram (step_of s ram rom).ram
 
@@ -75,21 +76,21 @@ pub record Settled (s : State) (ram rom : List ℕ) (at : ℕ) : Type 0 where
 -- what is shown stands at the address: the code there begins with it, and it is a part of the memory that holds it
 abbrev pub ShownStands : Type 0
 ShownStands =
-    (ram rom : List ℕ) (at : ℕ) (p q : ℕ × ℕ) → show_answer_of ram rom at ≡ Done →
+    (ram rom : List ℕ) (at : ℕ) (p q : ℕ × ℕ) → show_answer_of ram rom at ≡ (Ok tt) →
     ((rest : List ℕ) × (shown_of ram rom at ++ rest ≡ code_at ram rom at))
     × (shown_from ram rom at p q ≡ stands_at (place_of (length ram) (length rom) at 1) p q)
 
 -- a refusal shows an empty part of ROM
 abbrev pub RefusedShowsNone : Type 0
 RefusedShowsNone =
-    (ram rom : List ℕ) (at : ℕ) (p q : ℕ × ℕ) (w : Why) → show_answer_of ram rom at ≡ Refused w →
+    (ram rom : List ℕ) (at : ℕ) (p q : ℕ × ℕ) (w : Why) → show_answer_of ram rom at ≡ Err w →
     (shown_of ram rom at ≡ []) × (shown_from ram rom at p q ≡ q)
 
 -- within the limits, reset is refused with 5, the vector's address and the all-zero state where ROM is shorter than 256 bytes; else it is done
 abbrev pub ResetMissing : Type 0
 ResetMissing =
     (ram rom : List ℕ) → Within ram rom →
-    (length rom < 256 → reset_of ram rom ≡ refused_with zero_state (Missing 0xFFFF00)) × (256 ≤ length rom → (reset_of ram rom).answer ≡ Done)
+    (length rom < 256 → reset_of ram rom ≡ refused_with zero_state (Missing 0xFFFF00)) × (256 ≤ length rom → (reset_of ram rom).answer ≡ (Ok tt))
 
 -- the single form of a repeating one: LDI of LDIR, LDD of LDDR, CPI of CPIR, CPD of CPDR
 unfoldable pub single : Form → Form

@@ -1,6 +1,6 @@
 -- The flags that an instruction decides by or stores, the bytes that it reads and those that it stores to, and what it answers by them.
-use Rattle.std.specs.Prelude.{ℕ, ◌+◌, ◌<◌, ◌≤◌, ◌%◌, ◌^◌, ◌≡◌, List, Bool, true, false, cond, ◌&&◌, ◌⊎◌, length, get_or}
-use Rattle.answer.specs.{declared.Answer.Answer, declared.Answer.TheVariants.Done, declared.Answer.TheVariants.Refused, Number.first_refusal}
+use Rattle.std.specs.Prelude.{ℕ, ◌+◌, ◌<◌, ◌≤◌, ◌%◌, ◌^◌, ◌≡◌, List, Bool, true, false, cond, ◌&&◌, ◌⊎◌, length, get_or, Ok, Err}
+use Rattle.answer.specs.{Number.first_refusal}
 use Rattle.little.specs.{declared.Size.Size, declared.Size.TheVariants.Long, Width.bytes_of, Width.twice_of}
 use Rattle.memory.specs.{declared.Place.Place, Access.store_to, Place.place_of}
 use Rattle.memory.specs.declared.Place.TheVariants.{Ram, Rom, Missing}
@@ -17,6 +17,7 @@ use Rattle.code.specs.declared.Side.TheVariants.{First, Second, With}
 use Rattle.operand.specs.{Operand.pointer_of, Operand.address_of, Round.less, Flag.flags_in}
 use Rattle.compute.specs.Compute.{stores_of}
 use Rattle.answer.specs.declared.Why.TheVariants as why
+use Rattle.answer.specs.Number.{Answer}
 
 -- ---- flags
 -- the condition that an instruction decides by; 0, never, where it has none
@@ -170,18 +171,18 @@ stored_of (Interrupts what) z o s = interrupt_stored what s
 
 -- what is read has to be there
 abbrev pub load_to : Place → Answer
-load_to (Ram o) = Done
-load_to (Rom o) = Done
-load_to (Missing x) = Refused (why.Missing x)
+load_to (Ram o) = Ok tt
+load_to (Rom o) = Ok tt
+load_to (Missing x) = Err (why.Missing x)
 
 -- 5, and the missing byte's address, where the bytes to be read are not whole in one memory
 abbrev pub read_answer : List ℕ → List ℕ → Span → Answer
-read_answer ram rom none = Done
+read_answer ram rom none = Ok tt
 read_answer ram rom (bytes a n) = load_to (place_of (length ram) (length rom) a n)
 
 -- what is stored has to be there, and in RAM
 abbrev pub store_answer : List ℕ → List ℕ → Span → Answer
-store_answer ram rom none = Done
+store_answer ram rom none = Ok tt
 store_answer ram rom (bytes a n) = store_to (place_of (length ram) (length rom) a n) a
 
 -- 5 for the read comes first, then 5 for the store, then 6
@@ -190,7 +191,7 @@ operands_answer ram rom read target = first_refusal (read_answer ram rom read) (
 
 -- 8 for a marked flag comes before these
 abbrev pub answer_by : Bool → Answer → Answer
-answer_by marked operands = cond marked (Refused why.Undefined) operands
+answer_by marked operands = cond marked (Err why.Undefined) operands
 
 -- two memories of one length that differ at most in a span
 abbrev pub KeepsRest : Span → List ℕ → List ℕ → Type 0

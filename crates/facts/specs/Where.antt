@@ -1,6 +1,6 @@
 -- Which byte is told with 5, and which with 6. Each statement is proved in proofs/Where.antt.
-use Rattle.std.specs.Prelude.{ℕ, ◌+◌, ◌<◌, ◌≤◌, ◌%◌, ◌^◌, ◌≡◌, ◌⊎◌, List, length}
-use Rattle.answer.specs.declared.{Answer.TheVariants.Refused, Why.TheVariants.Missing, Why.TheVariants.ToRom}
+use Rattle.std.specs.Prelude.{ℕ, ◌+◌, ◌<◌, ◌≤◌, ◌%◌, ◌^◌, ◌≡◌, ◌⊎◌, List, length, Err}
+use Rattle.answer.specs.declared.{Why.TheVariants.Missing, Why.TheVariants.ToRom}
 use Rattle.memory.specs.Access.{code_at}
 use Rattle.state.specs.declared.State.{State}
 use Rattle.code.specs.{declared.Instruction.Instruction, declared.Decoded.TheVariants.Whole, Listed.decode_of}
@@ -46,10 +46,10 @@ Stores s ram rom a n =
 -- a step refused with 5 tells such a byte of what it reads, or of what it would store to; which of the two, RefusedWhen says (`operands`)
 abbrev pub FiveTells : Type 0
 FiveTells =
-    (s : State) (ram rom : List ℕ) (x : ℕ) → (step_of s ram rom).answer ≡ Refused (Missing x) →
+    (s : State) (ram rom : List ℕ) (x : ℕ) → (step_of s ram rom).answer ≡ Err (Missing x) →
     (a : ℕ) × (n : ℕ) × (Reads s ram rom a n ⊎ Stores s ram rom a n) × FirstApart ram rom a n x
 
 -- a step refused with 6 tells the first byte of what it would store to, and ROM holds it
 abbrev pub SixTells : Type 0
 SixTells =
-    (s : State) (ram rom : List ℕ) (x : ℕ) → (step_of s ram rom).answer ≡ Refused (ToRom x) → (n : ℕ) × Stores s ram rom x n × InRom rom x
+    (s : State) (ram rom : List ℕ) (x : ℕ) → (step_of s ram rom).answer ≡ Err (ToRom x) → (n : ℕ) × Stores s ram rom x n × InRom rom x

@@ -8,7 +8,7 @@ ghost use Rattle.code.specs.Rows.{lookup, by_rows};
 ghost use Rattle.code.specs.Listed.{with_constant, up_to_seven_rows, alone_rows};
 ghost use Rattle.code.specs.inner.Parts.{alone_as};
 
-use code::{Alone, Control, Found, Interrupt, Op, Operand, Stack};
+use code::{Alone, Control, Interrupt, Op, Operand, Stack};
 use little::Size;
 
 // An operation with a number of n bytes.
@@ -17,8 +17,8 @@ fn control(code: &[u8], what: Control, n: usize) -> Alone
     ensures { alone_as result ≡ judge (with_constant (Op.Controls what) Size.Byte n) code.now 1 }
 {
     match number::number(code, 1, n) {
-        Found::Value(v) => Alone::Controls(what, v, 1 + n),
-        Found::Missing => Alone::Short,
+        Some(v) => Alone::Controls(what, v, 1 + n),
+        None => Alone::Short,
     }
 }
 
@@ -28,8 +28,8 @@ fn call(code: &[u8], what: Stack, n: usize) -> Alone
     ensures { alone_as result ≡ judge (with_constant (Op.Stacks what) Size.Byte n) code.now 1 }
 {
     match number::number(code, 1, n) {
-        Found::Value(v) => Alone::Stacks(what, Size::Byte, Operand::Constant(v), 1 + n),
-        Found::Missing => Alone::Short,
+        Some(v) => Alone::Stacks(what, Size::Byte, Operand::Constant(v), 1 + n),
+        None => Alone::Short,
     }
 }
 
@@ -37,10 +37,10 @@ fn call(code: &[u8], what: Stack, n: usize) -> Alone
 fn set(code: &[u8], r: u8, size: Size) -> Alone
     ensures { alone_as result ≡ judge (with_constant (Op.Sets r) size (bytes_of size)) code.now 1 }
 {
-    let n = little::bytes(size);
+    let n = size.bytes();
     match number::number(code, 1, n) {
-        Found::Value(v) => Alone::Sets(r, size, v, 1 + n),
-        Found::Missing => Alone::Short,
+        Some(v) => Alone::Sets(r, size, v, 1 + n),
+        None => Alone::Short,
     }
 }
 

@@ -13,6 +13,7 @@ fn less_than(f: Flags) -> bool
 }
 
 // Conditions 0 to 7.
+#[tactic(auto, using(crate::proofs::Conditions::none), unfolding(crate::specs::Condition::basic))]
 fn basic(f: Flags, n: u8) -> bool
     ensures { result ≡ basic f n }
 {
@@ -40,15 +41,11 @@ pub fn holds(f: Flags, cc: u8) -> bool
 }
 
 // Whether a condition reads V: LT, LE, V and their opposites do.
+#[tactic(auto, using(crate::proofs::Conditions::no_v), unfolding(crate::specs::Condition::reads_v))]
 fn reads_v(cc: u8) -> bool
     ensures { result ≡ reads_v cc }
 {
-    match cc % 8 {
-        1 => true,
-        2 => true,
-        4 => true,
-        _ => false,
-    }
+    matches!(cc % 8, 1 | 2 | 4)
 }
 
 // Whether it reads V where V is marked, bit 9 of the packed flags. The mark is looked at first, since it is seldom there.

@@ -68,13 +68,11 @@ fn carried(f: Flags, mark: u8, c: bool) -> Flags
     ensures { result ≡ carried f mark c }
 {
     Flags {
-        s: f.s,
-        z: f.z,
         h: false,
-        v: f.v,
         n: false,
         c,
         marks: f.marks / 2 * 2 + mark,
+        ..f
     }
 }
 
@@ -107,13 +105,11 @@ pub fn copy_flags(old: Flags, more: bool) -> Flags
     ensures { result ≡ copied_of old more }
 {
     Flags {
-        s: old.s,
-        z: old.z,
         h: false,
         v: more,
         n: false,
-        c: old.c,
         marks: 0,
+        ..old
     }
 }
 
@@ -122,13 +118,9 @@ pub fn divide_flags(old: Flags, over: bool) -> Flags
     ensures { result ≡ dividing old over }
 {
     Flags {
-        s: old.s,
-        z: old.z,
-        h: old.h,
         v: over,
-        n: old.n,
-        c: old.c,
         marks: old.marks % 2,
+        ..old
     }
 }
 
@@ -144,12 +136,10 @@ pub fn compare_flags(old: Flags, compared: Flags, more: bool) -> Flags
     ensures { result ≡ compared_of old compared more }
 {
     Flags {
-        s: compared.s,
-        z: compared.z,
-        h: compared.h,
         v: more,
         n: true,
         c: old.c,
         marks: compared.marks % 2,
+        ..compared
     }
 }

@@ -8,7 +8,7 @@ ghost use Rattle.code.specs.Memory.{memory_rows, store_rows, blocks, form};
 ghost use Rattle.code.specs.Listed.{memory_first_rows};
 ghost use Rattle.code.specs.inner.Parts.{rows_begun, memory_as, begun_as};
 
-use code::{Base, Begun, Form, Found, MemoryForm, OfMemory, Op, Operand};
+use code::{Base, Begun, Form, MemoryForm, OfMemory, Op, Operand};
 use little::Size;
 use number::{arith_of, size_of};
 
@@ -69,8 +69,8 @@ fn with_number(code: &[u8], base: Base, n: usize) -> Begun
         ≡ judge (Said.number n (λ v. by_rows (rows_begun b (form base v)))) code.now 1 }
 {
     match number::number(code, 1, n) {
-        Found::Value(v) => Begun::Form(base, v, 1 + n),
-        Found::Missing => Begun::Short,
+        Some(v) => Begun::Form(base, v, 1 + n),
+        None => Begun::Short,
     }
 }
 

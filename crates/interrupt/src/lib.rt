@@ -11,12 +11,12 @@ ghost use Rattle.interrupt.specs.Interrupt.{with_sr, push_sr_of, returned, inter
 use answer::{Answer, Why};
 use code::Interrupt;
 use little::{ADDRESSES, Size};
-use memory::{Loaded, LoadedSix};
 use operand::pointer;
 use state::status::{bank_in, flags_in, level_in, sr_of};
 use state::{Bank, Level, current, mask};
 
 // A push of SR: where a flag of F is marked it is refused, before the store is looked at.
+#[tactic(auto, unfolding(crate::specs::Interrupt::push_sr_of))]
 fn push_sr(
     bank: Bank,
     level: Level,
@@ -30,12 +30,13 @@ fn push_sr(
         result (ruled_with s regs.new bank.0 level.0 flags) ram.new }
 {
     if flags::any_marked(flags::unpack(flags)) {
-        return Answer::Refused(Why::Undefined);
+        return Err(Why::Undefined);
     }
     stack::push(bank, regs, ram, rom, Size::Word, sr_of(flags, bank, level))
 }
 
 // The bank, the level and F from a popped SR. Popped flags count as known: none is marked.
+#[tactic(auto, unfolding(crate::specs::Interrupt::with_sr, state::specs::State::with_bank, state::specs::State::with_level, state::specs::State::with_flags, state::specs::State::with_both_flags))]
 fn restore(sr: u32, bank: &mut u8, level: &mut u8, flags: &mut u16)
     ensures { (s : State) → ruled s bank.new level.new flags.new
         ≡ with_sr (ruled s bank.old level.old flags.old) sr }
@@ -47,6 +48,7 @@ fn restore(sr: u32, bank: &mut u8, level: &mut u8, flags: &mut u16)
     *flags = flags::byte(flags::unpack(flags_in(sr) as u16)) as u16;
 }
 
+#[tactic(auto, unfolding(stack::specs::Stack::pop_of, memory::specs::Access::load_of))]
 fn pop_sr(
     bank: &mut u8,
     level: &mut u8,
@@ -60,14 +62,9 @@ fn pop_sr(
         result (ruled_with s regs.new bank.new level.new flags.new) ram.now }
 {
     let b = current(&*bank);
-    match memory::load(ram, rom, pointer(b, &*regs, 7), Size::Word) {
-        Loaded::Value(v) => {
-            stack::raise(b, regs, 2);
-            restore(v, bank, level, flags);
-            Answer::Done
-        }
-        Loaded::Missing(a) => Answer::Refused(Why::Missing(a)),
-    }
+    let v = stack::popped(b, regs, ram, rom, Size::Word)?;
+    restore(v, bank, level, flags);
+    Ok(())
 }
 
 // SR and the counter above it are popped as one operand.
@@ -88,18 +85,15 @@ fn reti(
         ram.now }
 {
     let b = current(&*bank);
-    match memory::load_six(ram, rom, pointer(b, &*regs, 7)) {
-        LoadedSix::Values(sr, to) => {
-            stack::raise(b, regs, 6);
-            restore(sr, bank, level, flags);
-            *nesting = std::num::wrapping_sub_u16(*nesting, 1);
-            *counter = to % ADDRESSES;
-            Answer::Done
-        }
-        LoadedSix::Missing(a) => Answer::Refused(Why::Missing(a)),
-    }
+    let (sr, to) = memory::load_six(ram, rom, pointer(b, &*regs, 7))?;
+    stack::raise(b, regs, 6);
+    restore(sr, bank, level, flags);
+    *nesting = nesting.wrapping_sub(1);
+    *counter = to % ADDRESSES;
+    Ok(())
 }
 
+#[tactic(auto, unfolding(crate::specs::Interrupt::interrupt_of))]
 pub fn interrupt(
     what: Interrupt,
     bank: &mut u8,

@@ -1,13 +1,14 @@
 -- The line that the program prints.
-use Rattle.std.specs.Prelude.{ℕ, ◌≤◌, ◌≡◌, List, [], ◌∷◌, ◌++◌, cond, length, replicate, ltb}
-use Rattle.answer.specs.{declared.Answer.Answer, declared.Answer.TheVariants.Done, declared.Answer.TheVariants.Refused, declared.Why.Why}
+use Rattle.std.specs.Prelude.{ℕ, ◌≡◌, List, [], ◌∷◌, ◌++◌, cond, length, replicate, ltb, Ok, Err}
+use Rattle.answer.specs.{declared.Why.Why}
 use Rattle.answer.specs.{declared.Why.TheVariants.TooLong, Number.why_number, Number.number_of}
 use Rattle.little.specs.declared.Size.TheVariants.{Long}
 use Rattle.state.specs.{declared.State.State, Register.get_register, Sr.sr_of}
 use Rattle.turn.specs.Many.{Result}
 use Rattle.step.specs.{Reset.reset_of}
 use Rattle.run.specs.Run.{run_of}
-use Rattle.text.specs.{declared.Line.Line, Text.decimal_of, Text.hex_of, Text.line_of, Grown.written, Grown.empty_line, Grown.grown}
+use Rattle.text.specs.{declared.Line.Line, Text.decimal_of, Text.hex_of, Text.line_of}
+use Rattle.answer.specs.Number.{Answer}
 
 -- ---- the fields
 -- the counter has six hex digits, SR four and each register eight
@@ -38,8 +39,8 @@ zeros = replicate 4096 0
 
 -- the line of a refused reset, or of what the run leaves
 abbrev pub line_after : Answer → Result → List ℕ
-line_after (Refused w) r = refused_line w
-line_after Done r = ran_line r.state r.done r.answer
+line_after (Err w) r = refused_line w
+line_after (Ok _) r = ran_line r.state r.done r.answer
 
 -- the line of an image: 1 where it is too long, else what reset and the run give
 unfoldable pub line_for : List ℕ → List ℕ
@@ -47,7 +48,6 @@ line_for image =
     let s = reset_of zeros image in
     cond (ltb 32768 (length image)) (refused_line TooLong) (line_after s.answer (run_of 1000 s.state zeros image))
 
--- what the call promises of its result r: this line, with zeros behind its end; and that it ends within its bytes, so that they can be lent
+-- what the call promises of its result r: this line, and nothing else
 abbrev pub LineMeets : List ℕ → Line → Type 0
-LineMeets image r =
-    (r ≡ grown empty_line (line_for image)) × (written r ≡ line_for image) × (r.length ≤ length r.text) × (r.length ≡ length (written r))
+LineMeets image r = r ≡ line_for image

@@ -5,7 +5,7 @@ use Rattle.line.specs.Lines.{line_for, LineMeets}
 use Prim.Native.String as string
 use Rattle.text.specs.declared.Line.{Line}
 
--- any two lines that meet what the call promises are the same, with the bytes behind their end
+-- any two lines that meet what the call promises are the same
 abbrev pub Settled : Type 0
 Settled = (image : List ℕ) (r r' : Line) → LineMeets image r → LineMeets image r' → r ≡ r'
 

@@ -2,73 +2,92 @@
 #![tactic(auto)]
 
 ghost use Rattle.std.specs.Prelude.{◌≡◌, [], ◌∷◌, ◌++◌};
-ghost use Rattle.text.specs.Text.{decimal_of, following};
-ghost use Rattle.text.specs.Grown.{empty_line, grown};
-ghost use Rattle.line.specs.Lines.{where_of, register_of, registers_of, refused_line, ran_line, LineMeets};
+ghost use Rattle.text.specs.Text.{decimal_of, hex_of, following};
+ghost use Rattle.text.specs.Grown.{grown};
+ghost use Rattle.line.specs.Lines.{where_of, registers_of, refused_line, ran_line, LineMeets};
 
-use answer::{Answer, Why};
+use answer::Why;
 use little::Size;
 use state::State;
 use state::status::sr;
-use text::{Line, add, decimal, hex};
+use text::Line;
 use turn::Ran;
 
+// What the line ends with.
+const END: u8 = b'\n';
+
 // Steps and number.
-fn counted(done: u32, number: u8) -> Line
-    ensures { result ≡ grown empty_line (decimal_of done ++ following (decimal_of number ∷ [])) }
+#[tactic(auto, using(crate::proofs::Laws::counts_made))]
+fn counted(l: &mut Line, done: u32, number: u8)
+    ensures { l.new ≡ grown l.old (decimal_of done ++ following (decimal_of number ∷ [])) }
 {
-    decimal(add(decimal(text::empty(), done), b' '), number as u32)
+    l.decimal(done);
+    l.push(b' ');
+    l.decimal(u32::from(number));
+}
+
+// A field of hex digits, behind another one.
+#[tactic(auto, using(text::proofs::Laws::field_made))]
+fn field(l: &mut Line, n: u32, places: u8)
+    ensures { l.new ≡ grown l.old (following (hex_of places n ∷ [])) }
+{
+    l.push(b' ');
+    l.hex(n, places);
 }
 
 // Counter and SR.
-fn placed(l: Line, s: State) -> Line
-    ensures { result ≡ grown l (following (where_of s)) }
+#[tactic(auto, using(text::proofs::Laws::two_fields))]
+fn placed(l: &mut Line, s: State)
+    ensures { l.new ≡ grown l.old (following (where_of s)) }
 {
-    hex(add(hex(add(l, b' '), s.counter, 6), b' '), sr(s), 4)
+    field(l, s.counter, 6);
+    field(l, sr(s), 4);
 }
 
-fn register(l: Line, s: State, code: u8) -> Line
-    ensures { result ≡ grown l (following (register_of s code ∷ [])) }
+#[tactic(auto, using(text::proofs::Laws::grown_none, crate::proofs::Laws::register_more))]
+fn registers(l: &mut Line, s: State)
+    ensures { l.new ≡ grown l.old (following (registers_of s)) }
 {
-    hex(add(l, b' '), s.register(Size::Long, code), 8)
-}
-
-fn registers(l: Line, s: State) -> Line
-    ensures { result ≡ grown l (following (registers_of s)) }
-{
-    let low = register(register(register(register(l, s, 0), s, 1), s, 2), s, 3);
-    register(register(register(register(low, s, 4), s, 5), s, 6), s, 7)
+    for code in 0..8 {
+        field(l, s.register(Size::Long, code), 8);
+    }
 }
 
 // What is printed where there is no run.
+#[tactic(auto, using(crate::proofs::Laws::refused_made))]
 fn refused(w: Why) -> Line
-    ensures { result ≡ grown empty_line (refused_line w) }
+    ensures { result ≡ refused_line w }
 {
-    add(counted(0, answer::why_number(w)), b'\n')
+    let mut l = Line::new();
+    counted(&mut l, 0, w.number());
+    l.push(END);
+    l
 }
 
+#[tactic(auto, using(crate::proofs::Laws::ran_made))]
 fn ran(r: Ran) -> Line
-    ensures { result ≡ grown empty_line (ran_line r.state r.done r.answer) }
+    ensures { result ≡ ran_line r.state r.done r.answer }
 {
-    let a = r.answer;
-    let s = r.state;
-    let l = placed(counted(r.done, answer::number(a)), s);
-    add(registers(l, s), b'\n')
+    let mut l = Line::new();
+    counted(&mut l, r.done, answer::number(r.answer));
+    placed(&mut l, r.state);
+    registers(&mut l, r.state);
+    l.push(END);
+    l
 }
 
 // Resets on an image, runs 1,000 steps with 4,096 zero bytes of RAM, and gives the line.
+#[tactic(auto, using(crate::proofs::Laws::for_long, crate::proofs::Laws::for_stops))]
 pub fn for_image(image: &[u8]) -> Line
     ensures { LineMeets image.now result }
 {
     if 32768 < image.len() {
         return refused(Why::TooLong);
     }
-    let mut space = [0u8; 4096];
-    let ram: &mut [u8] = &mut space;
-    let first = step::reset(&*ram, image);
-    let a = first.answer;
-    if let Answer::Refused(w) = a {
-        return refused(w);
+    let mut ram = [0u8; 4096];
+    let first = step::reset(&ram, image);
+    if let Err(why) = first.answer {
+        return refused(why);
     }
-    ran(run::run(first.state, ram, image, 1000))
+    ran(run::run(first.state, &mut ram, image, 1000))
 }

@@ -14,32 +14,34 @@ pub const ADDRESSES: u32 = TOP_BYTE;
 // The same as a length: of a memory that had them all.
 pub const SPACE: usize = ADDRESSES as usize;
 
-#[derive(Clone, Copy)]
+#[derive(Clone, Copy, PartialEq, Eq)]
 pub enum Size {
     Byte,
     Word,
     Long,
 }
 
-// How many bytes an operand of a size has.
-pub fn bytes(size: Size) -> usize
-    ensures { result ≡ bytes_of size }
-{
-    match size {
-        Size::Byte => 1,
-        Size::Word => 2,
-        Size::Long => 4,
+impl Size {
+    // How many bytes an operand of a size has.
+    pub fn bytes(self) -> usize
+        ensures { result ≡ bytes_of self }
+    {
+        match self {
+            Size::Byte => 1,
+            Size::Word => 2,
+            Size::Long => 4,
+        }
     }
-}
 
-// The size of twice as many bytes; there is none above a long.
-pub fn twice(size: Size) -> Size
-    ensures { result ≡ twice_of size }
-{
-    match size {
-        Size::Byte => Size::Word,
-        Size::Word => Size::Long,
-        Size::Long => Size::Long,
+    // The size of twice as many bytes; there is none above a long.
+    pub fn twice(self) -> Size
+        ensures { result ≡ twice_of self }
+    {
+        match self {
+            Size::Byte => Size::Word,
+            Size::Word => Size::Long,
+            Size::Long => Size::Long,
+        }
     }
 }
 
@@ -66,10 +68,8 @@ pub fn write(part: &mut [u8], v: u32)
     ensures { part.new ≡ bytes_from (length part.old) v }
 {
     let mut rest = v;
-    let mut i = 0;
-    while i < part.len() {
-        part[i] = (rest % 256) as u8;
-        rest = rest / 256;
-        i += 1;
+    for byte in part.iter_mut() {
+        *byte = (rest % 256) as u8;
+        rest /= 256;
     }
 }

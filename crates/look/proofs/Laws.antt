@@ -6,7 +6,6 @@ use mathlib.Core.Bool.{Bool, true, false, cond}
 use native.Mathlib.Omega.{arith}
 use lib.ListN.{length, take, length-take}
 use lib.Dec.{ltb}
-use Rattle.answer.specs.declared.Answer.{Answer}
 use Rattle.answer.specs.Number.{number_of}
 use Rattle.memory.specs.Access.{code_at}
 use Rattle.code.specs.Listed.{decode_of}
@@ -16,6 +15,7 @@ use Rattle.code.proofs.Walked.{length_fits}
 use Rattle.step.specs.Step.{too_long}
 use Rattle.step.specs.Show.{length_in, shown_of, show_answer_of}
 use Rattle.look.specs.Statements.{CShowMeets, Settled}
+use Rattle.answer.specs.Number.{Answer}
 
 length_few : (l : List ℕ) → length_in (decode_of l) ≤ 7
 length_few l = go (decode_of l) refl

@@ -8,7 +8,6 @@ use lib.Dec.{leb}
 use lib.ListN.{length, get_or, take, drop, length-append, length-drop, length-take}
 use lib.Seq.{take_all, drop-drop, drop-append_seam}
 use borrow.Author.Tests.{le-leb, lt-leb, leb-true, leb-false}
-use Rattle.answer.specs.declared.Answer.TheVariants as answer
 use Rattle.answer.specs.declared.Why.{Why}
 use Rattle.little.specs.declared.Size.{Size}
 use Rattle.little.specs.declared.Size.TheVariants.{Byte, Word, Long}
@@ -20,8 +19,8 @@ use Rattle.memory.specs.inner.Ends.{past_end}
 use Rattle.memory.specs.Access.{bytes_at, load_of, load_bytes, load_from, store_of, store_bytes, store_to, ram_after, ram_bytes, ram_with, code_at, code_from}
 use Rattle.memory.specs.declared.Place.{Place}
 use Rattle.memory.specs.declared.Place.TheVariants.{Ram, Rom, Missing}
-use Rattle.memory.specs.declared.Loaded.TheVariants.{Value}
 use Rattle.memory.proofs.Ends.{rom_below, end_none, missing_past}
+use Rattle.std.proofs.Common.{Ok, Err}
 
 -- ---- the place, from the tests
 module _ (rl ml a n : ℕ) where
@@ -177,17 +176,17 @@ module _ (ram rom : List ℕ) (a n v : ℕ) where
       go (nowhere x y) = refl
 
   -- a refused store leaves RAM as it was
-  pub refused_bytes : (w : Why) → store_bytes ram rom a n ≡ answer.Refused w → ram_bytes ram rom a n v ≡ ram
+  pub refused_bytes : (w : Why) → store_bytes ram rom a n ≡ Err w → ram_bytes ram rom a n v ≡ ram
   refused_bytes w e = go (bytes_at ram rom a n) e
     where
-      go : (p : Place) → store_to p a ≡ answer.Refused w → ram_with p ram n v ≡ ram
+      go : (p : Place) → store_to p a ≡ Err w → ram_with p ram n v ≡ ram
       go (Ram o) f = let k : ◌≡◌ {A = ℕ} 0 1 = cc in absurd (omega arith)
       go (Rom o) f = refl
       go (Missing x) f = refl
 
 -- what a store left in RAM is loaded from there
 pub stored_loads :
-    (ram rom : List ℕ) (a n v : ℕ) → a + n ≤ length ram → v < 256 ^ n → load_bytes (ram_bytes ram rom a n v) rom a n ≡ Value v
+    (ram rom : List ℕ) (a n v : ℕ) → a + n ≤ length ram → v < 256 ^ n → load_bytes (ram_bytes ram rom a n v) rom a n ≡ Ok v
 stored_loads ram rom a n v h l =
     let m = ram_bytes ram rom a n v in
     let b = length_bytes n v in
@@ -196,7 +195,7 @@ stored_loads ram rom a n v h l =
     let room : a + length (bytes_from n v) ≤ length ram = rw b h in
     let stands : take n (drop a m) ≡ bytes_from n v =
     ap (λ (y : List ℕ). take n (drop a y)) is ∙ ap (λ (c : ℕ). take c (drop a (replaced a (bytes_from n v) ram))) (sym b) ∙ replaced_part a (bytes_from n v) ram room in
-    ap (λ (p : Place). load_from p m rom n) (place_ram (length m) (length rom) a n fits) ∙ ap Value (ap value_of stands ∙ value_bytes n v l)
+    ap (λ (p : Place). load_from p m rom n) (place_ram (length m) (length rom) a n fits) ∙ ap Ok (ap value_of stands ∙ value_bytes n v l)
 
 -- the same of a size
 module _ (ram rom : List ℕ) (a : ℕ) (z : Size) (v : ℕ) where
@@ -212,6 +211,6 @@ module _ (ram rom : List ℕ) (a : ℕ) (z : Size) (v : ℕ) where
   unfolding ram_after
   after_above = bytes_above ram rom a (bytes_of z) v
 
-  pub refused_keeps : (w : Why) → store_of ram rom a z ≡ answer.Refused w → ram_after ram rom a z v ≡ ram
+  pub refused_keeps : (w : Why) → store_of ram rom a z ≡ Err w → ram_after ram rom a z v ≡ ram
   unfolding ram_after store_of
   refused_keeps = refused_bytes ram rom a (bytes_of z) v

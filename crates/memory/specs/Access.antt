@@ -1,12 +1,11 @@
 -- Loads, stores and fetches.
-use Rattle.std.specs.Prelude.{ℕ, ◌+◌, List, [], length, take, drop}
-use Rattle.answer.specs.declared.Answer.{Answer}
+use Rattle.std.specs.Prelude.{ℕ, ◌+◌, List, [], length, take, drop, Result, Ok, Err}
 use Rattle.little.specs.{declared.Size.Size, Width.bytes_of, Bytes.value_of, Bytes.bytes_from, Bytes.replaced}
-use Rattle.memory.specs.{declared.Place.Place, declared.Loaded.Loaded, Place.place_of}
+use Rattle.memory.specs.{declared.Place.Place, Place.place_of}
 use Rattle.memory.specs.declared.Place.TheVariants.{Ram, Rom, Missing}
-use Rattle.answer.specs.declared.Answer.TheVariants as answer
 use Rattle.answer.specs.declared.Why.TheVariants as why
-use Rattle.memory.specs.declared.Loaded.TheVariants as loaded
+use Rattle.answer.specs.Number.{Answer}
+use Rattle.answer.specs.declared.MissingByte.{MissingByte}
 
 -- the place of an operand of n bytes, in two memories
 abbrev pub bytes_at : List ℕ → List ℕ → ℕ → ℕ → Place
@@ -16,11 +15,15 @@ bytes_at ram rom a n = place_of (length ram) (length rom) a n
 abbrev pub operand_at : List ℕ → List ℕ → ℕ → Size → Place
 operand_at ram rom a size = bytes_at ram rom a (bytes_of size)
 
+-- what a load gives: the value, or the address of its missing byte
+abbrev pub Loaded : Type 0
+Loaded = Result ℕ MissingByte
+
 -- the value of n bytes at a place, low byte first
 abbrev pub load_from : Place → List ℕ → List ℕ → ℕ → Loaded
-load_from (Ram o) ram rom n = loaded.Value (value_of (take n (drop o ram)))
-load_from (Rom o) ram rom n = loaded.Value (value_of (take n (drop o rom)))
-load_from (Missing x) ram rom n = loaded.Missing x
+load_from (Ram o) ram rom n = Ok (value_of (take n (drop o ram)))
+load_from (Rom o) ram rom n = Ok (value_of (take n (drop o rom)))
+load_from (Missing x) ram rom n = Err (record { 0 = x })
 
 -- a load from two memories: an operand of n bytes at address a, or the address of its missing byte
 abbrev pub load_bytes : List ℕ → List ℕ → ℕ → ℕ → Loaded
@@ -32,9 +35,9 @@ load_of ram rom a size = load_bytes ram rom a (bytes_of size)
 
 -- whether a store at a place is done; a is the address of its first byte
 abbrev pub store_to : Place → ℕ → Answer
-store_to (Ram o) a = answer.Done
-store_to (Rom o) a = answer.Refused (why.ToRom a)
-store_to (Missing x) a = answer.Refused (why.Missing x)
+store_to (Ram o) a = Ok tt
+store_to (Rom o) a = Err (why.ToRom a)
+store_to (Missing x) a = Err (why.Missing x)
 
 -- a store to two memories: done in RAM, 6 and the first byte's address in ROM, 5 and the missing byte's elsewhere
 abbrev pub store_bytes : List ℕ → List ℕ → ℕ → ℕ → Answer

@@ -1,15 +1,14 @@
 // The two memories: where an operand lies, loads and stores, and the part of a memory that holds code.
 #![tactic(auto)]
 
-ghost use Rattle.std.specs.Prelude.{◌≡◌, length, take, drop, ◌+◌, ◌%◌, ◌^◌, ◌≤◌};
+ghost use Rattle.std.specs.Prelude.{◌≡◌, length, take, drop, ◌+◌, ◌%◌, ◌^◌, ◌<◌, ◌≤◌};
 ghost use Rattle.little.specs.Bytes.{value_of};
 ghost use Rattle.memory.specs.Place.{place_of};
 ghost use Rattle.memory.specs.inner.Ends.{past_end};
 ghost use Rattle.memory.specs.inner.Six.{six_from, six_as, SixFits};
-ghost use Rattle.memory.specs.declared.Loaded.TheVariants as loaded;
 ghost use Rattle.memory.specs.Access.{load_bytes, load_of, store_bytes, store_of, ram_bytes, ram_after, code_at, stands_at};
 
-use answer::{Answer, Why};
+use answer::{Answer, MissingByte, Why};
 use little::{ADDRESSES, SPACE, Size};
 
 // Where an operand lies, as an offset into its memory; or the address of the byte that is missing.
@@ -58,33 +57,26 @@ pub fn find(ram_len: usize, rom_len: usize, address: u32, n: usize) -> Place
     Place::Missing(past_end(ram_len, rom_len, address))
 }
 
-// The value of an operand, or the address of its missing byte: a load is refused with 5 or not at all.
-#[derive(Clone, Copy)]
-pub enum Loaded {
-    Value(u32),
-    Missing(u32),
-}
-
-// The value of n bytes at an address.
-fn load_bytes(ram: &[u8], rom: &[u8], address: u32, n: usize) -> Loaded
+// The value of n bytes at an address, or the byte that is missing.
+fn load_bytes(ram: &[u8], rom: &[u8], address: u32, n: usize) -> Result<u32, MissingByte>
     requires { n ≤ 4 }
     ensures { result ≡ load_bytes ram.now rom.now address n }
 {
     match find(ram.len(), rom.len(), address, n) {
         Place::Ram(o) => {
             let e = o + n;
-            Loaded::Value(little::read(&ram[o..e]))
+            Ok(little::read(&ram[o..e]))
         }
         Place::Rom(o) => {
             let e = o + n;
-            Loaded::Value(little::read(&rom[o..e]))
+            Ok(little::read(&rom[o..e]))
         }
-        Place::Missing(a) => Loaded::Missing(a),
+        Place::Missing(a) => Err(MissingByte(a)),
     }
 }
 
 // The value at an address. The length is written out for each size, so that the compiler makes one load of the reader's bytes.
-pub fn load(ram: &[u8], rom: &[u8], address: u32, size: Size) -> Loaded
+pub fn load(ram: &[u8], rom: &[u8], address: u32, size: Size) -> Result<u32, MissingByte>
     ensures { result ≡ load_of ram.now rom.now address size }
 {
     match size {
@@ -95,7 +87,7 @@ pub fn load(ram: &[u8], rom: &[u8], address: u32, size: Size) -> Loaded
 }
 
 // The four bytes of a vector. With one caller more of `load` the compiler no longer lays it into a step (docs/DECISIONS.md, 84).
-pub fn load_vector(ram: &[u8], rom: &[u8], address: u32) -> Loaded
+pub fn load_vector(ram: &[u8], rom: &[u8], address: u32) -> Result<u32, MissingByte>
     ensures { result ≡ load_of ram.now rom.now address Size.Long }
 {
     load_bytes(ram, rom, address, 4)
@@ -110,10 +102,10 @@ fn store_bytes(ram: &mut [u8], rom: &[u8], address: u32, n: usize, v: u32) -> An
         Place::Ram(o) => {
             let e = o + n;
             little::write(&mut ram[o..e], v);
-            Answer::Done
+            Ok(())
         }
-        Place::Rom(_) => Answer::Refused(Why::ToRom(address)),
-        Place::Missing(a) => Answer::Refused(Why::Missing(a)),
+        Place::Rom(_) => Err(Why::ToRom(address)),
+        Place::Missing(a) => Err(Why::Missing(a)),
     }
 }
 
@@ -129,34 +121,28 @@ pub fn store(ram: &mut [u8], rom: &[u8], address: u32, size: Size, v: u32) -> An
     }
 }
 
-// An operand of six bytes: its low two and its high four, or the address of its missing byte.
-#[derive(Clone, Copy)]
-pub enum LoadedSix {
-    Values(u32, u32),
-    Missing(u32),
-}
-
-// The six bytes of a memory from an offset on.
-fn six_at(bytes: &[u8], at: usize) -> LoadedSix
+// The six bytes of a memory from an offset on: the low two, and the high four.
+fn six_at(bytes: &[u8], at: usize) -> (u32, u32)
     requires { at + 6 ≤ length bytes.now }
-    ensures result_value { six_as result ≡ loaded.Value (value_of (take 6 (drop at bytes.now))) }
-    ensures six_fits { SixFits result }
+    ensures both { six_from result.0 result.1 ≡ value_of (take 6 (drop at bytes.now)) }
+    ensures fits { result.0 < 2 ^ 16 }
 {
     let m = at + 2;
     let e = at + 6;
     let low = little::read(&bytes[at..m]);
     let high = little::read(&bytes[m..e]);
-    LoadedSix::Values(low, high)
+    (low, high)
 }
 
-pub fn load_six(ram: &[u8], rom: &[u8], address: u32) -> LoadedSix
+// An operand of six bytes: its low two and its high four, or the byte that is missing.
+pub fn load_six(ram: &[u8], rom: &[u8], address: u32) -> Result<(u32, u32), MissingByte>
     ensures result_value { six_as result ≡ load_bytes ram.now rom.now address 6 }
     ensures six_fits { SixFits result }
 {
     match find(ram.len(), rom.len(), address, 6) {
-        Place::Ram(o) => six_at(ram, o),
-        Place::Rom(o) => six_at(rom, o),
-        Place::Missing(a) => LoadedSix::Missing(a),
+        Place::Ram(o) => Ok(six_at(ram, o)),
+        Place::Rom(o) => Ok(six_at(rom, o)),
+        Place::Missing(x) => Err(MissingByte(x)),
     }
 }
 
@@ -171,10 +157,10 @@ pub fn store_six(ram: &mut [u8], rom: &[u8], at: u32, low: u32, high: u32) -> An
             let e = o + 6;
             little::write(&mut ram[o..m], low);
             little::write(&mut ram[m..e], high);
-            Answer::Done
+            Ok(())
         }
-        Place::Rom(_) => Answer::Refused(Why::ToRom(at)),
-        Place::Missing(x) => Answer::Refused(Why::Missing(x)),
+        Place::Rom(_) => Err(Why::ToRom(at)),
+        Place::Missing(x) => Err(Why::Missing(x)),
     }
 }
 

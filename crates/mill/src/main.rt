@@ -10,7 +10,5 @@ fn main() {
     let mut image = [0u8; 32769];
     let n = io::read_full(STDIN_FILENO, &mut image);
     let l = line::for_image(&image[..n]);
-    let text = l.text;
-    let end = l.length;
-    io::write_all(STDOUT_FILENO, &text[..end]);
+    io::write_all(STDOUT_FILENO, l.as_slice());
 }

@@ -5,8 +5,6 @@ use mathlib.Core.List.{List, []}
 use mathlib.Core.Bool.{true}
 use native.Mathlib.Omega.{arith}
 use lib.Dec.{T}
-use Rattle.answer.specs.declared.Answer.{Answer}
-use Rattle.answer.specs.declared.Answer.TheVariants.{Done, Refused}
 use Rattle.answer.specs.declared.Why.TheVariants.{Missing}
 use Rattle.answer.specs.Number.{number_of, at_of}
 use Rattle.little.specs.Bytes.{bytes_from}
@@ -32,6 +30,8 @@ use Rattle.module.specs.Calls.{CRunMeets}
 use Rattle.module.specs.Statements.{HasState}
 use Rattle.module.specs.Demand.{CallLeaves, CallMet, CallEndsAsTold, seek_record, SeekCalled, FullCalled}
 use Rattle.module.proofs.Records.{Opens, held, meets}
+use Rattle.std.proofs.Common.{Ok, Err}
+use Rattle.answer.specs.Number.{Answer}
 
 -- ---- each outcome of a run from the state, over the record that holds it
 module _ (f : Form) (b : List ℕ) (s : State) (ram rom : List ℕ) (o : Opens b s) where
@@ -61,7 +61,7 @@ call_ends_as_told f b s ram rom e h =
 -- ---- records that meet it
 holds : (s : State) (b : List ℕ) → record_of s ≡ b → T (fits (2 ^ 8) b) → Sound s → valid_of s ≡ true → HasState b s
 holds s b e t ok v =
-    (fits_says (2 ^ 8) (omega arith) b t, subst (λ (l : List ℕ). restored_of l ≡ record { answer = Done; state = s }) e (saved_reads_back s ok v).0)
+    (fits_says (2 ^ 8) (omega arith) b t, subst (λ (l : List ℕ). restored_of l ≡ record { answer = (Ok tt); state = s }) e (saved_reads_back s ok v).0)
 
 -- a start of run/Evidence, on the record of its state
 met_called : (x : Start) (b : List ℕ) → record_of x.state ≡ b → T (fits (2 ^ 8) b) → StartMet x →
@@ -102,11 +102,11 @@ pub seek_called : SeekCalled
 unfolding compare_runs refused fits begin bytes_from longs_bytes record_of old_record_of reset_state long_of with_long with_counter with_both_flags with_flags get_bits set_bits slot_in set_slot slot_of register_at set_register
 seek_called = (
   met_called found (seek_record 0x33 3 4 0 0x00) refl tt searches.0,
-  met_left found (seek_record 0x33 3 4 0 0x00) refl tt searches.0 3 3 _ _ _ Done runs_hold.1.1.0 refl,
+  met_left found (seek_record 0x33 3 4 0 0x00) refl tt searches.0 3 3 _ _ _ (Ok tt) runs_hold.1.1.0 refl,
   met_called none_found (seek_record 0x44 3 4 0 0x00) refl tt searches.1,
-  met_left none_found (seek_record 0x44 3 4 0 0x00) refl tt searches.1 3 3 _ _ _ Done runs_hold.1.1.1.1.0 refl,
+  met_left none_found (seek_record 0x44 3 4 0 0x00) refl tt searches.1 3 3 _ _ _ (Ok tt) runs_hold.1.1.1.1.0 refl,
   met_called refused_one (seek_record 0x44 9 5 0 0x00) refl tt searches.2,
-  met_left refused_one (seek_record 0x44 9 5 0 0x00) refl tt searches.2 9 2 _ _ _ (Refused (Missing 7)) runs_hold.2.1.0 refl,
+  met_left refused_one (seek_record 0x44 9 5 0 0x00) refl tt searches.2 9 2 _ _ _ (Err (Missing 7)) runs_hold.2.1.0 refl,
 )
 
 full_bytes : T (fits (2 ^ 8) (record_of full_copy))

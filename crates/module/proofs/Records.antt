@@ -8,8 +8,6 @@ use native.Mathlib.Omega.{arith}
 use lib.ListN.{length}
 use lib.Dec.{ltb}
 use borrow.Author.Tests.{le-ltb, ltb-true, ltb-false}
-use Rattle.answer.specs.declared.Answer.{Answer}
-use Rattle.answer.specs.declared.Answer.TheVariants.{Done, Refused}
 use Rattle.answer.specs.declared.Why.{Why}
 use Rattle.answer.specs.declared.Why.TheVariants.{TooMany, TooLong, Invalid}
 use Rattle.answer.specs.Number.{why_number, number_of, at_of, where_done}
@@ -37,11 +35,13 @@ use Rattle.module.specs.Statements.{HasState, outcome_left, RunOnRecord, StepIsR
 use Rattle.module.specs.Demand.{CallLeaves}
 use Rattle.module.proofs.Laws.{run_sound, run_valid, run_many, opened_long, opened_loads}
 use Rattle.module.proofs.Laws as call
+use Rattle.std.proofs.Common.{Ok, Err}
+use Rattle.answer.specs.Number.{Answer}
 
 -- ---- the state in a record of bytes
 -- a record that is opened: it is written again as itself, and the state in it is good
 pub record Opens (b : List ℕ) (s : State) : Type 0 where
-  pub load : restored_of b ≡ record { answer = Done; state = s }
+  pub load : restored_of b ≡ record { answer = (Ok tt); state = s }
   pub back : record_of s ≡ b
   pub sound : Sound s
   pub valid : Valid s
@@ -71,7 +71,7 @@ saved_opens s ok v = record { load = (saved_reads_back s ok (valid_from s v)).0;
 
 -- ---- a run on it
 run_here :
-    (n : ℕ) (b ram rom : List ℕ) (s : State) → n ≤ 1000000 → opened_of b (length ram) (length rom) ≡ record { answer = Done; state = s } →
+    (n : ℕ) (b ram rom : List ℕ) (s : State) → n ≤ 1000000 → opened_of b (length ram) (length rom) ≡ record { answer = (Ok tt); state = s } →
     CallLeaves b ram rom n (run_of n s ram rom)
 unfolding run_left run_done
 run_here n b ram rom s few h = (rw (le-ltb 1000000 n few, h) refl, rw (le-ltb 1000000 n few, h) refl)
@@ -79,8 +79,8 @@ run_here n b ram rom s few h = (rw (le-ltb 1000000 n few, h) refl, rw (le-ltb 10
 pub meets : (n : ℕ) (b ram rom : List ℕ) (s : State) → Opens b s → CallLeaves b ram rom n (run_of n s ram rom)
 meets n b ram rom s o = go (ltb 1000000 n) (too_long (length ram) (length rom)) refl refl
   where
-    none : (w : Why) → CRunMeets n b ram rom (number_of (Refused w)) (at_of (Refused w)) b ram 0 → run_of n s ram rom ≡ ends 0 s ram (Refused w) → CallLeaves b ram rom n (run_of n s ram rom)
-    none w h e = subst (CallLeaves b ram rom n) (sym e) (subst (λ (x : List ℕ). CRunMeets n b ram rom (number_of (Refused w)) (at_of (Refused w)) x ram 0) (sym o.back) h)
+    none : (w : Why) → CRunMeets n b ram rom (number_of (Err w)) (at_of (Err w)) b ram 0 → run_of n s ram rom ≡ ends 0 s ram (Err w) → CallLeaves b ram rom n (run_of n s ram rom)
+    none w h e = subst (CallLeaves b ram rom n) (sym e) (subst (λ (x : List ℕ). CRunMeets n b ram rom (number_of (Err w)) (at_of (Err w)) x ram 0) (sym o.back) h)
 
     go : (x y : Bool) → ltb 1000000 n ≡ x → too_long (length ram) (length rom) ≡ y → CallLeaves b ram rom n (run_of n s ram rom)
     go true y e f = let many = ltb-true 1000000 n e in none TooMany (run_many n b ram rom many refl refl) (run.run_many s ram rom n many)
@@ -100,10 +100,10 @@ stepped_run b ram rom s back = go (try_of s ram rom)
   where
     go : (t : Try) → stepped (leaves s ram t) b ≡ outcome_left (leaves s ram t)
     go (did u m) = refl
-    go (no w) = ap (λ (l : List ℕ). left_by (Refused w) l ram) (sym back)
+    go (no w) = ap (λ (l : List ℕ). left_by (Err w) l ram) (sym back)
 
 step_here :
-    (b ram rom : List ℕ) (s : State) → opened_of b (length ram) (length rom) ≡ record { answer = Done; state = s } →
+    (b ram rom : List ℕ) (s : State) → opened_of b (length ram) (length rom) ≡ record { answer = (Ok tt); state = s } →
     step_left b ram rom ≡ stepped (step_of s ram rom) b
 unfolding step_left
 step_here b ram rom s h = rw h refl
@@ -129,14 +129,14 @@ step_is_run b ram rom h = go (too_long (length ram) (length rom)) refl (opens b 
 
 -- ---- a refused run
 -- the step that stopped it is refused
-run_refused : (n : ℕ) (s : State) (ram rom : List ℕ) (w : Why) → n ≤ 1000000 → (run_of n s ram rom).answer ≡ Refused w →
+run_refused : (n : ℕ) (s : State) (ram rom : List ℕ) (w : Why) → n ≤ 1000000 → (run_of n s ram rom).answer ≡ Err w →
     try_of (run_of n s ram rom).state (run_of n s ram rom).ram rom ≡ no w
 run_refused zero s ram rom w few a = go (checks s ram rom)
   where
     go : Checks s ram rom → try_of (run_of 0 s ram rom).state (run_of 0 s ram rom).ram rom ≡ no w
     go (fail x f t) =
         let e = f 0 few in
-        let y : Refused x ≡ Refused w = sym (ap (λ (r : Result). r.answer) e) ∙ a in
+        let y : Err x ≡ Err w = sym (ap (λ (r : Result). r.answer) e) ∙ a in
         let z : no x ≡ no w = cc in
         ap (λ (r : Result). try_of r.state r.ram rom) e ∙ t ∙ z
     go (pass l v) =
@@ -150,26 +150,26 @@ run_refused (suc n) s ram rom w few a = go (λ t m. run_refused n t m rom w (ome
     one : {r : Result} → run_of (n + 1) s ram rom ≡ r → run_of (suc n) s ram rom ≡ r
     one e = let k : suc n ≡ n + 1 = omega arith in ap (λ (x : ℕ). run_of x s ram rom) k ∙ e
 
-    go : ((u : State) (m : List ℕ) → (run_of n u m rom).answer ≡ Refused w → at (run_of n u m rom) ≡ no w) →
+    go : ((u : State) (m : List ℕ) → (run_of n u m rom).answer ≡ Err w → at (run_of n u m rom) ≡ no w) →
         (t : Try) → try_of s ram rom ≡ t → at (run_of (suc n) s ram rom) ≡ no w
     go more (did u m) f =
         let e = one ((run_is_steps s ram rom n few).0 u m f) in
         ap at e ∙ more u m (sym (ap (λ (r : Result). r.answer) e) ∙ a)
     go more (no x) f =
         let e = one ((run_is_steps s ram rom n few).1 x f) in
-        let y : Refused x ≡ Refused w = sym (ap (λ (r : Result). r.answer) e) ∙ a in
+        let y : Err x ≡ Err w = sym (ap (λ (r : Result). r.answer) e) ∙ a in
         let z : no x ≡ no w = cc in
         ap at e ∙ f ∙ z
 
 -- and so is every run from there
-stays : (m : ℕ) (s : State) (ram rom : List ℕ) (w : Why) → 0 < m → m ≤ 1000000 → try_of s ram rom ≡ no w → run_of m s ram rom ≡ ends 0 s ram (Refused w)
+stays : (m : ℕ) (s : State) (ram rom : List ℕ) (w : Why) → 0 < m → m ≤ 1000000 → try_of s ram rom ≡ no w → run_of m s ram rom ≡ ends 0 s ram (Err w)
 stays m s ram rom w pos few e =
     let k : m ≡ m - 1 + 1 = omega arith in
     ap (λ (x : ℕ). run_of x s ram rom) k ∙ (run_is_steps s ram rom (m - 1) (omega arith)).1 w e
 
 -- ---- a call on any record: refused at the start however many steps it is asked for, or a run from the state in it
 pub data Start (b ram rom : List ℕ) : Type 0 where
-  shut : (w : Why) → ((n : ℕ) → n ≤ 1000000 → CRunMeets n b ram rom (number_of (Refused w)) (at_of (Refused w)) b ram 0) → Start b ram rom
+  shut : (w : Why) → ((n : ℕ) → n ≤ 1000000 → CRunMeets n b ram rom (number_of (Err w)) (at_of (Err w)) b ram 0) → Start b ram rom
   starts : (s : State) → Opens b s → Start b ram rom
 
 pub start : (b ram rom : List ℕ) → Bytes b → Start b ram rom
@@ -185,9 +185,9 @@ start b ram rom h = ⊎_elim (λ (o : Opens b (state_at b)). starts (state_at b)
 not_zero : {A : Type 0} (w : Why) → why_number w ≡ 0 → A
 not_zero w h = absurd (omega (arith, some w))
 
-done_by : (a : Answer) → number_of a ≡ 0 → a ≡ Done
-done_by Done h = refl
-done_by (Refused w) h = not_zero w h
+done_by : (a : Answer) → number_of a ≡ 0 → a ≡ (Ok tt)
+done_by (Ok _) h = refl
+done_by (Err w) h = not_zero w h
 
 pub run_counts : (b ram rom : List ℕ) → RunCounts b ram rom
 unfolding run_left run_done
@@ -195,9 +195,9 @@ run_counts b ram rom n h =
     let s = (run_opened n b ram rom).state in
     go (run_opened n b ram rom).answer (run_of n s ram rom) (count_is_true s ram rom n).0 h
   where
-    go : (a : Answer) (r : Result) → (r.answer ≡ Done → r.done ≡ n) → (unless a b ram (ran_left r)).number ≡ 0 → where_done a r.done 0 ≡ n
-    go Done r true-count z = true-count (done_by r.answer z)
-    go (Refused w) r true-count z = not_zero w z
+    go : (a : Answer) (r : Result) → (r.answer ≡ (Ok tt) → r.done ≡ n) → (unless a b ram (ran_left r)).number ≡ 0 → where_done a r.done 0 ≡ n
+    go (Ok _) r true-count z = true-count (done_by r.answer z)
+    go (Err w) r true-count z = not_zero w z
 
 -- ---- a second run of m steps, on what a first of n left
 abbrev next_left : ℕ → Left → List ℕ → Left
@@ -209,7 +209,7 @@ next_done m l rom = run_done m l.bytes l.ram rom
 module _ (n m : ℕ) (b ram rom : List ℕ) (few : n ≤ 1000000) where
   -- where the first did not start, the second does not
   second_shut :
-      (w : Why) → ((k : ℕ) → k ≤ 1000000 → CRunMeets k b ram rom (number_of (Refused w)) (at_of (Refused w)) b ram 0) → m ≤ 1000000 →
+      (w : Why) → ((k : ℕ) → k ≤ 1000000 → CRunMeets k b ram rom (number_of (Err w)) (at_of (Err w)) b ram 0) → m ≤ 1000000 →
       (next_left m (run_left n b ram rom) rom ≡ run_left n b ram rom) × (next_done m (run_left n b ram rom) rom ≡ 0) × (run_done n b ram rom ≡ 0)
   second_shut w f less =
       let p = f n few in
@@ -232,11 +232,11 @@ module _ (n m : ℕ) (b ram rom : List ℕ) (few : n ≤ 1000000) where
 
     -- and is refused where the first was
     second_refused :
-        (w : Why) → r.answer ≡ Refused w → 0 < m → m ≤ 1000000 →
+        (w : Why) → r.answer ≡ Err w → 0 < m → m ≤ 1000000 →
         (next_left m (run_left n b ram rom) rom ≡ run_left n b ram rom) × (next_done m (run_left n b ram rom) rom ≡ 0)
     second_refused w a pos less =
         let e = stays m r.state r.ram rom w pos less (run_refused n s ram rom w few a) in
-        let f : ran_left (ends 0 r.state r.ram (Refused w)) ≡ ran_left r = ap (λ (x : Answer). ran_left (ends 0 r.state r.ram x)) (sym a) in
+        let f : ran_left (ends 0 r.state r.ram (Err w)) ≡ ran_left r = ap (λ (x : Answer). ran_left (ends 0 r.state r.ram x)) (sym a) in
         (second.0 ∙ ap ran_left e ∙ f ∙ (meets n b ram rom s o).0, second.1 ∙ ap (λ (x : Result). x.done) e)
 
 pub refused_again : (b ram rom : List ℕ) → RefusedAgain b ram rom
@@ -250,8 +250,8 @@ refused_again b ram rom n m h few bad pos less = go (start b ram rom h)
     go (starts s o) = by (run_of n s ram rom).answer refl
       where
         by : (a : Answer) → (run_of n s ram rom).answer ≡ a → Again
-        by Done a = absurd (bad (sym (ap (λ (l : Left). l.number) (meets n b ram rom s o).0) ∙ ap number_of a))
-        by (Refused w) a = second_refused n m b ram rom few s o w a pos less
+        by (Ok _) a = absurd (bad (sym (ap (λ (l : Left). l.number) (meets n b ram rom s o).0) ∙ ap number_of a))
+        by (Err w) a = second_refused n m b ram rom few s o w a pos less
 
 pub joined_runs : (b ram rom : List ℕ) → JoinedRuns b ram rom
 joined_runs b ram rom n m h most c = go (start b ram rom h)
@@ -270,7 +270,7 @@ joined_runs b ram rom n m h most c = go (start b ram rom h)
     go (starts s o) = by (run_of n s ram rom).answer refl c
       where
         by : (a : Answer) → (run_of n s ram rom).answer ≡ a → ((run_left n b ram rom).number ≡ 0) ⊎ (0 < m) → Joined
-        by Done a d =
+        by (Ok _) a d =
             let p = meets n b ram rom s o in
             let q = meets (n + m) b ram rom s o in
             let t = second n m b ram rom (omega arith) s o in
@@ -278,8 +278,8 @@ joined_runs b ram rom n m h most c = go (start b ram rom h)
             let k = ap (λ (x : Result). x.done) j in
             let i = (count_is_true s ram rom n).0 a in
             (sym q.0 ∙ ap ran_left j ∙ sym t.0, omega (arith, q.1, k, t.1, i, p.1))
-        by (Refused w) a (inl z) = not_zero w (sym (ap number_of a) ∙ ap (λ (l : Left). l.number) (meets n b ram rom s o).0 ∙ z)
-        by (Refused w) a (inr pos) =
+        by (Err w) a (inl z) = not_zero w (sym (ap number_of a) ∙ ap (λ (l : Left). l.number) (meets n b ram rom s o).0 ∙ z)
+        by (Err w) a (inr pos) =
             let p = meets n b ram rom s o in
             let q = meets (n + m) b ram rom s o in
             let t = second_refused n m b ram rom (omega arith) s o w a pos (omega arith) in

@@ -5,8 +5,6 @@ use mathlib.Core.List.{List}
 use mathlib.Core.Bool.{Bool, true, false, cond}
 use native.Mathlib.Omega.{arith}
 use lib.ListN.{length}
-use Rattle.answer.specs.declared.Answer.{Answer}
-use Rattle.answer.specs.declared.Answer.TheVariants.{Done, Refused}
 use Rattle.answer.specs.declared.Why.TheVariants.{TooLong}
 use Rattle.answer.specs.Number.{where_done}
 use Rattle.state.specs.declared.State.{State}
@@ -19,6 +17,8 @@ use Rattle.module.specs.Statements.{outcome_left, RequestRefusedKeeps, NotTakenK
 use Rattle.between.proofs.Offer.{untaken_same, offer_whole}
 use Rattle.module.proofs.Laws.{opened_long, opened_loads, request_stops}
 use Rattle.module.proofs.Records.{Opens, held, saved_opens, meets}
+use Rattle.std.proofs.Common.{Ok, Err}
+use Rattle.answer.specs.Number.{Answer}
 
 module _ (b ram rom : List ℕ) where
   -- ---- what is not taken
@@ -29,9 +29,9 @@ module _ (b ram rom : List ℕ) where
     where
       go : (s : State) (a : Answer) (t : Bool) → took_of level vector s ram rom ≡ t → ◌≡◌ {A = ℕ} (where_done a (cond t 1 0) 0) 0 →
           let l = unless a b ram (offered t (request_of level vector s ram rom) b) in (l.bytes ≡ b) × (l.ram ≡ ram)
-      go s (Refused w) t e z = (refl, refl)
-      go s Done true e z = absurd (omega (arith, z))
-      go s Done false e z = (refl, (untaken_same level vector s ram rom e).1)
+      go s (Err w) t e z = (refl, refl)
+      go s (Ok _) true e z = absurd (omega (arith, z))
+      go s (Ok _) false e z = (refl, (untaken_same level vector s ram rom e).1)
 
   pub request_refused_keeps : RequestRefusedKeeps b ram rom
   unfolding request_left request_taken took_of
@@ -44,9 +44,9 @@ module _ (b ram rom : List ℕ) where
     where
       go : (a x : Answer) (c m : List ℕ) (t : Bool) → ((unless a b ram (left_by x c m)).number ≡ 0 → ⊥) →
           ◌≡◌ {A = ℕ} (where_done a (cond (if_done x t) 1 0) 0) 0
-      go (Refused w) x c m t f = refl
-      go Done (Refused w) c m t f = refl
-      go Done Done c m t f = absurd (f refl)
+      go (Err w) x c m t f = refl
+      go (Ok _) (Err w) c m t f = refl
+      go (Ok _) (Ok _) c m t f = absurd (f refl)
 
   -- ---- a request on the state in a record
   module _ (level vector : ℕ) (s : State) where
@@ -67,7 +67,7 @@ module _ (b ram rom : List ℕ) where
         go true e = refl
         go false e = ap (λ (l : List ℕ). left_by o.answer l o.ram) (sym (ap record_of (untaken_same level vector s ram rom e).0 ∙ back))
 
-    opened_on : opened_of b (length ram) (length rom) ≡ record { answer = Done; state = s } → record_of s ≡ b → OnState
+    opened_on : opened_of b (length ram) (length rom) ≡ record { answer = (Ok tt); state = s } → record_of s ≡ b → OnState
     unfolding request_left request_taken
     opened_on e back = rw e (offered_back back, refl)
 
@@ -84,7 +84,7 @@ module _ (b ram rom : List ℕ) where
         go true e =
             let h = request_stops b ram rom (refused_record TooLong) (sym (opened_long b _ _ e)) level vector TooLong refl refl refl in
             let k = request_long e in
-            (sym h.0 ∙ ap (λ (l : List ℕ). left_by (Refused TooLong) l ram) (sym x.back) ∙ sym (ap outcome_left k.0), sym h.1 ∙ rw k.1 refl)
+            (sym h.0 ∙ ap (λ (l : List ℕ). left_by (Err TooLong) l ram) (sym x.back) ∙ sym (ap outcome_left k.0), sym h.1 ∙ rw k.1 refl)
 
   pub request_on_record : RequestOnRecord b ram rom
   request_on_record level vector s h = on_state level vector s (held b s h)

@@ -7,8 +7,6 @@ use native.Mathlib.Omega.{arith}
 use lib.ListN.{length}
 use lib.Dec.{ltb}
 use borrow.Author.Tests.{ltb-true, ltb-false}
-use Rattle.answer.specs.declared.Answer.{Answer}
-use Rattle.answer.specs.declared.Answer.TheVariants.{Done, Refused}
 use Rattle.answer.specs.declared.Why.TheVariants.{TooMany, TooLong, Invalid, BadRequest, NoOldForm, NoCode, Unlisted, Undefined, Missing, ToRom}
 use Rattle.answer.specs.Number.{number_of, at_of}
 use Rattle.state.specs.declared.State.{State}
@@ -23,6 +21,8 @@ use Rattle.module.specs.Calls.{Left, left, opened_of, unless, stepped, step_left
 use Rattle.module.specs.Statements.{Settled, AtZero, ElseZero, StepRefusedKeeps, RunNothingKeeps}
 use Rattle.module.proofs.Laws.{run_many}
 use Rattle.module.proofs.Records.{Start, shut, starts, start, meets}
+use Rattle.std.proofs.Common.{Ok, Err}
+use Rattle.answer.specs.Number.{Answer}
 
 -- two that leave the same are the same, each in its four parts
 same_parts : (n n' a a' : ℕ) (b b' m m' : List ℕ) → left n a b m ≡ left n' a' b' m' → (n ≡ n') × (a ≡ a') × (b ≡ b') × (m ≡ m')
@@ -46,17 +46,17 @@ settled bytes ram rom = (
 
 -- an answer that is neither 5 nor 6 has no address
 none_at : (a : Answer) → (number_of a ≡ 5 → ⊥) → (number_of a ≡ 6 → ⊥) → at_of a ≡ 0
-none_at Done f s = refl
-none_at (Refused TooMany) f s = refl
-none_at (Refused TooLong) f s = refl
-none_at (Refused Invalid) f s = refl
-none_at (Refused BadRequest) f s = refl
-none_at (Refused NoOldForm) f s = refl
-none_at (Refused NoCode) f s = refl
-none_at (Refused Unlisted) f s = refl
-none_at (Refused Undefined) f s = refl
-none_at (Refused (Missing x)) f s = absurd (f refl)
-none_at (Refused (ToRom x)) f s = absurd (s refl)
+none_at (Ok _) f s = refl
+none_at (Err TooMany) f s = refl
+none_at (Err TooLong) f s = refl
+none_at (Err Invalid) f s = refl
+none_at (Err BadRequest) f s = refl
+none_at (Err NoOldForm) f s = refl
+none_at (Err NoCode) f s = refl
+none_at (Err Unlisted) f s = refl
+none_at (Err Undefined) f s = refl
+none_at (Err (Missing x)) f s = absurd (f refl)
+none_at (Err (ToRom x)) f s = absurd (s refl)
 
 pub else_zero : (b ram rom : List ℕ) → ElseZero b ram rom
 unfolding step_left run_left request_left
@@ -69,11 +69,11 @@ else_zero bytes ram rom = (
 )
   where
     unless_at : (a : Answer) (m : List ℕ) (l : Left) → AtZero l → AtZero (unless a bytes m l)
-    unless_at (Refused w) m l h = none_at (Refused w)
-    unless_at Done m l h = h
+    unless_at (Err w) m l h = none_at (Err w)
+    unless_at (Ok _) m l h = h
 
     stepped_at : (o : Outcome) → AtZero (stepped o bytes)
-    stepped_at o = unless_at o.answer o.ram _ (none_at Done)
+    stepped_at o = unless_at o.answer o.ram _ (none_at (Ok tt))
 
 pub step_refused_keeps : (b ram rom : List ℕ) → StepRefusedKeeps b ram rom
 unfolding step_left step_of
@@ -83,9 +83,9 @@ step_refused_keeps bytes ram rom h =
   where
     go : (s : State) (a : Answer) (t : Try) → ((unless a bytes ram (stepped (leaves s ram t) bytes)).number ≡ 0 → ⊥) →
         ((unless a bytes ram (stepped (leaves s ram t) bytes)).bytes ≡ bytes) × ((unless a bytes ram (stepped (leaves s ram t) bytes)).ram ≡ ram)
-    go s (Refused w) t f = (refl, refl)
-    go s Done (did u m) f = absurd (f refl)
-    go s Done (no w) f = (refl, refl)
+    go s (Err w) t f = (refl, refl)
+    go s (Ok _) (did u m) f = absurd (f refl)
+    go s (Ok _) (no w) f = (refl, refl)
 
 -- a run that does no step leaves the state and RAM
 abbrev Same : State → List ℕ → Result → Type 0

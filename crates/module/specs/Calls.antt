@@ -1,6 +1,5 @@
 -- What each call answers and leaves, over the bytes of a saved record.
-use Rattle.std.specs.Prelude.{ℕ, ◌≡◌, List, Bool, cond, length, ltb, eqb}
-use Rattle.answer.specs.{declared.Answer.Answer, declared.Answer.TheVariants.Done, declared.Answer.TheVariants.Refused}
+use Rattle.std.specs.Prelude.{ℕ, ◌≡◌, List, Bool, cond, length, ltb, eqb, Ok, Err}
 use Rattle.answer.specs.Number.{number_of, at_of, first_refusal, where_done}
 use Rattle.answer.specs.declared.Why.TheVariants.{TooMany, TooLong, Invalid}
 use Rattle.saved.specs.Record.{record_length, record_of, refused_record, restored_of}
@@ -10,6 +9,7 @@ use Rattle.step.specs.{Step.too_long, Step.step_of, Reset.reset_of}
 use Rattle.run.specs.Run.{most_steps, run_of}
 use Rattle.request.specs.Request.{request_of, took_of}
 use Rattle.saved.specs.declared.Restored.{Restored}
+use Rattle.answer.specs.Number.{Answer}
 
 -- what a call leaves: its number, the address in `at`, the bytes of the record, and those of RAM
 pub record Left : Type 0 where
@@ -28,13 +28,13 @@ left_by a bytes ram = left (number_of a) (at_of a) bytes ram
 
 -- where a call goes on it leaves this; a refusal leaves the record and RAM as they were
 abbrev pub unless : Answer → List ℕ → List ℕ → Left → Left
-unless (Refused w) bytes ram l = left_by (Refused w) bytes ram
-unless Done bytes ram l = l
+unless (Err w) bytes ram l = left_by (Err w) bytes ram
+unless (Ok _) bytes ram l = l
 
 -- ---- reset
 -- its answer with so much room for the record: of the memories 1, then 5; then 2, where the room is not that of a record
 unfoldable pub reset_answer : ℕ → List ℕ → List ℕ → Answer
-reset_answer room ram rom = first_refusal (reset_of ram rom).answer (cond (eqb room record_length) Done (Refused Invalid))
+reset_answer room ram rom = first_refusal (reset_of ram rom).answer (cond (eqb room record_length) (Ok tt) (Err Invalid))
 
 -- the record of the reset state; a refusal leaves what was there
 unfoldable pub reset_bytes : List ℕ → List ℕ → List ℕ → List ℕ
@@ -47,7 +47,7 @@ opened_of bytes ram_length rom_length = cond (too_long ram_length rom_length) (r
 
 -- the record of the state after it
 abbrev pub stepped : Outcome → List ℕ → Left
-stepped o bytes = unless o.answer bytes o.ram (left_by Done (record_of o.state) o.ram)
+stepped o bytes = unless o.answer bytes o.ram (left_by (Ok tt) (record_of o.state) o.ram)
 
 -- what one step leaves
 unfoldable pub step_left : List ℕ → List ℕ → List ℕ → Left

@@ -1,6 +1,5 @@
 -- What is proved of the calls, beside what each promises. Each statement is proved in proofs/Settled.antt, Records.antt or Requests.antt.
-use Rattle.std.specs.Prelude.{ℕ, ◌+◌, ◌<◌, ◌≤◌, ◌≡◌, ◌⊎◌, List, cond}
-use Rattle.answer.specs.declared.Answer.TheVariants.{Done}
+use Rattle.std.specs.Prelude.{ℕ, ◌+◌, ◌<◌, ◌≤◌, ◌≡◌, ◌⊎◌, List, cond, Ok}
 use Rattle.little.specs.Bytes.{Bytes}
 use Rattle.state.specs.declared.State.{State}
 use Rattle.saved.specs.Record.{record_of, restored_of}
@@ -12,7 +11,7 @@ use Rattle.module.specs.Calls.{CResetMeets, CStepMeets, CRunMeets, CRequestMeets
 
 -- a record of bytes that is opened, and the state in it
 abbrev pub HasState : List ℕ → State → Type 0
-HasState bytes s = Bytes bytes × (restored_of bytes ≡ record { answer = Done; state = s })
+HasState bytes s = Bytes bytes × (restored_of bytes ≡ record { answer = (Ok tt); state = s })
 
 -- `at` holds 0 where the number is neither 5 nor 6
 abbrev pub AtZero : Left → Type 0

@@ -15,7 +15,7 @@ fn opened(bytes: &[u8], ram_len: usize, rom_len: usize) -> Restored
 {
     if step::too_long(ram_len, rom_len) {
         return Restored {
-            answer: Answer::Refused(Why::TooLong),
+            answer: Err(Why::TooLong),
             state: State::zero(),
         };
     }
@@ -37,9 +37,8 @@ pub extern "C" fn tlcs900h_reset(bytes: &mut [u8], ram: &[u8], rom: &[u8]) -> u8
     ensures { CResetMeets bytes.old ram.now rom.now result bytes.new }
 {
     let s = step::reset(ram, rom);
-    let a = s.answer;
-    if let Answer::Refused(w) = a {
-        return answer::why_number(w);
+    if let Err(why) = s.answer {
+        return why.number();
     }
     answer::number(saved::save(s.state, bytes))
 }
@@ -59,18 +58,16 @@ pub extern "C" fn tlcs900h_run(
 {
     *done = 0;
     if run::MOST_STEPS < steps {
-        return told(Answer::Refused(Why::TooMany), at);
+        return told(Err(Why::TooMany), at);
     }
-    let o = opened(&*bytes, ram.len(), rom.len());
-    let a = o.answer;
-    if let Answer::Refused(_) = a {
-        return told(a, at);
+    let o = opened(bytes, ram.len(), rom.len());
+    if let Err(why) = o.answer {
+        return told(Err(why), at);
     }
     let r = run::run(o.state, ram, rom, steps);
     *done = r.done;
-    let b = r.answer;
-    saved::save(r.state, bytes);
-    told(b, at)
+    let _ = saved::save(r.state, bytes);
+    told(r.answer, at)
 }
 
 // One step of the state that the record holds: a run of one, which writes the record of a refused step again as it was.
@@ -98,17 +95,15 @@ pub extern "C" fn tlcs900h_request(
         result taken.new at.new bytes.new ram.new }
 {
     *taken = 0;
-    let o = opened(&*bytes, ram.len(), rom.len());
-    let a = o.answer;
-    if let Answer::Refused(_) = a {
-        return told(a, at);
+    let o = opened(bytes, ram.len(), rom.len());
+    if let Err(why) = o.answer {
+        return told(Err(why), at);
     }
     let q = request::request(o.state, ram, rom, level, vector);
-    let b = q.answer;
     if !q.taken {
-        return told(b, at);
+        return told(q.answer, at);
     }
     *taken = 1;
-    saved::save(q.state, bytes);
-    told(b, at)
+    let _ = saved::save(q.state, bytes);
+    told(q.answer, at)
 }

@@ -9,8 +9,6 @@ use lib.ListN.{length, replicate}
 use lib.Seq.{take-append-le}
 use borrow.Author.Tests.{eq-eqb, not-true, not-false}
 use Rattle.little.specs.Bytes.{Bytes}
-use Rattle.answer.specs.declared.Answer.{Answer}
-use Rattle.answer.specs.declared.Answer.TheVariants.{Done, Refused}
 use Rattle.answer.specs.declared.Why.{Why}
 use Rattle.answer.specs.declared.Why.TheVariants.{Invalid, NoOldForm}
 use Rattle.answer.specs.Number.{why_number, number_of}
@@ -24,6 +22,8 @@ use Rattle.moves.specs.Moves.{widen_answer, widen_bytes, narrow_answer, narrow_b
 use Rattle.moves.specs.Statements.{Widens, Settled}
 use Rattle.moves.specs.inner.Filled.{filled}
 use Rattle.moves.proofs.Filling.{filled_long}
+use Rattle.std.proofs.Common.{Ok, Err}
+use Rattle.answer.specs.Number.{Answer}
 
 -- ---- what is promised is settled
 pub settled : Settled
@@ -48,19 +48,19 @@ widens old room = (
 
 pub narrow_done :
     (new room : List ℕ) → is_record new ≡ true → length room ≡ old_length → fits_old (state_at new) ≡ true →
-    (narrow_answer new (length room) ≡ Done) × (narrow_bytes new room ≡ narrowed new)
+    (narrow_answer new (length room) ≡ (Ok tt)) × (narrow_bytes new room ≡ narrowed new)
 unfolding narrow_answer narrow_bytes
 narrow_done new room g e f = (rw (g, eq-eqb _ _ e, f) refl, rw (g, eq-eqb _ _ e, f) refl)
 
 pub narrow_ten :
     (new room : List ℕ) → is_record new ≡ true → length room ≡ old_length → fits_old (state_at new) ≡ false →
-    (narrow_answer new (length room) ≡ Refused NoOldForm) × (narrow_bytes new room ≡ room)
+    (narrow_answer new (length room) ≡ Err NoOldForm) × (narrow_bytes new room ≡ room)
 unfolding narrow_answer narrow_bytes
 narrow_ten new room g e f = (rw (g, eq-eqb _ _ e, f) refl, rw (g, eq-eqb _ _ e, f) refl)
 
 pub narrow_two :
     (new room : List ℕ) → (is_record new ≡ false) ⊎ (length room ≡ old_length → ⊥) →
-    (narrow_answer new (length room) ≡ Refused Invalid) × (narrow_bytes new room ≡ room)
+    (narrow_answer new (length room) ≡ Err Invalid) × (narrow_bytes new room ≡ room)
 unfolding narrow_answer narrow_bytes
 narrow_two new room x = let z = either_fails _ _ _ x in (rw z refl, rw z refl)
 
@@ -71,7 +71,7 @@ told :
 told k e f d = (k ∙ ap number_of (e ∙ sym d.0), f ∙ sym d.1)
 
 pub widen_stops :
-    (old room : List ℕ) {o : Restored} {n : ℕ} → o ≡ old_restored_of old → (w : Why) → o.answer ≡ Refused w → n ≡ why_number w → CWidenMeets old room n room
+    (old room : List ℕ) {o : Restored} {n : ℕ} → o ≡ old_restored_of old → (w : Why) → o.answer ≡ Err w → n ≡ why_number w → CWidenMeets old room n room
 widen_stops old room e w r k = let l = load_refused old_length old e w r in told k l.1 refl ((widens old room).1 (inl l.0))
 
 -- a room of another length
@@ -80,8 +80,8 @@ pub widen_other_room :
 widen_other_room old room h k = told k refl refl ((widens old room).1 (inr h))
 
 pub widen_fills :
-    (old room : List ℕ) {o : Restored} {b : List ℕ} {n : ℕ} → o ≡ old_restored_of old → o.answer ≡ Done → length room ≡ record_length →
-    b ≡ filled (length room) old → n ≡ number_of Done → CWidenMeets old room n b
+    (old room : List ℕ) {o : Restored} {b : List ℕ} {n : ℕ} → o ≡ old_restored_of old → o.answer ≡ (Ok tt) → length room ≡ record_length →
+    b ≡ filled (length room) old → n ≡ number_of (Ok tt) → CWidenMeets old room n b
 widen_fills old room e r fit f k =
     let g = (load_done old_length old e r).0 in
     let long : filled (length room) old ≡ widened old =
@@ -89,14 +89,14 @@ widen_fills old room e r fit f k =
     told k refl (f ∙ long) ((widens old room).0 g fit)
 
 pub narrow_stops :
-    (new room : List ℕ) {o : Restored} {n : ℕ} → o ≡ restored_of new → (w : Why) → o.answer ≡ Refused w → n ≡ why_number w → CNarrowMeets new room n room
+    (new room : List ℕ) {o : Restored} {n : ℕ} → o ≡ restored_of new → (w : Why) → o.answer ≡ Err w → n ≡ why_number w → CNarrowMeets new room n room
 narrow_stops new room e w r k = let l = load_refused record_length new e w r in told k l.1 refl (narrow_two new room (inl l.0))
 
 pub narrow_other_room :
     (new room : List ℕ) {n : ℕ} → (length room ≡ old_length → ⊥) → n ≡ why_number Invalid → CNarrowMeets new room n room
 narrow_other_room new room h k = told k refl refl (narrow_two new room (inr h))
 
-module _ (new room : List ℕ) {o : Restored} {f : Bool} (e : o ≡ restored_of new) (r : o.answer ≡ Done) (fit : length room ≡ old_length) (q : f ≡ fits_old o.state) where
+module _ (new room : List ℕ) {o : Restored} {f : Bool} (e : o ≡ restored_of new) (r : o.answer ≡ (Ok tt)) (fit : length room ≡ old_length) (q : f ≡ fits_old o.state) where
   good : is_record new ≡ true
   good = (load_done record_length new e r).0
 
@@ -107,7 +107,7 @@ module _ (new room : List ℕ) {o : Restored} {f : Bool} (e : o ≡ restored_of 
   pub narrow_turned : {n : ℕ} → not f ≡ true → n ≡ why_number NoOldForm → CNarrowMeets new room n room
   narrow_turned t k = told k refl refl (narrow_ten new room good fit (fits (not-true f t)))
 
-  pub narrow_fills : {b : List ℕ} {n : ℕ} → not f ≡ false → b ≡ filled (length room) new → n ≡ number_of Done → CNarrowMeets new room n b
+  pub narrow_fills : {b : List ℕ} {n : ℕ} → not f ≡ false → b ≡ filled (length room) new → n ≡ number_of (Ok tt) → CNarrowMeets new room n b
   narrow_fills t m k =
       let l : old_length ≤ length new = subst (λ (x : ℕ). old_length ≤ x) (sym (good_says record_length new good).0) (omega arith) in
       told k refl (m ∙ ap (λ (x : ℕ). filled x new) fit ∙ take-append-le old_length new (replicate old_length 0) l) (narrow_done new room good fit (fits (not-false f t)))

@@ -9,7 +9,6 @@ use lib.ListN.{length}
 use lib.Dec.{eqb}
 use borrow.Author.Tests.{eq-eqb, ne_eqb, eqb-true}
 use Rattle.little.specs.Bytes.{Bytes}
-use Rattle.answer.specs.declared.Answer.TheVariants.{Done, Refused}
 use Rattle.answer.specs.declared.Why.{Why}
 use Rattle.answer.specs.declared.Why.TheVariants.{Invalid, NoOldForm}
 use Rattle.answer.proofs.Laws.{not_refused}
@@ -25,6 +24,8 @@ use Rattle.saved.proofs.RoundTrip.{front_is_old, sound_at, marks_same, good_says
 use Rattle.moves.specs.Moves.{widen_answer, widen_bytes, narrow_answer, narrow_bytes}
 use Rattle.moves.specs.Statements.{Narrows, WidensBack, NarrowsBack, MovedLoads, MovedSaves}
 use Rattle.moves.proofs.Laws.{wide_bytes, narrow_bytes_lem, widens, narrow_done, narrow_ten, narrow_two}
+use Rattle.std.proofs.Common.{Ok, Err}
+use Rattle.answer.specs.Number.{Answer}
 
 -- ---- when each number is given
 -- that the old form holds the state in a record is told by its bytes
@@ -61,14 +62,14 @@ moved_saves s room ok v = (
 
 -- ---- a record that was moved
 -- a move that is done passed all that is looked for
-all_passed : (b f : Bool) (w : Why) → cond b (cond f Done (Refused w)) (Refused Invalid) ≡ Done → (b ≡ true) × (f ≡ true)
+all_passed : (b f : Bool) (w : Why) → ◌≡◌ {A = Answer} (cond b (cond f (Ok tt) (Err w)) (Err Invalid)) (Ok tt) → (b ≡ true) × (f ≡ true)
 all_passed true true w e = (refl, refl)
 all_passed true false w e = not_refused e refl
 all_passed false f w e = not_refused e refl
 
 -- it wrote the record of the state in the one that it read
 widened_is :
-    (old room : List ℕ) → Bytes old → widen_answer old (length room) ≡ Done →
+    (old room : List ℕ) → Bytes old → widen_answer old (length room) ≡ (Ok tt) →
     (is_old_record old ≡ true) × (fits_old (state_at old) ≡ true) × (widen_bytes old room ≡ record_of (state_at old))
 unfolding widen_answer
 widened_is old room h e =
@@ -77,7 +78,7 @@ widened_is old room h e =
     (p.0, (old_records_are_of_states.1 old h p.0).1, w.1 ∙ sym (wide_bytes old h p.0))
 
 narrowed_is :
-    (new room : List ℕ) → Bytes new → narrow_answer new (length room) ≡ Done →
+    (new room : List ℕ) → Bytes new → narrow_answer new (length room) ≡ (Ok tt) →
     (is_record new ≡ true) × (fits_old (state_at new) ≡ true) × (narrow_bytes new room ≡ old_record_of (state_at new))
 unfolding narrow_answer
 narrowed_is new room h e =

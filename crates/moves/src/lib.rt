@@ -5,16 +5,14 @@ ghost use Rattle.std.specs.Prelude.{◌≡◌, length};
 ghost use Rattle.moves.specs.Moves.{CWidenMeets, CNarrowMeets};
 ghost use Rattle.moves.specs.inner.Filled.{filled};
 
-use answer::{Answer, Why};
+use answer::Why;
 
 // Fills the room with the bytes of a record, and with zeros past its end.
 fn fill(room: &mut [u8], from: &[u8])
     ensures { room.new ≡ filled (length room.old) from.now }
 {
-    let mut i = 0;
-    while i < room.len() {
-        room[i] = if i < from.len() { from[i] } else { 0 };
-        i += 1;
+    for (i, to) in room.iter_mut().enumerate() {
+        *to = if i < from.len() { from[i] } else { 0 };
     }
 }
 
@@ -24,15 +22,14 @@ pub extern "C" fn tlcs900h_widen(old: &[u8], new: &mut [u8]) -> u8
     ensures { CWidenMeets old.now new.old result new.new }
 {
     let o = saved::load_old(old);
-    let a = o.answer;
-    if let Answer::Refused(w) = a {
-        return answer::why_number(w);
+    if let Err(why) = o.answer {
+        return why.number();
     }
     if new.len() != saved::LENGTH {
-        return answer::why_number(Why::Invalid);
+        return Why::Invalid.number();
     }
     fill(new, old);
-    answer::number(Answer::Done)
+    answer::number(Ok(()))
 }
 
 // Writes the old record of the state that a new one holds. 10 comes after 2.
@@ -41,16 +38,15 @@ pub extern "C" fn tlcs900h_narrow(new: &[u8], old: &mut [u8]) -> u8
     ensures { CNarrowMeets new.now old.old result old.new }
 {
     let o = saved::load(new);
-    let a = o.answer;
-    if let Answer::Refused(w) = a {
-        return answer::why_number(w);
+    if let Err(why) = o.answer {
+        return why.number();
     }
     if old.len() != saved::OLD_LENGTH {
-        return answer::why_number(Why::Invalid);
+        return Why::Invalid.number();
     }
     if !saved::fits_old(o.state) {
-        return answer::why_number(Why::NoOldForm);
+        return Why::NoOldForm.number();
     }
     fill(old, new);
-    answer::number(Answer::Done)
+    answer::number(Ok(()))
 }

@@ -8,7 +8,6 @@ ghost use Rattle.code.specs.Registers.{arith_of};
 ghost use Rattle.code.specs.inner.Parts.{up_to_four, size_of};
 
 use alu::Arith;
-use code::Found;
 use little::Size;
 
 // No number of a code has more than four bytes.
@@ -48,17 +47,17 @@ fn read(code: &[u8], at: usize, n: usize) -> u32
     }
 }
 
-// The same of up to four bytes, or that they are not all there.
-pub fn number(code: &[u8], at: usize, n: usize) -> Found
+// The same of up to four bytes, or none where they are not all there.
+pub fn number(code: &[u8], at: usize, n: usize) -> Option<u32>
     ensures { result ≡ number_at code.now at (up_to_four n) }
 {
     let m = up_to_four(n);
     if at <= code.len() {
         if m <= code.len() - at {
-            return Found::Value(read(code, at, m));
+            return Some(read(code, at, m));
         }
     }
-    Found::Missing
+    None
 }
 
 // The size of an operand, by the high digit of the first byte, 8 to F: its low two bits tell.

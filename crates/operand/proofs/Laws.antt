@@ -1,10 +1,8 @@
 -- Laws that proofs of functions cite: sums that wrap, stores, and what a call leaves.
-use Rattle.std.proofs.Common.{◌≡◌, ℕ, ◌+◌, ◌-◌, ◌%◌, ◌^◌, ◌<◌, ◌≤◌, Bool, true, false, ltb, List, sym, refl, ap, ◌∙◌, add-zero, mod-eq_of_lt, arith, ltb-false, ltb-true, le-leb}
+use Rattle.std.proofs.Common.{◌≡◌, ℕ, ◌+◌, ◌-◌, ◌%◌, ◌^◌, ◌<◌, ◌≤◌, Bool, true, false, ltb, List, sym, refl, ap, ◌∙◌, add-zero, mod-eq_of_lt, arith, ltb-false, ltb-true, le-leb, Ok, Err}
 use native.Mathlib.Nat.{add-mod_right}
 use lib.Pow.{mod-mod-pow}
 use borrow.Author.Tests.{lt-leb}
-use Rattle.answer.specs.declared.Answer.{Answer}
-use Rattle.answer.specs.declared.Answer.TheVariants.{Done, Refused}
 use Rattle.answer.specs.declared.Why.{Why}
 use Rattle.little.specs.declared.Size.{Size}
 use Rattle.little.specs.declared.Size.TheVariants.{Byte, Word, Long}
@@ -15,6 +13,7 @@ use Rattle.state.specs.declared.State.{State}
 use Rattle.operand.specs.Try.{Try, did, no, Outcome, leaves, and_then, after}
 use Rattle.operand.specs.Operand.{displaced, storing, storing_bytes}
 use Rattle.operand.specs.Round.{less, plus}
+use Rattle.answer.specs.Number.{Answer}
 
 -- ---- sums that wrap
 -- a sum of 32 bits as an address
@@ -67,34 +66,34 @@ displaced_less z x d h m r e l b c f g =
 
 -- ---- stores
 module _ (s t : State) (ram rom : List ℕ) (a n v : ℕ) (m : List ℕ) (after : m ≡ ram_bytes ram rom a n v) where
-  pub stored_bytes : store_bytes ram rom a n ≡ Done → ◌≡◌ {A = Outcome} (record { state = t; ram = m; answer = Done }) (leaves s ram (storing_bytes t ram rom a n v))
+  pub stored_bytes : store_bytes ram rom a n ≡ (Ok tt) → ◌≡◌ {A = Outcome} (record { state = t; ram = m; answer = (Ok tt) }) (leaves s ram (storing_bytes t ram rom a n v))
   stored_bytes e = rw (e, after) refl
 
-  pub not_stored_bytes : (w : Why) → store_bytes ram rom a n ≡ Refused w → ◌≡◌ {A = Outcome} (record { state = s; ram = m; answer = Refused w }) (leaves s ram (storing_bytes t ram rom a n v))
+  pub not_stored_bytes : (w : Why) → store_bytes ram rom a n ≡ Err w → ◌≡◌ {A = Outcome} (record { state = s; ram = m; answer = Err w }) (leaves s ram (storing_bytes t ram rom a n v))
   not_stored_bytes w e = rw (e, after ∙ refused_bytes ram rom a n v w e) refl
 
 -- the same of a size
 module _ (s t : State) (ram rom : List ℕ) (a : ℕ) (z : Size) (v : ℕ) (m : List ℕ) (after : m ≡ ram_after ram rom a z v) where
-  pub stored : store_of ram rom a z ≡ Done → ◌≡◌ {A = Outcome} (record { state = t; ram = m; answer = Done }) (leaves s ram (storing t ram rom a z v))
+  pub stored : store_of ram rom a z ≡ (Ok tt) → ◌≡◌ {A = Outcome} (record { state = t; ram = m; answer = (Ok tt) }) (leaves s ram (storing t ram rom a z v))
   unfolding storing store_of ram_after
   stored = stored_bytes s t ram rom a (bytes_of z) v m after
 
-  pub not_stored : (w : Why) → store_of ram rom a z ≡ Refused w → ◌≡◌ {A = Outcome} (record { state = s; ram = m; answer = Refused w }) (leaves s ram (storing t ram rom a z v))
+  pub not_stored : (w : Why) → store_of ram rom a z ≡ Err w → ◌≡◌ {A = Outcome} (record { state = s; ram = m; answer = Err w }) (leaves s ram (storing t ram rom a z v))
   unfolding storing store_of ram_after
   not_stored = not_stored_bytes s t ram rom a (bytes_of z) v m after
 
 -- ---- a call, and then a change of the state where it was done
 module _ (s : State) (ram : List ℕ) (a : Answer) (u : State) (m : List ℕ) (f : State → State) where
-  pub then_done : (t : Try) → after a u m ≡ leaves s ram t → a ≡ Done → after Done (f u) m ≡ leaves s ram (and_then t f)
+  pub then_done : (t : Try) → after a u m ≡ leaves s ram t → a ≡ (Ok tt) → after (Ok tt) (f u) m ≡ leaves s ram (and_then t f)
   then_done (did v n) e d = rw (ap (λ (o : Outcome). o.state) e, ap (λ (o : Outcome). o.ram) e) refl
   then_done (no w) e d =
-      let b : a ≡ Refused w = ap (λ (o : Outcome). o.answer) e in
+      let b : a ≡ Err w = ap (λ (o : Outcome). o.answer) e in
       let z : ◌≡◌ {A = ℕ} 0 1 = cc in
       absurd (omega arith)
 
-  pub then_refused : (w : Why) (t : Try) → after a u m ≡ leaves s ram t → a ≡ Refused w → after (Refused w) u m ≡ leaves s ram (and_then t f)
+  pub then_refused : (w : Why) (t : Try) → after a u m ≡ leaves s ram t → a ≡ Err w → after (Err w) u m ≡ leaves s ram (and_then t f)
   then_refused w (did v n) e d =
-      let b : a ≡ Done = ap (λ (o : Outcome). o.answer) e in
+      let b : a ≡ (Ok tt) = ap (λ (o : Outcome). o.answer) e in
       let z : ◌≡◌ {A = ℕ} 0 1 = cc in
       absurd (omega arith)
   then_refused w (no x) e d = rw (← d) e

@@ -1,10 +1,9 @@
 -- Operands in the registers: where they begin, what they hold, and what is left where one is put.
-use Rattle.std.proofs.Common.{◌≡◌, ℕ, ◌+◌, ◌-◌, ◌*◌, ◌/◌, ◌%◌, ◌<◌, ◌≤◌, Bool, true, false, cond, ◌&&◌, ◌||◌, eqb, ltb, leb, List, sym, refl, ap, ◌∙◌, arith, lt-ltb, eq-eqb, ne_eqb, eqb-true}
+use Rattle.std.proofs.Common.{◌≡◌, ℕ, ◌+◌, ◌-◌, ◌*◌, ◌/◌, ◌%◌, ◌<◌, ◌≤◌, Bool, true, false, cond, ◌&&◌, ◌||◌, eqb, ltb, leb, List, sym, refl, ap, ◌∙◌, arith, lt-ltb, eq-eqb, ne_eqb, eqb-true, Ok}
 use borrow.Author.Tests.{eqb-false}
 use Rattle.little.specs.declared.Size.{Size}
 use Rattle.little.specs.declared.Size.TheVariants.{Byte, Word, Long}
 use Rattle.little.specs.Width.{bits_of, bytes_of, twice_of}
-use Rattle.memory.specs.declared.Loaded.TheVariants.{Value}
 use Rattle.state.specs.declared.Bank.{Bank}
 use Rattle.state.specs.declared.State.{State}
 use Rattle.state.specs.declared.named.Field.{Field}
@@ -63,10 +62,10 @@ register_put s z r v after p =
 nothing : {A : Type 0} (i o k : ℕ) → nowhere ≡ bits i o k → A
 nothing i o k e = let z : ◌≡◌ {A = ℕ} 0 1 = cc in let y : ⊥ = omega arith in absurd y
 
-pub value_at_lem : (registers : List ℕ) (bank : Bank) (ram rom : List ℕ) (z : Size) (o : Operand) (f : Field) → BeginsAt bank z o f → value_in registers bank ram rom z o ≡ Value (field_in registers z f)
+pub value_at_lem : (registers : List ℕ) (bank : Bank) (ram rom : List ℕ) (z : Size) (o : Operand) (f : Field) → BeginsAt bank z o f → value_in registers bank ram rom z o ≡ Ok (field_in registers z f)
 unfolding value_in placed
-value_at_lem registers bank ram rom z (Register r) f a = ap Value ((plain_names bank z r).0 registers ∙ held_at registers z f _ a.there a.known a.within)
-value_at_lem registers bank ram rom z (Named c) f a = ap Value (held_at registers z f _ a.there a.known a.within)
+value_at_lem registers bank ram rom z (Register r) f a = ap Ok ((plain_names bank z r).0 registers ∙ held_at registers z f _ a.there a.known a.within)
+value_at_lem registers bank ram rom z (Named c) f a = ap Ok (held_at registers z f _ a.there a.known a.within)
 value_at_lem registers bank ram rom z (Constant n) f a = nothing _ _ _ a.there
 value_at_lem registers bank ram rom z (Memory m) f a = nothing _ _ _ a.there
 

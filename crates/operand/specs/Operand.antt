@@ -1,15 +1,16 @@
 -- The operand of an instruction: its address, its value, a value put there, and the register twice as wide.
-use Rattle.std.specs.Prelude.{ℕ, ◌+◌, ◌-◌, ◌*◌, ◌/◌, ◌%◌, ◌^◌, List, cond}
-use Rattle.answer.specs.declared.{Answer.Answer, Answer.TheVariants.Done, Answer.TheVariants.Refused}
+use Rattle.std.specs.Prelude.{ℕ, ◌+◌, ◌-◌, ◌*◌, ◌/◌, ◌%◌, ◌^◌, List, cond, Ok, Err}
 use Rattle.little.specs.{declared.Size.Size, Width.bytes_of}
 use Rattle.little.specs.declared.Size.TheVariants.{Byte, Word, Long}
 use Rattle.flags.specs.Width.{negative}
-use Rattle.memory.specs.{declared.Loaded.Loaded, declared.Loaded.TheVariants.Value, Access.load_of, Access.store_bytes, Access.ram_bytes}
+use Rattle.memory.specs.{Access.load_of, Access.store_bytes, Access.ram_bytes}
 use Rattle.state.specs.{declared.Bank.Bank, declared.State.State, Register.register_at, Register.set_register, Named.named, Named.held_in, Named.with_held}
 use Rattle.code.specs.declared.{Base.Base, MemoryForm.MemoryForm, Operand.Operand}
 use Rattle.code.specs.declared.Base.TheVariants.{Indirect, Displaced, Absolute8, Absolute16, Absolute24}
 use Rattle.code.specs.declared.Operand.TheVariants.{Register, Named, Constant, Memory}
 use Rattle.operand.specs.Try.{Try, did, no}
+use Rattle.answer.specs.Number.{Answer}
+use Rattle.memory.specs.Access.{Loaded}
 
 -- x plus a number d of k bits with a sign, modulo 2^24: where its top bit is one, d stands for d less 2^k
 abbrev pub displaced : ℕ → ℕ → ℕ → ℕ
@@ -39,9 +40,9 @@ address_of s m = address_in s.registers s.bank m
 
 -- the operand's value
 unfoldable pub value_in : List ℕ → Bank → List ℕ → List ℕ → Size → Operand → Loaded
-value_in registers bank ram rom z (Register r) = Value (register_at registers bank z r)
-value_in registers bank ram rom z (Named c) = Value (held_in registers (named (bank.0 % 4) (bytes_of z) c))
-value_in registers bank ram rom z (Constant n) = Value n
+value_in registers bank ram rom z (Register r) = Ok (register_at registers bank z r)
+value_in registers bank ram rom z (Named c) = Ok (held_in registers (named (bank.0 % 4) (bytes_of z) c))
+value_in registers bank ram rom z (Constant n) = Ok n
 value_in registers bank ram rom z (Memory m) = load_of ram rom (address_in registers bank m) z
 
 abbrev pub value_at : State → List ℕ → List ℕ → Size → Operand → Loaded
@@ -61,8 +62,8 @@ wide_of z (Memory m) = Memory m
 
 -- a store at an address, and the state t where it is done
 abbrev pub stored_by : Answer → State → List ℕ → Try
-stored_by Done t ram = did t ram
-stored_by (Refused w) t ram = no w
+stored_by (Ok _) t ram = did t ram
+stored_by (Err w) t ram = no w
 
 -- a value of n bytes stored at an address a, and one of a size
 abbrev pub storing_bytes : State → List ℕ → List ℕ → ℕ → ℕ → ℕ → Try

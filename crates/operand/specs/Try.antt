@@ -1,9 +1,9 @@
 -- A step that is tried, and what a call leaves.
-use Rattle.std.specs.Prelude.{ℕ, List}
-use Rattle.answer.specs.declared.{Why.Why, Why.TheVariants.Missing, Answer.Answer, Answer.TheVariants.Done, Answer.TheVariants.Refused}
-use Rattle.memory.specs.declared.Loaded.{Loaded}
+use Rattle.std.specs.Prelude.{ℕ, List, Ok, Err}
+use Rattle.answer.specs.declared.{Why.Why, Why.TheVariants.Missing}
 use Rattle.state.specs.declared.State.{State}
-use Rattle.memory.specs.declared.Loaded.TheVariants as loaded
+use Rattle.answer.specs.Number.{Answer}
+use Rattle.memory.specs.Access.{Loaded}
 
 -- it is done, with the state and the bytes of RAM after it, or it is refused
 pub data Try : Type 0 where
@@ -22,8 +22,8 @@ after a s ram = record { state = s; ram = ram; answer = a }
 
 -- what a tried step leaves: a refused one the state and the RAM that were given
 abbrev pub leaves : State → List ℕ → Try → Outcome
-leaves s ram (did t m) = after Done t m
-leaves s ram (no w) = after (Refused w) s ram
+leaves s ram (did t m) = after (Ok tt) t m
+leaves s ram (no w) = after (Err w) s ram
 
 -- a tried step, and then a change of the state where it is done
 abbrev pub and_then : Try → (State → State) → Try
@@ -32,5 +32,5 @@ and_then (no w) f = no w
 
 -- what is tried with a value that was loaded; 5 where it is missing
 abbrev pub with_loaded : Loaded → (ℕ → Try) → Try
-with_loaded (loaded.Value v) f = f v
-with_loaded (loaded.Missing x) f = no (Missing x)
+with_loaded (Ok v) f = f v
+with_loaded (Err byte) f = no (Missing byte.0)

@@ -12,7 +12,6 @@ use borrow.Author.Tests.{eqb-true, eqb-false, ltb-true, ltb-false}
 use Rattle.little.specs.declared.Size.{Size}
 use Rattle.little.specs.declared.Size.TheVariants.{Byte, Word, Long}
 use Rattle.little.specs.Width.{bytes_of, bits_of}
-use Rattle.memory.specs.declared.Loaded.TheVariants.{Value}
 use Rattle.flags.specs.declared.Flags.{Flags}
 use Rattle.state.specs.declared.Bank.{Bank}
 use Rattle.state.specs.declared.State.{State}
@@ -30,6 +29,7 @@ use Rattle.code.proofs.Holds.{that_so}
 use Rattle.operand.specs.Try.{did}
 use Rattle.operand.specs.Flag.{flagged}
 use Rattle.operand.specs.Operand.{value_in, value_at, put_at}
+use Rattle.std.proofs.Common.{Ok}
 
 -- ---- which part an operand is
 abbrev pub code_in : Size → Operand → ℕ
@@ -47,9 +47,9 @@ names s z (Named c) h = (omega arith, h.0, that_so (is_named (bytes_of z) c) h.1
 names s z (Constant n) h = absurd h
 names s z (Memory m) h = absurd h
 
-pub value_is : (s : State) (ram rom : List ℕ) (z : Size) (o : Operand) → InRegisters z o → value_at s ram rom z o ≡ Value (held_in s.registers (part s z o))
+pub value_is : (s : State) (ram rom : List ℕ) (z : Size) (o : Operand) → InRegisters z o → value_at s ram rom z o ≡ Ok (held_in s.registers (part s z o))
 unfolding value_in
-value_is s ram rom z (Register r) h = ap Value ((plain_names s.bank z r).0 s.registers)
+value_is s ram rom z (Register r) h = ap Ok ((plain_names s.bank z r).0 s.registers)
 value_is s ram rom z (Named c) h = refl
 value_is s ram rom z (Constant n) h = absurd h
 value_is s ram rom z (Memory m) h = absurd h

@@ -7,7 +7,6 @@ use native.Mathlib.Omega.{arith}
 use native.Mathlib.Nat.{mod-lt, mod-mod, mod-add-mod, mod-eq_of_lt, add-zero, zero-add, add_assoc}
 use native.Mathlib.Numerals.{add-one}
 use lib.ListN.{length, length-append}
-use Rattle.answer.specs.declared.Answer.TheVariants.{Done}
 use Rattle.memory.specs.Access.{code_at, code_from}
 use Rattle.memory.specs.Place.{place_of}
 use Rattle.memory.specs.declared.Place.{Place}
@@ -40,6 +39,7 @@ use Rattle.run.proofs.Laws.{try_once, run_goes, still_passes}
 use Rattle.run.proofs.Joins.{run_is_steps}
 use Rattle.run.proofs.Steps.{back_at}
 use Rattle.patch.specs.Piece.{in_a_row, CodeBegins, CanStand, ButCounter, Makes, PieceMakes, FitsMemory, PieceSettled, PiecesJoin, PatchesTurn, PatchesJoin, PatchesChain, PieceRuns, PatchKeeps}
+use Rattle.std.proofs.Common.{Ok}
 
 -- ---- the counter
 again : (s : State) (a b : ℕ) → with_counter (with_counter s a) b ≡ with_counter s b
@@ -176,7 +176,7 @@ pieces_join (c ∷ p) q s t u (v, m, ms) w = (v, m, pieces_join p q v t u ms w)
 kept_whole : (s t : State) (ram rom m : List ℕ) → Whole s → try_of s ram rom ≡ did t m → Whole t
 unfolding step_of
 kept_whole s t ram rom m w e =
-    let d : step_of s ram rom ≡ after Done t m = ap (leaves s ram) e in
+    let d : step_of s ram rom ≡ after (Ok tt) t m = ap (leaves s ram) e in
     let k = keeps_valid s ram rom (ap (λ (o : Outcome). o.answer) d) in
     let same : (step_of s ram rom).state ≡ t = ap (λ (o : Outcome). o.state) d in
     subst Whole same (valid_says _ k.0, k.2 w.1)
@@ -217,17 +217,17 @@ behind ram rom at code (x ∷ more) h (rest, e) =
     (rest, ap (code_at ram rom) (mod-eq_of_lt o.0) ∙ o.1)
 
 module _ (ram rom : List ℕ) (w : Within ram rom) where
-  run_none : (s : State) → valid_of s ≡ true → run_of 0 s ram rom ≡ ends 0 s ram Done
+  run_none : (s : State) → valid_of s ≡ true → run_of 0 s ram rom ≡ ends 0 s ram (Ok tt)
   run_none s v = run_goes s ram rom 0 (omega arith) (not_long (length ram) (length rom) w.0 w.1) v ∙ many_none 0 s ram rom
 
   runs :
       (piece : List (List ℕ)) (s t : State) (at : ℕ) → PieceMakes piece s t → valid_of (with_counter s at) ≡ true → length piece ≤ most_steps → at < 2 ^ 24 →
-      CodeBegins ram rom at (in_a_row piece) → run_of (length piece) (with_counter s at) ram rom ≡ ends (length piece) (with_counter t (at + length (in_a_row piece))) ram Done
+      CodeBegins ram rom at (in_a_row piece) → run_of (length piece) (with_counter s at) ram rom ≡ ends (length piece) (with_counter t (at + length (in_a_row piece))) ram (Ok tt)
   unfolding PieceMakes in_a_row
   runs [] s t at e v n l stands =
       run_none (with_counter s at) v
-      ∙ ap (λ (x : State). ends 0 x ram Done) (same_at s t e at)
-      ∙ ap (λ (x : ℕ). ends 0 (with_counter t x) ram Done) (sym (add-zero at))
+      ∙ ap (λ (x : State). ends 0 x ram (Ok tt)) (same_at s t e at)
+      ∙ ap (λ (x : ℕ). ends 0 (with_counter t x) ram (Ok tt)) (sym (add-zero at))
   runs (code ∷ piece) s t at (u, p, ps) v n l (rest, e) =
       let c = at + length code in
       let d = c % 2 ^ 24 in
@@ -243,8 +243,8 @@ module _ (ram rom : List ℕ) (w : Within ram rom) where
       ∙ (run_is_steps (with_counter s at) ram rom k (omega arith)).0 (with_counter u c) ram first
       ∙ ap (λ (x : State). later 1 (run_of k x ram rom)) moved
       ∙ ap (later 1) rests
-      ∙ ap (λ (x : State). ends (1 + k) x ram Done) (same_counter t (d + length (in_a_row piece)) (at + length (code ++ in_a_row piece)) far)
-      ∙ ap (λ (x : ℕ). ends x (with_counter t (at + length (code ++ in_a_row piece))) ram Done) (omega arith)
+      ∙ ap (λ (x : State). ends (1 + k) x ram (Ok tt)) (same_counter t (d + length (in_a_row piece)) (at + length (code ++ in_a_row piece)) far)
+      ∙ ap (λ (x : ℕ). ends x (with_counter t (at + length (code ++ in_a_row piece))) ram (Ok tt)) (omega arith)
 
 pub piece_runs : PieceRuns
 piece_runs piece s t ram rom p ok n stands =

@@ -1,7 +1,6 @@
 -- Pieces of code, as a patcher writes them, and what they leave (request K10). The counter is left out, and the code is taken to be there.
 -- Each statement is proved in proofs/Pieces.antt.
-use Rattle.std.specs.Prelude.{ℕ, ◌+◌, ◌<◌, ◌≤◌, ◌^◌, ◌≡◌, List, [], ◌∷◌, ◌++◌, length, true}
-use Rattle.answer.specs.declared.Answer.TheVariants.{Done}
+use Rattle.std.specs.Prelude.{ℕ, ◌+◌, ◌<◌, ◌≤◌, ◌^◌, ◌≡◌, List, [], ◌∷◌, ◌++◌, length, true, Ok}
 use Rattle.memory.specs.Access.{code_at}
 use Rattle.state.specs.{declared.State.State, State.valid_of, State.with_counter, Sound.Sound}
 use Rattle.operand.specs.Try.{did}
@@ -74,7 +73,7 @@ abbrev pub PieceRuns : Type 0
 PieceRuns =
     (piece : List (List ℕ)) (s t : State) (ram rom : List ℕ) → PieceMakes piece s t → Passed s ram rom → length piece ≤ most_steps →
     CodeBegins ram rom s.counter (in_a_row piece) →
-    run_of (length piece) s ram rom ≡ ends (length piece) (with_counter t (s.counter + length (in_a_row piece))) ram Done
+    run_of (length piece) s ram rom ≡ ends (length piece) (with_counter t (s.counter + length (in_a_row piece))) ram (Ok tt)
 
 -- a piece at an address in two memories, which a run may begin at
 pub record Ready (piece : List (List ℕ)) (at : ℕ) (ram rom : List ℕ) : Type 0 where
@@ -90,5 +89,5 @@ PatchKeeps =
     (before after : List (List ℕ)) (s : State) (at at' : ℕ) (ram rom ram' rom' : List ℕ) → LeaveSame before after → Sound s → valid_of s ≡ true →
     Ready before at ram rom → Ready after at' ram' rom' →
     (t : State)
-    × (run_of (length before) (with_counter s at) ram rom ≡ ends (length before) (with_counter t (at + length (in_a_row before))) ram Done)
-    × (run_of (length after) (with_counter s at') ram' rom' ≡ ends (length after) (with_counter t (at' + length (in_a_row after))) ram' Done)
+    × (run_of (length before) (with_counter s at) ram rom ≡ ends (length before) (with_counter t (at + length (in_a_row before))) ram (Ok tt))
+    × (run_of (length after) (with_counter s at') ram' rom' ≡ ends (length after) (with_counter t (at' + length (in_a_row after))) ram' (Ok tt))

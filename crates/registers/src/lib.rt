@@ -8,7 +8,7 @@ ghost use Rattle.code.specs.Registers.{register_rows, places_rows, shift_kind};
 ghost use Rattle.code.specs.inner.Parts.{register_as, begins_register, register_size, register_begun, chosen_as, Chooses, behind_of};
 
 use alu::{Change, Shift};
-use code::{Chosen, Found, OfRegister, Op, Operand, Use};
+use code::{Chosen, OfRegister, Op, Operand, Use};
 use little::Size;
 use number::arith_of;
 use state::named::is_named;
@@ -77,10 +77,10 @@ fn case_00(code: &[u8], size: Size, c: u8) -> OfRegister
     ensures { (o : Operand) → register_as result size o code.now ≡ judge (lookup (register_rows size o) c) code.now 2 }
 {
     if c == 3 {
-        let n = little::bytes(size);
+        let n = size.bytes();
         return match number::number(code, 2, n) {
-            Found::Value(v) => OfRegister::Number(v, 2 + n),
-            Found::Missing => OfRegister::Short,
+            Some(v) => OfRegister::Number(v, 2 + n),
+            None => OfRegister::Short,
         };
     }
     OfRegister::Unlisted
@@ -91,10 +91,10 @@ fn compute_constant(code: &[u8], size: Size, c: u8) -> OfRegister
     requires { (2 ≤ length code.now) × (c / 8 ≡ 25) }
     ensures { (o : Operand) → register_as result size o code.now ≡ judge (lookup (register_rows size o) c) code.now 2 }
 {
-    let n = little::bytes(size);
+    let n = size.bytes();
     match number::number(code, 2, n) {
-        Found::Value(v) => OfRegister::With(arith_of(c % 8), v, 2 + n),
-        Found::Missing => OfRegister::Short,
+        Some(v) => OfRegister::With(arith_of(c % 8), v, 2 + n),
+        None => OfRegister::Short,
     }
 }
 

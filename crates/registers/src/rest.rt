@@ -6,7 +6,7 @@ ghost use Rattle.code.specs.Rows.{lookup, by_rows};
 ghost use Rattle.code.specs.Registers.{is_low, scale_kind, stride_kind, table_rows, feed_rows};
 ghost use Rattle.code.specs.inner.Parts.{feed_as, cycle_as};
 
-use code::{Found, OfFeed, Operand};
+use code::{OfFeed, Operand};
 use feed::cycle::{Cycle, Stride, is_table};
 use feed::scale::Scale;
 use little::Size;
@@ -74,10 +74,10 @@ fn case_08(code: &[u8], size: Size, half: bool, c: u8) -> OfFeed
         return OfFeed::Unlisted;
     }
     if half {
-        let n = little::bytes(size);
+        let n = size.bytes();
         return match number::number(code, 2, n) {
-            Found::Value(v) => OfFeed::ScaledWith(scale_of(c % 4), v, 2 + n),
-            Found::Missing => OfFeed::Short,
+            Some(v) => OfFeed::ScaledWith(scale_of(c % 4), v, 2 + n),
+            None => OfFeed::Short,
         };
     }
     OfFeed::Unlisted

@@ -1,7 +1,5 @@
 -- Laws of taking a request.
-use Rattle.std.proofs.Common.{◌≡◌, ℕ, ◌+◌, ◌%◌, ◌^◌, Bool, true, false, cond, not, ◌&&◌, ◌||◌, ltb, leb, List, length, sym, refl, ap, ◌∙◌, ap₂, arith, ltb-true, leb-true}
-use Rattle.answer.specs.declared.Answer.{Answer}
-use Rattle.answer.specs.declared.Answer.TheVariants.{Done, Refused}
+use Rattle.std.proofs.Common.{◌≡◌, ℕ, ◌+◌, ◌%◌, ◌^◌, Bool, true, false, cond, not, ◌&&◌, ◌||◌, ltb, leb, List, length, sym, refl, ap, ◌∙◌, ap₂, arith, ltb-true, leb-true, Ok, Err}
 use Rattle.answer.specs.declared.Why.{Why}
 use Rattle.state.specs.declared.State.{State}
 use Rattle.state.specs.State.{valid_of, with_counter, with_level, with_nesting}
@@ -15,6 +13,7 @@ use Rattle.step.specs.Step.{too_long, guarded}
 use Rattle.request.specs.declared.Requested.{Requested}
 use Rattle.request.specs.Request.{bad_request, takes, raised_to, entered, return_address, taken_of, offered_of, request_of, if_done, took_of, RequestMeets}
 use Rattle.request.specs.inner.Taking.{Takes, pushed_of}
+use Rattle.answer.specs.Number.{Answer}
 
 -- the mask is one of eight
 raised_fits : (level : ℕ) → raised_to level % 8 ≡ raised_to level
@@ -37,9 +36,9 @@ entered_is s level vector =
 -- a push that is refused leaves the state as it was, whatever would have come after it
 pub refused_by :
     (s u : State) (ram m : List ℕ) (a : Answer) (w : Why) (t : Try) (f : State → State) →
-    after a u m ≡ leaves s ram t → a ≡ Refused w → after a s m ≡ leaves s ram (and_then t f)
+    after a u m ≡ leaves s ram t → a ≡ Err w → after a s m ≡ leaves s ram (and_then t f)
 refused_by s u ram m a w (did v n) f e d =
-    let b : a ≡ Done = ap (λ (o : Outcome). o.answer) e in
+    let b : a ≡ (Ok tt) = ap (λ (o : Outcome). o.answer) e in
     let z : ◌≡◌ {A = ℕ} 0 1 = cc in
     absurd (omega arith)
 refused_by s u ram m a w (no x) f e d = rw (ap (λ (o : Outcome). o.answer) e, ap (λ (o : Outcome). o.ram) e) refl

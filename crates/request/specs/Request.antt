@@ -1,13 +1,14 @@
 -- A request for an interrupt, offered to the machine between two steps (request K8).
-use Rattle.std.specs.Prelude.{ℕ, ◌+◌, ◌*◌, ◌^◌, ◌≡◌, List, Bool, false, cond, not, ◌&&◌, ◌||◌, leb, ltb, eqb}
+use Rattle.std.specs.Prelude.{ℕ, ◌+◌, ◌*◌, ◌^◌, ◌≡◌, List, Bool, false, cond, not, ◌&&◌, ◌||◌, leb, ltb, eqb, Ok, Err}
 use Rattle.little.specs.declared.Size.TheVariants.{Long}
-use Rattle.answer.specs.declared.{Answer.Answer, Answer.TheVariants.Done, Answer.TheVariants.Refused, Why.TheVariants.BadRequest}
+use Rattle.answer.specs.declared.{Why.TheVariants.BadRequest}
 use Rattle.memory.specs.Access.{load_of}
 use Rattle.state.specs.{declared.State.State, State.with_counter, State.with_level, State.with_nesting, Sr.sr_of}
 use Rattle.operand.specs.{Try.Try, Try.did, Try.no, Try.and_then, Try.with_loaded, Try.Outcome, Try.after, Try.leaves, Round.plus}
 use Rattle.stack.specs.Stack.{push_bytes}
 use Rattle.step.specs.Step.{guarded}
 use Rattle.request.specs.declared.Requested.{Requested}
+use Rattle.answer.specs.Number.{Answer}
 
 -- 9: the level is not 1 to 7, or the vector's address is 2^24 or more
 abbrev pub bad_request : ℕ → ℕ → Bool
@@ -51,8 +52,8 @@ request_of level address s ram rom = leaves s ram (offered_of level address s ra
 
 -- whether it was taken: the mask lets it in, and it is not refused
 abbrev pub if_done : Answer → Bool → Bool
-if_done Done b = b
-if_done (Refused w) b = false
+if_done (Ok _) b = b
+if_done (Err w) b = false
 
 unfoldable pub took_of : ℕ → ℕ → State → List ℕ → List ℕ → Bool
 took_of level address s ram rom = if_done (request_of level address s ram rom).answer (takes s.level.0 level)

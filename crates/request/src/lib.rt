@@ -10,7 +10,6 @@ ghost use Rattle.request.specs.inner.Taking.{Takes, pushed_of};
 
 use answer::{Answer, Why};
 use little::ADDRESSES;
-use memory::Loaded;
 use state::status::sr;
 use state::{Level, State};
 
@@ -65,11 +64,10 @@ fn enter(s: State, ram: &mut [u8], rom: &[u8], level: Level, vector: u32) -> Req
 {
     let mut regs = s.registers;
     let b = s.bank;
-    let a = stack::push_six(b, &mut regs, ram, rom, sr(s), s.counter);
-    if let Answer::Refused(_) = a {
-        return untaken(s, a);
+    if let Err(why) = stack::push_six(b, &mut regs, ram, rom, sr(s), s.counter) {
+        return untaken(s, Err(why));
     }
-    let nesting = std::num::wrapping_add_u16(s.nesting, 1);
+    let nesting = s.nesting.wrapping_add(1);
     let t = state::whole(
         regs,
         vector % ADDRESSES,
@@ -82,7 +80,7 @@ fn enter(s: State, ram: &mut [u8], rom: &[u8], level: Level, vector: u32) -> Req
     Requested {
         state: t,
         taken: true,
-        answer: Answer::Done,
+        answer: Ok(()),
     }
 }
 
@@ -93,8 +91,8 @@ fn take(s: State, ram: &mut [u8], rom: &[u8], level: Level, vector: u32) -> Requ
         s ram.old result ram.new }
 {
     match memory::load_vector(&*ram, rom, vector) {
-        Loaded::Value(v) => enter(s, ram, rom, level, v),
-        Loaded::Missing(a) => untaken(s, Answer::Refused(Why::Missing(a))),
+        Ok(v) => enter(s, ram, rom, level, v),
+        Err(byte) => untaken(s, Err(Why::from(byte))),
     }
 }
 
@@ -103,17 +101,17 @@ pub fn request(s: State, ram: &mut [u8], rom: &[u8], level: u32, vector: u32) ->
     ensures { RequestMeets level vector s ram.old rom.now result ram.new }
 {
     if step::too_long(ram.len(), rom.len()) {
-        return untaken(s, Answer::Refused(Why::TooLong));
+        return untaken(s, Err(Why::TooLong));
     }
     if !s.valid() {
-        return untaken(s, Answer::Refused(Why::Invalid));
+        return untaken(s, Err(Why::Invalid));
     }
     if bad(level, vector) {
-        return untaken(s, Answer::Refused(Why::BadRequest));
+        return untaken(s, Err(Why::BadRequest));
     }
     let l = Level((level % 8) as u8);
     if admits(s.level, l) {
         return take(s, ram, rom, l, vector);
     }
-    untaken(s, Answer::Done)
+    untaken(s, Ok(()))
 }

@@ -1,11 +1,14 @@
 -- How a writing ends, and both ends of a list's length.
 use Prim.Native.Nat.{ℕ, zero, suc, ◌<◌, ◌≤◌}
 use mathlib.Core.Path.{◌≡◌, refl, ap, sym, ◌∙◌}
-use mathlib.Core.Bool.{Bool, true, false, ◌&&◌}
+use mathlib.Core.Bool.{Bool, true, false}
 use mathlib.Core.List.{List, [], ◌∷◌, ◌++◌}
 use native.Mathlib.Omega.{arith}
 use lib.ListN.{length, get_or, replicate, length-replicate}
 use lib.Dec.{leb}
+use Rattle.std.specs.Prelude.{Ok}
+use Rattle.std.proofs.Math.Bool.{and-false}
+use Rattle.std.proofs.lemmas.List.Recursion.{and_fails_at}
 use borrow.Author.Tests.{le-leb, lt-leb}
 use Rattle.code.specs.declared.Instruction.{Instruction}
 use Rattle.code.specs.Written.{code_of}
@@ -16,10 +19,6 @@ use Rattle.row.proofs.Through.{read_none}
 use Rattle.row.proofs.Finds.{reads_again, read_refused}
 use Rattle.row.proofs.Laws.{few_in_row}
 use Rattle.little.specs.Bytes.{Bytes}
-
-and-false : (a : Bool) → a && false ≡ false
-and-false true = refl
-and-false false = refl
 
 pub write_ends : WriteEnds
 unfolding end_of can_write
@@ -44,9 +43,7 @@ somewhere (i ∷ l) h = go (λ (e : all_listed l ≡ false). somewhere l e) (is_
 
 there : (l : List Instruction) (k : ℕ) → k < length l → is_listed (get_or l k blank) ≡ false → all_listed l ≡ false
 unfolding all_listed
-there [] k h e = let y : ⊥ = omega arith in absurd y
-there (i ∷ l) zero h e = rw e refl
-there (i ∷ l) (suc k) h e = rw (there l k (omega arith) e) (and-false (is_listed i))
+there l k h e = and_fails_at all_listed is_listed refl (λ x xs. refl) l k blank h e
 
 pub not_listed : NotListed
 not_listed l = (somewhere l, λ w. there l w.0 w.1 w.2)
@@ -93,9 +90,9 @@ ends =
     let few : length (replicate 64 blank) ≤ most = omega (arith, length-replicate 64 blank) in
     let many : most < length (replicate 65 blank) = omega (arith, length-replicate 65 blank) in
     let behind : replicate 65 0 ≡ row_of (replicate 64 blank) ++ (0 ∷ []) = rw (nops_row 64) refl in (
-      none.3 (omega arith) none_listed (rw none_row (omega arith)),
+      none.3 (omega arith) none_listed (rw none_row (omega arith)) ∙ ap (λ (s : List ℕ). Ok (length s)) none_row,
       read_none most [] refl,
-      (full 64).3 few can (omega arith),
+      (full 64).3 few can (omega arith) ∙ ap (λ (n : ℕ). Ok n) long,
       (full 63).2 few can (omega arith),
       rw (← nops_row 64) (reads_again (replicate 64 blank) nops_can),
       (over 64).0 many,

@@ -1,7 +1,6 @@
 -- The reading finds the one list that the code is, or the one place where it cannot go on.
 use Prim.Native.Nat.{ℕ, zero, suc, ◌<◌, ◌≤◌}
 use mathlib.Core.Path.{◌≡◌, refl, ap, sym, ◌∙◌}
-use mathlib.Core.Bool.{true, false}
 use mathlib.Core.List.{List, [], ◌∷◌, ◌++◌, append_assoc}
 use mathlib.Core.Logic.{inl, inr, ◌⊎◌}
 use native.Mathlib.Omega.{arith}
@@ -17,16 +16,14 @@ use Rattle.code.specs.declared.Decoded.TheVariants as decoded
 use Rattle.code.specs.Listed.{decode_of}
 use Rattle.code.proofs.Holds.{both_true}
 use Rattle.code.proofs.Walked.{length_fits, bytes_drop}
-use Rattle.encode.specs.declared.Ended.{Ended}
-use Rattle.encode.specs.declared.Ended.TheVariants.{Done, Short, Unlisted, NoList, NoRoom}
-use Rattle.encode.specs.One.{bytes_in, is_done}
-use Rattle.row.specs.Row.{most, row_of, all_listed, can_write, Row, refused_row, before, read_of}
+use Rattle.std.specs.Prelude.{Ok, Err}
+use Rattle.encode.specs.declared.Refusal.{Refusal}
+use Rattle.encode.specs.declared.Refusal.TheVariants.{Short, Unlisted, NoList, NoRoom}
+use Rattle.encode.specs.One.{bytes_in}
+use Rattle.row.specs.Row.{most, row_of, all_listed, can_write, Reading, before, row_read}
 use Rattle.row.specs.Statements.{ReadsAs, ReadFinds, ReadsAgain, Begins, ReadRefused}
 use Rattle.row.proofs.Through.{before_refused, read_none, read_full, read_whole, read_short, read_unlisted}
 use Rattle.row.proofs.Laws.{reads_back, read_is_listed, written_reads, as_long, all_so, all_of}
-
-abbrev done_row : List Instruction → Row
-done_row l = record { ended = Done; list = l }
 
 no_byte_lem : (s : List ℕ) → length s ≡ 0 → s ≡ []
 no_byte_lem [] z = refl
@@ -36,41 +33,22 @@ none_or_some : (s : List ℕ) → (length s ≡ 0) ⊎ (0 < length s)
 none_or_some [] = inl refl
 none_or_some (b ∷ s) = inr (omega arith)
 
--- what is not done is no end that is
-apart : (x : Ended) → is_done x ≡ false → x ≡ Done → ⊥
-apart x d e =
-    let u : true ≡ false = sym (ap is_done e) ∙ d in
-    let z : ◌≡◌ {A = ℕ} 0 1 = cc in
-    omega arith
-
 -- ---- what is told of a row tells of the rest of it
-rest_done : (i : Instruction) (r : Row) (l : List Instruction) → before (i ∷ []) r ≡ done_row l → (m : List Instruction) × (r ≡ done_row m) × (l ≡ i ∷ m)
+rest_done : (i : Instruction) (r : Reading) (l : List Instruction) → before (i ∷ []) r ≡ Ok l → (m : List Instruction) × (r ≡ Ok m) × (l ≡ i ∷ m)
 unfolding before
-rest_done i r l e = go r.ended r.list e
-  where
-    go : (x : Ended) (k : List Instruction) → before (i ∷ []) (record { ended = x; list = k }) ≡ done_row l → (m : List Instruction) × (◌≡◌ {A = Row} (record { ended = x; list = k }) (done_row m)) × (l ≡ i ∷ m)
-    go Done k e = (k, refl, ap (λ (t : Row). t.list) (sym e))
-    go Short k e = absurd (apart Short refl (ap (λ (t : Row). t.ended) e))
-    go Unlisted k e = absurd (apart Unlisted refl (ap (λ (t : Row). t.ended) e))
-    go NoList k e = absurd (apart NoList refl (ap (λ (t : Row). t.ended) e))
-    go NoRoom k e = absurd (apart NoRoom refl (ap (λ (t : Row). t.ended) e))
+rest_done i (Ok m) l e = (m, refl, cc)
+rest_done i (Err why) l e = absurd (cc)
 
-rest_refused : (i : Instruction) (r : Row) (x : Ended) → is_done x ≡ false → before (i ∷ []) r ≡ refused_row x → r ≡ refused_row x
+rest_refused : (i : Instruction) (r : Reading) (x : Refusal) → before (i ∷ []) r ≡ Err x → r ≡ Err x
 unfolding before
-rest_refused i r x d e = go r.ended r.list e
-  where
-    go : (y : Ended) (k : List Instruction) → before (i ∷ []) (record { ended = y; list = k }) ≡ refused_row x → ◌≡◌ {A = Row} (record { ended = y; list = k }) (refused_row x)
-    go Done k e = absurd (apart x d (sym (ap (λ (t : Row). t.ended) e)))
-    go Short k e = e
-    go Unlisted k e = e
-    go NoList k e = e
-    go NoRoom k e = e
+rest_refused i (Ok m) x e = absurd (cc)
+rest_refused i (Err why) x e = e
 
-not_done : (l : List Instruction) (x : Ended) → is_done x ≡ false → done_row l ≡ refused_row x → ⊥
-not_done l x d e = apart x d (sym (ap (λ (t : Row). t.ended) e))
+not_done : (l : List Instruction) (x : Refusal) → ◌≡◌ {A = Reading} (Ok l) (Err x) → ⊥
+not_done l x e = cc
 
 -- ---- the list that is found
-finds : (n : ℕ) (s : List ℕ) (l : List Instruction) → ReadsAs s l → length l ≤ n → read_of n s ≡ done_row l
+finds : (n : ℕ) (s : List ℕ) (l : List Instruction) → ReadsAs s l → length l ≤ n → row_read n s ≡ Ok l
 unfolding before
 finds n s [] r h = read_none n s (ap length r)
 finds zero s (i ∷ l) r h = let y : ⊥ = omega arith in absurd y
@@ -80,22 +58,25 @@ finds (suc n) s (i ∷ l) r h =
 
 -- with what is known of the rest of the code, in which one fewer can be held
 found_with :
-    (n : ℕ) (s : List ℕ) (l : List Instruction) → ((t : List ℕ) (m : List Instruction) → read_of n t ≡ done_row m → ReadsAs t m × (length m ≤ n)) →
-    0 < length s → (d : Decoded) → decode_of s ≡ d → read_of (suc n) s ≡ done_row l → ReadsAs s l × (length l ≤ suc n)
+    (n : ℕ) (s : List ℕ) (l : List Instruction) → ((t : List ℕ) (m : List Instruction) → row_read n t ≡ Ok m → ReadsAs t m × (length m ≤ n)) →
+    0 < length s → (d : Decoded) → decode_of s ≡ d → row_read (suc n) s ≡ Ok l → ReadsAs s l × (length l ≤ suc n)
 found_with n s l rest h (Whole i) f e =
-    let x = rest_done i (read_of n (drop i.length s)) l (sym (read_whole n s i h f) ∙ e) in
+    let x = rest_done i (row_read n (drop i.length s)) l (sym (read_whole n s i h f) ∙ e) in
     let y = rest (drop i.length s) x.0 x.1 in
     rw x.2 ((f, y.0), omega arith)
-found_with n s l rest h decoded.Short f e = absurd (not_done l Short refl (sym e ∙ read_short n s h f))
-found_with n s l rest h decoded.Unlisted f e = absurd (not_done l Unlisted refl (sym e ∙ read_unlisted n s h f))
+found_with n s l rest h decoded.Short f e = absurd (not_done l Short (sym e ∙ read_short n s h f))
+found_with n s l rest h decoded.Unlisted f e = absurd (not_done l Unlisted (sym e ∙ read_unlisted n s h f))
 
-found_none : (n : ℕ) (s : List ℕ) (l : List Instruction) → length s ≡ 0 → read_of n s ≡ done_row l → ReadsAs s l × (length l ≤ n)
+none_there : {l : List Instruction} → ◌≡◌ {A = Reading} (Ok l) (Ok []) → l ≡ []
+none_there e = cc
+
+found_none : (n : ℕ) (s : List ℕ) (l : List Instruction) → length s ≡ 0 → row_read n s ≡ Ok l → ReadsAs s l × (length l ≤ n)
 found_none n s l z e =
-    let k : l ≡ [] = ap (λ (r : Row). r.list) (sym e ∙ read_none n s z) in
+    let k : l ≡ [] = none_there (sym e ∙ read_none n s z) in
     rw k (no_byte_lem s z, omega arith)
 
-found : (n : ℕ) (s : List ℕ) (l : List Instruction) → read_of n s ≡ done_row l → ReadsAs s l × (length l ≤ n)
-found zero s l e = elim (none_or_some s) [ inl z ↦ found_none 0 s l z e | inr h ↦ absurd (not_done l NoList refl (sym e ∙ read_full s h)) ]
+found : (n : ℕ) (s : List ℕ) (l : List Instruction) → row_read n s ≡ Ok l → ReadsAs s l × (length l ≤ n)
+found zero s l e = elim (none_or_some s) [ inl z ↦ found_none 0 s l z e | inr h ↦ absurd (not_done l NoList (sym e ∙ read_full s h)) ]
 found (suc n) s l e = elim (none_or_some s) [ inl z ↦ found_none (suc n) s l z e | inr h ↦ found_with n s l (found n) h (decode_of s) refl e ]
 
 pub read_finds : ReadFinds
@@ -107,19 +88,20 @@ reads_again l h =
     let b = both_true (leb (length l) most) (all_listed l) h in
     finds most (row_of l) l (written_reads l b.1) (leb-true (length l) most b.0)
 
+same_refusal : {x y : Refusal} → ◌≡◌ {A = Reading} (Err x) (Err y) → x ≡ y
+same_refusal e = cc
+
 -- ---- where it cannot go on: what forces the end x behind k instructions, where n can be held
-abbrev Forces : ℕ → ℕ → List ℕ → Ended → Type 0
-Forces n k t Done = ⊥
+abbrev Forces : ℕ → ℕ → List ℕ → Refusal → Type 0
 Forces n k t Short = (k < n) × (decode_of t ≡ decoded.Short)
 Forces n k t Unlisted = (k < n) × (decode_of t ≡ decoded.Unlisted)
 Forces n k t NoList = k ≡ n
 Forces n k t NoRoom = ⊥
 
-abbrev Stops : ℕ → List ℕ → Ended → Type 0
+abbrev Stops : ℕ → List ℕ → Refusal → Type 0
 Stops n s x = (l : List Instruction) × (t : List ℕ) × Begins s l t × Forces n (length l) t x
 
-one_more : (n k : ℕ) (t : List ℕ) (x : Ended) → Forces n k t x → Forces (suc n) (suc k) t x
-one_more n k t Done f = f
+one_more : (n k : ℕ) (t : List ℕ) (x : Refusal) → Forces n k t x → Forces (suc n) (suc k) t x
 one_more n k t Short f = (omega arith, f.1)
 one_more n k t Unlisted f = (omega arith, f.1)
 one_more n k t NoList f = omega arith
@@ -136,29 +118,29 @@ begins_more s i l t b e g =
     (all_of i l one.0 g.0, one.1 ∙ ap (λ (r : List ℕ). bytes_in i ++ r) g.1 ∙ sym (append_assoc (bytes_in i) (row_of l) t), g.2)
 
 stops_with :
-    (n : ℕ) (s : List ℕ) (x : Ended) → ((t : List ℕ) → Bytes t → read_of n t ≡ refused_row x → Stops n t x) →
-    Bytes s → is_done x ≡ false → 0 < length s → (d : Decoded) → decode_of s ≡ d → read_of (suc n) s ≡ refused_row x → Stops (suc n) s x
-stops_with n s x rest b u h (Whole i) f e =
-    let r = rest (drop i.length s) (bytes_drop i.length s b) (rest_refused i (read_of n (drop i.length s)) x u (sym (read_whole n s i h f) ∙ e)) in
+    (n : ℕ) (s : List ℕ) (x : Refusal) → ((t : List ℕ) → Bytes t → row_read n t ≡ Err x → Stops n t x) →
+    Bytes s → 0 < length s → (d : Decoded) → decode_of s ≡ d → row_read (suc n) s ≡ Err x → Stops (suc n) s x
+stops_with n s x rest b h (Whole i) f e =
+    let r = rest (drop i.length s) (bytes_drop i.length s b) (rest_refused i (row_read n (drop i.length s)) x (sym (read_whole n s i h f) ∙ e)) in
     (i ∷ r.0, r.1, begins_more s i r.0 r.1 b f r.2, one_more n (length r.0) r.1 x r.3)
-stops_with n s x rest b u h decoded.Short f e =
-    let k : Short ≡ x = ap (λ (r : Row). r.ended) (sym (read_short n s h f) ∙ e) in
+stops_with n s x rest b h decoded.Short f e =
+    let k : Short ≡ x = same_refusal (sym (read_short n s h f) ∙ e) in
     ([], s, begins_none s h, rw (sym k) (omega arith, f))
-stops_with n s x rest b u h decoded.Unlisted f e =
-    let k : Unlisted ≡ x = ap (λ (r : Row). r.ended) (sym (read_unlisted n s h f) ∙ e) in
+stops_with n s x rest b h decoded.Unlisted f e =
+    let k : Unlisted ≡ x = same_refusal (sym (read_unlisted n s h f) ∙ e) in
     ([], s, begins_none s h, rw (sym k) (omega arith, f))
 
-stops_none : (n : ℕ) (s : List ℕ) (x : Ended) → is_done x ≡ false → length s ≡ 0 → read_of n s ≡ refused_row x → Stops n s x
-stops_none n s x u z e = absurd (not_done [] x u (sym (read_none n s z) ∙ e))
+stops_none : (n : ℕ) (s : List ℕ) (x : Refusal) → length s ≡ 0 → row_read n s ≡ Err x → Stops n s x
+stops_none n s x z e = absurd (not_done [] x (sym (read_none n s z) ∙ e))
 
-stops : (n : ℕ) (s : List ℕ) (x : Ended) → is_done x ≡ false → Bytes s → read_of n s ≡ refused_row x → Stops n s x
-stops zero s x u b e =
+stops : (n : ℕ) (s : List ℕ) (x : Refusal) → Bytes s → row_read n s ≡ Err x → Stops n s x
+stops zero s x b e =
     elim (none_or_some s) [
-      | inl z ↦ stops_none 0 s x u z e
-      | inr h ↦ (let k : NoList ≡ x = ap (λ (r : Row). r.ended) (sym (read_full s h) ∙ e) in ([], s, begins_none s h, rw (sym k) refl))
+      | inl z ↦ stops_none 0 s x z e
+      | inr h ↦ (let k : NoList ≡ x = same_refusal (sym (read_full s h) ∙ e) in ([], s, begins_none s h, rw (sym k) refl))
     ]
-stops (suc n) s x u b e =
-    elim (none_or_some s) [ inl z ↦ stops_none (suc n) s x u z e | inr h ↦ stops_with n s x (λ t b. stops n t x u b) b u h (decode_of s) refl e ]
+stops (suc n) s x b e =
+    elim (none_or_some s) [ inl z ↦ stops_none (suc n) s x z e | inr h ↦ stops_with n s x (λ t b. stops n t x b) b h (decode_of s) refl e ]
 
 -- and where it is forced, it stops
 begun : (s : List ℕ) (i : Instruction) (l : List Instruction) (t : List ℕ) → Begins s (i ∷ l) t → (decode_of s ≡ Whole i) × Begins (drop i.length s) l t
@@ -169,8 +151,7 @@ begun s i l t g =
     let rest : drop i.length s ≡ row_of l ++ t = rw (as_long i b.0, e) (drop-append_seam (bytes_in i) (row_of l ++ t)) in
     (ap decode_of e ∙ reads_back i (row_of l ++ t) b.0, (b.1, rest, g.2))
 
-forced_first : (n : ℕ) (s : List ℕ) (x : Ended) → 0 < length s → Forces n 0 s x → read_of n s ≡ refused_row x
-forced_first n s Done h f = absurd f
+forced_first : (n : ℕ) (s : List ℕ) (x : Refusal) → 0 < length s → Forces n 0 s x → row_read n s ≡ Err x
 forced_first zero s Short h f = let y : ⊥ = omega arith in absurd y
 forced_first (suc n) s Short h f = read_short n s h f.1
 forced_first zero s Unlisted h f = let y : ⊥ = omega arith in absurd y
@@ -179,32 +160,30 @@ forced_first zero s NoList h f = read_full s h
 forced_first (suc n) s NoList h f = let y : ⊥ = omega arith in absurd y
 forced_first n s NoRoom h f = absurd f
 
-one_less : (n k : ℕ) (t : List ℕ) (x : Ended) → Forces (suc n) (suc k) t x → Forces n k t x
-one_less n k t Done f = f
+one_less : (n k : ℕ) (t : List ℕ) (x : Refusal) → Forces (suc n) (suc k) t x → Forces n k t x
 one_less n k t Short f = (omega arith, f.1)
 one_less n k t Unlisted f = (omega arith, f.1)
 one_less n k t NoList f = omega arith
 one_less n k t NoRoom f = f
 
-nothing_held : (k : ℕ) (t : List ℕ) (x : Ended) → Forces 0 (suc k) t x → ⊥
-nothing_held k t Done f = f
+nothing_held : (k : ℕ) (t : List ℕ) (x : Refusal) → Forces 0 (suc k) t x → ⊥
 nothing_held k t Short f = omega arith
 nothing_held k t Unlisted f = omega arith
 nothing_held k t NoList f = omega arith
 nothing_held k t NoRoom f = f
 
-forced : (n : ℕ) (s : List ℕ) (x : Ended) (l : List Instruction) (t : List ℕ) → is_done x ≡ false → Begins s l t → Forces n (length l) t x → read_of n s ≡ refused_row x
+forced : (n : ℕ) (s : List ℕ) (x : Refusal) (l : List Instruction) (t : List ℕ) → Begins s l t → Forces n (length l) t x → row_read n s ≡ Err x
 unfolding row_of
-forced n s x [] t u g f = rw g.1 (forced_first n t x g.2 f)
-forced zero s x (i ∷ l) t u g f = absurd (nothing_held (length l) t x f)
-forced (suc n) s x (i ∷ l) t u g f =
+forced n s x [] t g f = rw g.1 (forced_first n t x g.2 f)
+forced zero s x (i ∷ l) t g f = absurd (nothing_held (length l) t x f)
+forced (suc n) s x (i ∷ l) t g f =
     let b = begun s i l t g in
     let h = length_fits s i b.0 in
-    read_whole n s i (omega arith) b.0 ∙ ap (before (i ∷ [])) (forced n (drop i.length s) x l t u b.1 (one_less n (length l) t x f)) ∙ before_refused (i ∷ []) x u
+    read_whole n s i (omega arith) b.0 ∙ ap (before (i ∷ [])) (forced n (drop i.length s) x l t b.1 (one_less n (length l) t x f)) ∙ before_refused (i ∷ []) x
 
 pub read_refused : ReadRefused
 read_refused s b = (
-  (λ e. let w = stops most s Short refl b e in (w.0, w.1, w.2, w.3.0, w.3.1), λ w. forced most s Short w.0 w.1 refl w.2 (w.3, w.4)),
-  (λ e. let w = stops most s Unlisted refl b e in (w.0, w.1, w.2, w.3.0, w.3.1), λ w. forced most s Unlisted w.0 w.1 refl w.2 (w.3, w.4)),
-  (stops most s NoList refl b, λ w. forced most s NoList w.0 w.1 refl w.2 w.3),
+  (λ e. let w = stops most s Short b e in (w.0, w.1, w.2, w.3.0, w.3.1), λ w. forced most s Short w.0 w.1 w.2 (w.3, w.4)),
+  (λ e. let w = stops most s Unlisted b e in (w.0, w.1, w.2, w.3.0, w.3.1), λ w. forced most s Unlisted w.0 w.1 w.2 (w.3, w.4)),
+  (stops most s NoList b, λ w. forced most s NoList w.0 w.1 w.2 w.3),
 )

@@ -1,4 +1,3 @@
-pub mod Sound
 pub mod Lists
 pub mod Through
 pub mod Laying

@@ -1,13 +1,13 @@
 -- A list of instructions in a row (request K11): its bytes, how a writing of them ends, and what a row of code is read as.
-use Rattle.std.specs.Prelude.{ℕ, zero, suc, ◌-◌, List, [], ◌∷◌, ◌++◌, Bool, true, ◌&&◌, cond, length, take, drop, replicate, leb, eqb}
+use Rattle.std.specs.Prelude.{ℕ, zero, suc, ◌-◌, List, [], ◌∷◌, ◌++◌, Bool, true, ◌&&◌, cond, length, take, drop, replicate, leb, eqb, Result, Ok, Err}
 use Rattle.little.specs.declared.Size.TheVariants.{Byte}
 use Rattle.code.specs.{declared.Instruction.Instruction, declared.Decoded.Decoded, Listed.decode_of}
 use Rattle.code.specs.declared.{Op.TheVariants.Controls, Control.TheVariants.Nop, Operand.TheVariants.Constant}
 use Rattle.code.specs.declared.Decoded.TheVariants.{Whole}
 use Rattle.code.specs.declared.Decoded.TheVariants as decoded
-use Rattle.encode.specs.{declared.Ended.Ended, One.bytes_in, One.is_listed, One.is_done}
-use Rattle.encode.specs.declared.Ended.TheVariants.{Done, Short, Unlisted, NoList}
-use Rattle.row.specs.declared.{Instructions.Instructions, Reading.Reading}
+use Rattle.encode.specs.{declared.Refusal.Refusal, One.bytes_in, One.is_listed}
+use Rattle.encode.specs.declared.Refusal.TheVariants.{Short, Unlisted, NoList}
+use Rattle.row.specs.declared.Instructions.{Instructions}
 
 -- a list has at most so many
 abbrev pub most : ℕ
@@ -27,32 +27,29 @@ all_listed (i ∷ l) = is_listed i && all_listed l
 unfoldable pub can_write : List Instruction → Bool
 can_write l = leb (length l) most && all_listed l
 
--- ---- what a code is read as: how that ended, and the list
-pub record Row : Type 0 where
-  pub ended : Ended
-  pub list : List Instruction
-
-abbrev pub refused_row : Ended → Row
-refused_row e = record { ended = e; list = [] }
+-- ---- what a code is read as: the list, or why there is none
+abbrev pub Reading : Type 0
+Reading = Result (List Instruction) Refusal
 
 -- instructions, and behind them what the rest is read as; nothing where that is refused
-unfoldable pub before : List Instruction → Row → Row
-before l r = cond (is_done r.ended) (record { ended = Done; list = l ++ r.list }) r
+unfoldable pub before : List Instruction → Reading → Reading
+before l (Ok m) = Ok (l ++ m)
+before l (Err why) = Err why
 
 -- what follows an instruction that was read; 3 or 4 where a byte forces it
-unfoldable pub behind_first : Decoded → (ℕ → Row) → Row
+unfoldable pub behind_first : Decoded → (ℕ → Reading) → Reading
 behind_first (Whole i) rest = before (i ∷ []) (rest i.length)
-behind_first decoded.Short rest = refused_row Short
-behind_first decoded.Unlisted rest = refused_row Unlisted
+behind_first decoded.Short rest = Err Short
+behind_first decoded.Unlisted rest = Err Unlisted
 
 -- nothing where no byte is left
-abbrev pub unless_ended : List ℕ → Row → Row
-unless_ended s r = cond (eqb (length s) 0) (record { ended = Done; list = [] }) r
+abbrev pub unless_ended : List ℕ → Reading → Reading
+unless_ended s r = cond (eqb (length s) 0) (Ok []) r
 
 -- from start to end, where n more can be held: 30 where bytes are left behind the last of them, which are not judged
-unfoldable pub read_of : ℕ → List ℕ → Row
-read_of zero s = unless_ended s (refused_row NoList)
-read_of (suc n) s = unless_ended s (behind_first (decode_of s) (λ k. read_of n (drop k s)))
+unfoldable pub row_read : ℕ → List ℕ → Reading
+row_read zero s = unless_ended s (Err NoList)
+row_read (suc n) s = unless_ended s (behind_first (decode_of s) (λ k. row_read n (drop k s)))
 
 -- ---- a list as it is held: the first `count` of 64 places. Where the count is more than 64, it is a list of more than 64
 abbrev pub list_in : Instructions → List Instruction
@@ -70,5 +67,6 @@ unfoldable pub held_as : List Instruction → Instructions
 held_as l = record { held = l ++ replicate (most - length l) blank; count = length l }
 
 -- what reading gives
-abbrev pub reading_of : Row → Reading
-reading_of r = record { ended = r.ended; list = held_as r.list }
+abbrev pub reading_of : Reading → Result Instructions Refusal
+reading_of (Ok l) = Ok (held_as l)
+reading_of (Err why) = Err why

@@ -1,12 +1,12 @@
 -- What is proved of lists and of rows of code, beside what each function promises. Each statement is proved in proofs/.
-use Rattle.std.specs.Prelude.{ℕ, ◌*◌, ◌<◌, ◌≤◌, ◌≡◌, Bool, true, false, ◌↔◌, List, [], ◌∷◌, ◌++◌, length, drop, get_or, replicate}
+use Rattle.std.specs.Prelude.{ℕ, ◌*◌, ◌<◌, ◌≤◌, ◌≡◌, Bool, true, false, ◌↔◌, List, [], ◌∷◌, ◌++◌, length, drop, get_or, replicate, Ok, Err}
 use Rattle.little.specs.Bytes.{Bytes}
 use Rattle.code.specs.{declared.Instruction.Instruction, Listed.decode_of}
 use Rattle.code.specs.declared.Decoded.TheVariants.{Whole}
 use Rattle.code.specs.declared.Decoded.TheVariants as decoded
-use Rattle.encode.specs.{declared.Written.Written, One.bytes_in, One.is_listed, One.end_of, One.Writes}
-use Rattle.encode.specs.declared.Ended.TheVariants.{Done, Short, Unlisted, NoList, NoRoom}
-use Rattle.row.specs.Row.{most, row_of, all_listed, can_write, read_of, blank}
+use Rattle.encode.specs.One.{bytes_in, is_listed, end_of, Written, Writes}
+use Rattle.encode.specs.declared.Refusal.TheVariants.{Short, Unlisted, NoList, NoRoom}
+use Rattle.row.specs.Row.{most, row_of, all_listed, can_write, row_read, blank}
 
 -- ---- one instruction
 -- no two listed instructions have the same bytes, and no one's bytes begin another's
@@ -54,34 +54,34 @@ FewInRow = (l : List Instruction) → all_listed l ≡ true → (length l ≤ le
 abbrev pub ReadFinds : Type 0
 ReadFinds =
     (s : List ℕ) (l : List Instruction) →
-    (read_of most s ≡ record { ended = Done; list = l }) ↔ (ReadsAs s l × (length l ≤ most))
+    (row_read most s ≡ Ok l) ↔ (ReadsAs s l × (length l ≤ most))
 
 -- a list that can be written is read again from its bytes
 abbrev pub ReadsAgain : Type 0
-ReadsAgain = (l : List Instruction) → can_write l ≡ true → read_of most (row_of l) ≡ record { ended = Done; list = l }
+ReadsAgain = (l : List Instruction) → can_write l ≡ true → row_read most (row_of l) ≡ Ok l
 
 -- the code s is a list's bytes and something behind them
 abbrev pub Begins : List ℕ → List Instruction → List ℕ → Type 0
 Begins s l t = (all_listed l ≡ true) × (s ≡ row_of l ++ t) × (0 < length t)
 
 -- each refusal in its case and in no other: 3 or 4 where it is forced behind fewer than 64 instructions, and 30 where bytes are left
--- behind 64; the list is then empty
+-- behind 64; there is then no list
 abbrev pub ReadRefused : Type 0
 ReadRefused =
     (s : List ℕ) → Bytes s →
-    ((read_of most s ≡ record { ended = Short; list = [] }) ↔ ((l : List Instruction) × (t : List ℕ) × Begins s l t × (length l < most) × (decode_of t ≡ decoded.Short)))
-    × ((read_of most s ≡ record { ended = Unlisted; list = [] }) ↔ ((l : List Instruction) × (t : List ℕ) × Begins s l t × (length l < most) × (decode_of t ≡ decoded.Unlisted)))
-    × ((read_of most s ≡ record { ended = NoList; list = [] }) ↔ ((l : List Instruction) × (t : List ℕ) × Begins s l t × (length l ≡ most)))
+    ((row_read most s ≡ Err Short) ↔ ((l : List Instruction) × (t : List ℕ) × Begins s l t × (length l < most) × (decode_of t ≡ decoded.Short)))
+    × ((row_read most s ≡ Err Unlisted) ↔ ((l : List Instruction) × (t : List ℕ) × Begins s l t × (length l < most) × (decode_of t ≡ decoded.Unlisted)))
+    × ((row_read most s ≡ Err NoList) ↔ ((l : List Instruction) × (t : List ℕ) × Begins s l t × (length l ≡ most)))
 
 -- ---- the writing
 -- 30 where the list has more than 64 or one that is not listed, whatever the room; then 31 where the room is too short
 abbrev pub WriteEnds : Type 0
 WriteEnds =
     (l : List Instruction) (room : ℕ) →
-    (most < length l → end_of (can_write l) (length (row_of l)) room ≡ NoList)
-    × (all_listed l ≡ false → end_of (can_write l) (length (row_of l)) room ≡ NoList)
-    × (length l ≤ most → all_listed l ≡ true → room < length (row_of l) → end_of (can_write l) (length (row_of l)) room ≡ NoRoom)
-    × (length l ≤ most → all_listed l ≡ true → length (row_of l) ≤ room → end_of (can_write l) (length (row_of l)) room ≡ Done)
+    (most < length l → end_of (can_write l) (length (row_of l)) room ≡ Err NoList)
+    × (all_listed l ≡ false → end_of (can_write l) (length (row_of l)) room ≡ Err NoList)
+    × (length l ≤ most → all_listed l ≡ true → room < length (row_of l) → end_of (can_write l) (length (row_of l)) room ≡ Err NoRoom)
+    × (length l ≤ most → all_listed l ≡ true → length (row_of l) ≤ room → end_of (can_write l) (length (row_of l)) room ≡ Ok (length (row_of l)))
 
 -- one that is not listed is somewhere in the list
 abbrev pub NotListed : Type 0
@@ -97,11 +97,11 @@ Settled =
 -- ---- both ends of a list's length, with NOP: none, 64, and 65
 abbrev pub Ends : Type 0
 Ends =
-    (end_of (can_write []) (length (row_of [])) 0 ≡ Done)
-    × (read_of most [] ≡ record { ended = Done; list = [] })
-    × (end_of (can_write (replicate 64 blank)) (length (row_of (replicate 64 blank))) 64 ≡ Done)
-    × (end_of (can_write (replicate 64 blank)) (length (row_of (replicate 64 blank))) 63 ≡ NoRoom)
-    × (read_of most (replicate 64 0) ≡ record { ended = Done; list = replicate 64 blank })
-    × (end_of (can_write (replicate 65 blank)) (length (row_of (replicate 65 blank))) 64 ≡ NoList)
-    × (end_of (can_write (replicate 65 blank)) (length (row_of (replicate 65 blank))) 65 ≡ NoList)
-    × (read_of most (replicate 65 0) ≡ record { ended = NoList; list = [] })
+    (end_of (can_write []) (length (row_of [])) 0 ≡ Ok 0)
+    × (row_read most [] ≡ Ok [])
+    × (end_of (can_write (replicate 64 blank)) (length (row_of (replicate 64 blank))) 64 ≡ Ok 64)
+    × (end_of (can_write (replicate 64 blank)) (length (row_of (replicate 64 blank))) 63 ≡ Err NoRoom)
+    × (row_read most (replicate 64 0) ≡ Ok (replicate 64 blank))
+    × (end_of (can_write (replicate 65 blank)) (length (row_of (replicate 65 blank))) 64 ≡ Err NoList)
+    × (end_of (can_write (replicate 65 blank)) (length (row_of (replicate 65 blank))) 65 ≡ Err NoList)
+    × (row_read most (replicate 65 0) ≡ Err NoList)

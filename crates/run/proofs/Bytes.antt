@@ -12,10 +12,10 @@ use Rattle.little.specs.Bytes.{Bytes, value_of, bytes_from, replaced}
 use Rattle.little.proofs.Laws.{value_lt}
 use Rattle.memory.specs.Place.{place_of}
 use Rattle.memory.specs.Access.{load_of, load_from, ram_after, ram_with, code_at, code_from, operand_at}
-use Rattle.memory.specs.declared.Loaded.TheVariants.{Value}
 use Rattle.memory.specs.declared.Place.{Place}
 use Rattle.memory.specs.declared.Place.TheVariants.{Ram, Rom, Missing}
 use Rattle.memory.proofs.Laws.{ram_fits_lem, rom_fits_lem}
+use Rattle.std.proofs.Common.{Ok}
 
 pub bytes_none : Bytes []
 bytes_none i = omega arith
@@ -73,11 +73,11 @@ part_fits z o l h k =
     (subst (λ (x : ℕ). value_of (take (bytes_of z) (drop o l)) < 256 ^ x) n
     (value_lt (take (bytes_of z) (drop o l)) (bytes_take (bytes_of z) (drop o l) (bytes_drop o l h))))
 
-pub loaded_fits : (ram rom : List ℕ) (a : ℕ) (z : Size) (v : ℕ) → Bytes ram → Bytes rom → load_of ram rom a z ≡ Value v → v < 2 ^ bits_of z
+pub loaded_fits : (ram rom : List ℕ) (a : ℕ) (z : Size) (v : ℕ) → Bytes ram → Bytes rom → load_of ram rom a z ≡ Ok v → v < 2 ^ bits_of z
 unfolding load_of
 loaded_fits ram rom a z v h k e = go (operand_at ram rom a z) refl e
   where
-    go : (p : Place) → operand_at ram rom a z ≡ p → load_from p ram rom (bytes_of z) ≡ Value v → v < 2 ^ bits_of z
+    go : (p : Place) → operand_at ram rom a z ≡ p → load_from p ram rom (bytes_of z) ≡ Ok v → v < 2 ^ bits_of z
     go (Ram o) f g =
         let x : value_of (take (bytes_of z) (drop o ram)) ≡ v = cc in
         rw (← x) (part_fits z o ram h (ram_fits_lem (length ram) (length rom) a (bytes_of z) o f).1)

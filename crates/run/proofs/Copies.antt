@@ -18,7 +18,6 @@ use Rattle.memory.specs.Access.{load_of, store_of, ram_after}
 use Rattle.memory.specs.declared.Place.{Place}
 use Rattle.memory.specs.Place.{Present}
 use Rattle.memory.specs.declared.Place.TheVariants.{Ram}
-use Rattle.memory.specs.declared.Loaded.TheVariants.{Value}
 use Rattle.memory.proofs.Laws.{place_ram}
 use Rattle.state.specs.Register.{get_register}
 use Rattle.state.specs.Sound.{Sound}
@@ -41,6 +40,7 @@ use Rattle.run.proofs.Counts.{rounds_none, rounds_did}
 use Rattle.run.proofs.Steps.{at_pointers, at_valid}
 use Rattle.run.proofs.Demand.{copy_none, to_the_end}
 use Rattle.run.proofs.Search.{up_passed}
+use Rattle.std.proofs.Common.{Ok}
 
 -- ---- a list with parts replaced
 -- a part is what is left of the elements up to its end
@@ -119,7 +119,7 @@ record Moving (f : Form) (s : State) (ram : List ℕ) : Type 0 where
 abbrev element_in : Form → State → List ℕ → List ℕ
 element_in f s ram = take (bytes_of f.size) (drop (pointer_of s f.from) ram)
 
-loaded_is : (ram rom : List ℕ) (a : ℕ) (z : Size) → a + bytes_of z ≤ length ram → load_of ram rom a z ≡ Value (value_of (take (bytes_of z) (drop a ram)))
+loaded_is : (ram rom : List ℕ) (a : ℕ) (z : Size) → a + bytes_of z ≤ length ram → load_of ram rom a z ≡ Ok (value_of (take (bytes_of z) (drop a ram)))
 unfolding load_of
 loaded_is ram rom a z h = rw (place_ram (length ram) (length rom) a (bytes_of z) h) refl
 

@@ -6,7 +6,6 @@ use mathlib.Core.List.{List}
 use mathlib.Core.Bool.{true, false}
 use native.Mathlib.Omega.{arith}
 use native.Mathlib.Nat.{zero-add, add-zero}
-use Rattle.answer.specs.declared.Answer.TheVariants.{Done}
 use Rattle.answer.specs.declared.Why.{Why}
 use Rattle.memory.specs.Place.{Present}
 use Rattle.state.specs.declared.State.{State}
@@ -19,6 +18,7 @@ use Rattle.turn.proofs.ManySteps.{many_none}
 use Rattle.run.proofs.Counts.{count_some}
 use Rattle.run.proofs.Known.{rounds_define}
 use Rattle.run.proofs.Repeats.{Clear, NoneEqual, Goes, repeat_on, repeat_ends, repeat_refused, refused_at, run_at}
+use Rattle.std.proofs.Common.{Ok}
 
 -- a compare writes nothing
 pub compare_clear : (n : ℕ) (f : Form) (s : State) (ram rom : List ℕ) → f.copies ≡ false → ((i : ℕ) → i < n → Present (element_place f s ram rom i)) →
@@ -65,13 +65,13 @@ to_the_end f s ram rom a c none =
 -- n rounds that go on, as a run of n steps
 pub went_run :
     (n : ℕ) (f : Form) (s : State) (ram rom : List ℕ) (t : State) (m : List ℕ) → At f s ram rom → n ≤ 1000000 → Goes n 0 0 f s ram rom t m →
-    run_of n s ram rom ≡ ends n t m Done
+    run_of n s ram rom ≡ ends n t m (Ok tt)
 went_run n f s ram rom t m a few g =
     run_at n f s ram rom a few
     ∙ ap (λ (k : ℕ). many_of k 0 s ram rom) (sym (add-zero n))
     ∙ g.goes
     ∙ many_none (0 + n) t m rom
-    ∙ ap (λ (k : ℕ). ends k t m Done) (zero-add n)
+    ∙ ap (λ (k : ℕ). ends k t m (Ok tt)) (zero-add n)
 
 module _ (n : ℕ) (f : Form) (s : State) (ram rom : List ℕ) (a : At f s ram rom) (lt : n < count_of s) (c : Clear n f s ram rom) (none : NoneEqual n f s ram rom) where
   pub goes_on_after : GoesOnAfter f s ram rom (RunLeaves s ram rom) n

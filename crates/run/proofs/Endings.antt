@@ -16,7 +16,6 @@ use Rattle.memory.specs.Access.{load_of}
 use Rattle.memory.specs.declared.Place.{Place}
 use Rattle.memory.specs.Place.{Present}
 use Rattle.memory.specs.declared.Place.TheVariants.{Ram, Rom, Missing}
-use Rattle.memory.specs.declared.Loaded.TheVariants.{Value}
 use Rattle.memory.proofs.Laws.{place_ram, ram_fits_lem}
 use Rattle.state.specs.declared.State.{State}
 use Rattle.code.specs.declared.Form.{Form}
@@ -26,6 +25,7 @@ use Rattle.run.specs.Demand.{At, Spares, EqualAt, RefusedAt, no_element, no_targ
 use Rattle.run.proofs.Repeats.{Clear, clear}
 use Rattle.run.proofs.Rounds.{loaded_there, missing_load}
 use Rattle.run.proofs.Demand.{compare_clear, ended_run, to_the_end, goes_on_after, stops_after}
+use Rattle.std.proofs.Common.{Ok}
 
 -- what holds of the first n and of number n holds of the first n + 1
 one_longer : (P : ℕ → Type 0) (n : ℕ) → ((i : ℕ) → i < n → P i) → P n → (i : ℕ) → i < suc n → P i
@@ -60,9 +60,9 @@ module _ (f : Form) (s : State) (ram rom : List ℕ) where
   met_target i c h (Missing x) e = refused _ (no_target c h x e)
 
   -- a compare's, by its element
-  met_value : (i v : ℕ) → f.copies ≡ false → Present (element_place f s ram rom i) → load_of ram rom (element_of f s i) f.size ≡ Value v →
+  met_value : (i v : ℕ) → f.copies ≡ false → Present (element_place f s ram rom i) → load_of ram rom (element_of f s i) f.size ≡ Ok v →
       (b : Bool) → eqb v (accumulator s f.size) ≡ b → Met i
-  met_value i v c h l true e = equal (c, l ∙ ap Value (eqb-true v (accumulator s f.size) e))
+  met_value i v c h l true e = equal (c, l ∙ ap Ok (eqb-true v (accumulator s f.size) e))
   met_value i v c h l false e =
       fine (
         h,

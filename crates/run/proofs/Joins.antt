@@ -8,8 +8,6 @@ use native.Mathlib.Nat.{zero-add, add-zero}
 use lib.ListN.{length}
 use lib.Dec.{ltb}
 use borrow.Author.Tests.{ltb-true, ltb-false}
-use Rattle.answer.specs.declared.Answer.{Answer}
-use Rattle.answer.specs.declared.Answer.TheVariants.{Done, Refused}
 use Rattle.answer.specs.declared.Why.{Why}
 use Rattle.answer.specs.declared.Why.TheVariants.{TooMany, TooLong, Invalid}
 use Rattle.answer.proofs.Laws.{not_refused}
@@ -23,6 +21,8 @@ use Rattle.turn.specs.Many.{Result, result_with, ends, many_of}
 use Rattle.run.specs.Run.{run_of}
 use Rattle.run.specs.Statements.{RunSettled, RunsJoin, RunStops, OneStepRun, RunIsSteps, CountIsTrue, later}
 use Rattle.run.proofs.Laws.{try_once, run_many, run_long, run_invalid, run_goes, still_passes}
+use Rattle.std.proofs.Common.{Ok, Err}
+use Rattle.answer.specs.Number.{Answer}
 
 pub run_settled : (s : State) (ram rom : List ℕ) → RunSettled s ram rom
 run_settled s ram rom n p q l m e f =
@@ -32,7 +32,7 @@ run_settled s ram rom n p q l m e f =
 -- ---- steps left, from any count
 shift : (n d : ℕ) (s : State) (ram rom : List ℕ) → many_of n d s ram rom ≡ later d (many_of n 0 s ram rom)
 shift zero d s ram rom =
-    many_none d s ram rom ∙ sym (ap (later d) (many_none 0 s ram rom) ∙ ap (λ (k : ℕ). ends k s ram Done) (add-zero d))
+    many_none d s ram rom ∙ sym (ap (later d) (many_none 0 s ram rom) ∙ ap (λ (k : ℕ). ends k s ram (Ok tt)) (add-zero d))
 shift (suc n) d s ram rom = go (λ t m e. shift n e t m rom) (once_of s ram rom) refl
   where
     go : ((t : State) (m : List ℕ) (e : ℕ) → many_of n e t m rom ≡ later e (many_of n 0 t m rom))
@@ -46,14 +46,14 @@ shift (suc n) d s ram rom = go (λ t m e. shift n e t m rom) (once_of s ram rom)
         ∙ sym (ap (later d) (many_did n 0 s ram rom t m e ∙ ih t m (0 + 1)))
     go ih (no w) e =
         many_no n d s ram rom w e
-        ∙ sym (ap (later d) (many_no n 0 s ram rom w e) ∙ ap (λ (k : ℕ). ends k s ram (Refused w)) (add-zero d))
+        ∙ sym (ap (later d) (many_no n 0 s ram rom w e) ∙ ap (λ (k : ℕ). ends k s ram (Err w)) (add-zero d))
 
 -- n steps that were all done, and then m
 pub record Joined (n m d : ℕ) (s : State) (ram rom : List ℕ) : Type 0 where
   pub count : (many_of n d s ram rom).done ≡ d + n
   pub rest : many_of (n + m) d s ram rom ≡ many_of m (d + n) (many_of n d s ram rom).state (many_of n d s ram rom).ram rom
 
-join : (n m d : ℕ) (s : State) (ram rom : List ℕ) → (many_of n d s ram rom).answer ≡ Done → Joined n m d s ram rom
+join : (n m d : ℕ) (s : State) (ram rom : List ℕ) → (many_of n d s ram rom).answer ≡ (Ok tt) → Joined n m d s ram rom
 join zero m d s ram rom a =
     let e = many_none d s ram rom in
     record {
@@ -65,7 +65,7 @@ join zero m d s ram rom a =
     }
 join (suc n) m d s ram rom a = go (λ t l e. join n m e t l rom) (once_of s ram rom) refl
   where
-    go : ((t : State) (l : List ℕ) (e : ℕ) → (many_of n e t l rom).answer ≡ Done → Joined n m e t l rom)
+    go : ((t : State) (l : List ℕ) (e : ℕ) → (many_of n e t l rom).answer ≡ (Ok tt) → Joined n m e t l rom)
         → (t : Try) → once_of s ram rom ≡ t → Joined (suc n) m d s ram rom
     go ih (did t l) e =
         let f = many_did n d s ram rom t l e in
@@ -84,11 +84,11 @@ join (suc n) m d s ram rom a = go (λ t l e. join n m e t l rom) (once_of s ram 
     go ih (no w) e = not_refused a (ap (λ (r : Result). r.answer) (many_no n d s ram rom w e))
 
 -- n steps that were not
-stop : (n m d : ℕ) (s : State) (ram rom : List ℕ) (w : Why) → (many_of n d s ram rom).answer ≡ Refused w → many_of (n + m) d s ram rom ≡ many_of n d s ram rom
+stop : (n m d : ℕ) (s : State) (ram rom : List ℕ) (w : Why) → (many_of n d s ram rom).answer ≡ Err w → many_of (n + m) d s ram rom ≡ many_of n d s ram rom
 stop zero m d s ram rom w a = not_refused (ap (λ (r : Result). r.answer) (many_none d s ram rom)) a
 stop (suc n) m d s ram rom w a = go (λ t l e. stop n m e t l rom w) (once_of s ram rom) refl
   where
-    go : ((t : State) (l : List ℕ) (e : ℕ) → (many_of n e t l rom).answer ≡ Refused w → many_of (n + m) e t l rom ≡ many_of n e t l rom)
+    go : ((t : State) (l : List ℕ) (e : ℕ) → (many_of n e t l rom).answer ≡ Err w → many_of (n + m) e t l rom ≡ many_of n e t l rom)
         → (t : Try) → once_of s ram rom ≡ t → many_of (suc n + m) d s ram rom ≡ many_of (suc n) d s ram rom
     go ih (did t l) e =
         let f = many_did n d s ram rom t l e in
@@ -106,14 +106,14 @@ pub record Before (n d : ℕ) (s : State) (ram rom : List ℕ) (w : Why) : Type 
   pub steps : ℕ
   pub fewer : steps < n
   pub count : (many_of n d s ram rom).done ≡ d + steps
-  pub done : many_of steps d s ram rom ≡ ends (d + steps) (many_of n d s ram rom).state (many_of n d s ram rom).ram Done
+  pub done : many_of steps d s ram rom ≡ ends (d + steps) (many_of n d s ram rom).state (many_of n d s ram rom).ram (Ok tt)
   pub refused : once_of (many_of n d s ram rom).state (many_of n d s ram rom).ram rom ≡ no w
 
-before : (n d : ℕ) (s : State) (ram rom : List ℕ) (w : Why) → (many_of n d s ram rom).answer ≡ Refused w → Before n d s ram rom w
+before : (n d : ℕ) (s : State) (ram rom : List ℕ) (w : Why) → (many_of n d s ram rom).answer ≡ Err w → Before n d s ram rom w
 before zero d s ram rom w a = not_refused (ap (λ (r : Result). r.answer) (many_none d s ram rom)) a
 before (suc n) d s ram rom w a = go (λ t l e. before n e t l rom w) (once_of s ram rom) refl
   where
-    go : ((t : State) (l : List ℕ) (e : ℕ) → (many_of n e t l rom).answer ≡ Refused w → Before n e t l rom w)
+    go : ((t : State) (l : List ℕ) (e : ℕ) → (many_of n e t l rom).answer ≡ Err w → Before n e t l rom w)
         → (t : Try) → once_of s ram rom ≡ t → Before (suc n) d s ram rom w
     go ih (did t l) e =
         let f = many_did n d s ram rom t l e in
@@ -127,13 +127,13 @@ before (suc n) d s ram rom w a = go (λ t l e. before n e t l rom w) (once_of s 
           done =
               many_did k d s ram rom t l e
               ∙ b.done
-              ∙ ap (λ (x : ℕ). ends x (many_of n (d + 1) t l rom).state (many_of n (d + 1) t l rom).ram Done) p
-              ∙ sym (ap (λ (r : Result). ends (d + suc k) r.state r.ram Done) f);
+              ∙ ap (λ (x : ℕ). ends x (many_of n (d + 1) t l rom).state (many_of n (d + 1) t l rom).ram (Ok tt)) p
+              ∙ sym (ap (λ (r : Result). ends (d + suc k) r.state r.ram (Ok tt)) f);
           refused = ap (λ (r : Result). once_of r.state r.ram rom) f ∙ b.refused;
         }
     go ih (no x) e =
         let f = many_no n d s ram rom x e in
-        let y : Refused x ≡ Refused w = sym (ap (λ (r : Result). r.answer) f) ∙ a in
+        let y : Err x ≡ Err w = sym (ap (λ (r : Result). r.answer) f) ∙ a in
         let z : no x ≡ no w = cc in
         record {
           steps = 0;
@@ -141,15 +141,15 @@ before (suc n) d s ram rom w a = go (λ t l e. before n e t l rom w) (once_of s 
           count = ap (λ (r : Result). r.done) f ∙ sym (add-zero d);
           done =
               many_none d s ram rom
-              ∙ ap (λ (x : ℕ). ends x s ram Done) (sym (add-zero d))
-              ∙ sym (ap (λ (r : Result). ends (d + 0) r.state r.ram Done) f);
+              ∙ ap (λ (x : ℕ). ends x s ram (Ok tt)) (sym (add-zero d))
+              ∙ sym (ap (λ (r : Result). ends (d + 0) r.state r.ram (Ok tt)) f);
           refused = ap (λ (r : Result). once_of r.state r.ram rom) f ∙ e ∙ z;
         }
 
 -- ---- the checks of a run pass, or every run is refused by them
 pub data Checks (s : State) (ram rom : List ℕ) : Type 0 where
   pass : too_long (length ram) (length rom) ≡ false → valid_of s ≡ true → Checks s ram rom
-  fail : (w : Why) → ((n : ℕ) → n ≤ 1000000 → run_of n s ram rom ≡ ends 0 s ram (Refused w)) → try_of s ram rom ≡ no w → Checks s ram rom
+  fail : (w : Why) → ((n : ℕ) → n ≤ 1000000 → run_of n s ram rom ≡ ends 0 s ram (Err w)) → try_of s ram rom ≡ no w → Checks s ram rom
 
 long_fails : (s : State) (ram rom : List ℕ) → too_long (length ram) (length rom) ≡ true → try_of s ram rom ≡ no TooLong
 unfolding try_of guarded
@@ -177,7 +177,7 @@ step_from s ram rom t e = ap (leaves s ram) e
 
 -- steps that were done keep a valid state valid, and RAM's length
 go_keeps :
-    (n d : ℕ) (s : State) (ram rom : List ℕ) → too_long (length ram) (length rom) ≡ false → valid_of s ≡ true → (many_of n d s ram rom).answer ≡ Done →
+    (n d : ℕ) (s : State) (ram rom : List ℕ) → too_long (length ram) (length rom) ≡ false → valid_of s ≡ true → (many_of n d s ram rom).answer ≡ (Ok tt) →
     (valid_of (many_of n d s ram rom).state ≡ true) × (length (many_of n d s ram rom).ram ≡ length ram)
 go_keeps zero d s ram rom l v a =
     let e = many_none d s ram rom in
@@ -185,7 +185,7 @@ go_keeps zero d s ram rom l v a =
 go_keeps (suc n) d s ram rom l v a = go (λ t m e. go_keeps n e t m rom) (once_of s ram rom) refl
   where
     go :
-        ((t : State) (m : List ℕ) (e : ℕ) → too_long (length m) (length rom) ≡ false → valid_of t ≡ true → (many_of n e t m rom).answer ≡ Done →
+        ((t : State) (m : List ℕ) (e : ℕ) → too_long (length m) (length rom) ≡ false → valid_of t ≡ true → (many_of n e t m rom).answer ≡ (Ok tt) →
         (valid_of (many_of n e t m rom).state ≡ true) × (length (many_of n e t m rom).ram ≡ length m))
         → (t : Try) → once_of s ram rom ≡ t
         → (valid_of (many_of (suc n) d s ram rom).state ≡ true) × (length (many_of (suc n) d s ram rom).ram ≡ length ram)
@@ -262,11 +262,11 @@ module _ (n : ℕ) (s : State) (ram rom : List ℕ) (h : n < 1000000) where
       ∙ shift n (0 + 1) t m rom
       ∙ ap (later 1) (sym (run_goes t m rom n (omega arith) j k.0))
 
-  first_refused : (w : Why) → try_of s ram rom ≡ no w → Checks s ram rom → run_of (n + 1) s ram rom ≡ ends 0 s ram (Refused w)
+  first_refused : (w : Why) → try_of s ram rom ≡ no w → Checks s ram rom → run_of (n + 1) s ram rom ≡ ends 0 s ram (Err w)
   first_refused w e (fail x f y) =
       let z : no x ≡ no w = sym y ∙ e in
       let q : x ≡ w = cc in
-      f (n + 1) (omega arith) ∙ ap (λ (k : Why). ends 0 s ram (Refused k)) q
+      f (n + 1) (omega arith) ∙ ap (λ (k : Why). ends 0 s ram (Err k)) q
   first_refused w e (pass l v) =
       run_goes s ram rom (n + 1) (omega arith) l v
       ∙ ap (λ (x : ℕ). many_of x 0 s ram rom) (sym one_more)
@@ -283,8 +283,8 @@ pub run_zero : (s : State) (ram rom : List ℕ) → (a : Answer) × (run_of 0 s 
 run_zero s ram rom = go (checks s ram rom)
   where
     go : Checks s ram rom → (a : Answer) × (run_of 0 s ram rom ≡ ends 0 s ram a)
-    go (fail w f t) = (Refused w, f 0 (omega arith))
-    go (pass l v) = (Done, run_goes s ram rom 0 (omega arith) l v ∙ many_none 0 s ram rom)
+    go (fail w f t) = (Err w, f 0 (omega arith))
+    go (pass l v) = ((Ok tt), run_goes s ram rom 0 (omega arith) l v ∙ many_none 0 s ram rom)
 
 pub data Began (n : ℕ) (s : State) (ram rom : List ℕ) : Type 0 where
   none : (a : Answer) → run_of (suc n) s ram rom ≡ ends 0 s ram a → Began n s ram rom
@@ -297,9 +297,9 @@ began n s ram rom = go (ltb 1000000 (suc n)) refl (try_of s ram rom) refl
     longer e = let k : suc n ≡ n + 1 = omega arith in ap (λ (x : ℕ). run_of x s ram rom) k ∙ e
 
     go : (b : Bool) → ltb 1000000 (suc n) ≡ b → (t : Try) → try_of s ram rom ≡ t → Began n s ram rom
-    go true e t f = none (Refused TooMany) (run_many s ram rom (suc n) (ltb-true 1000000 (suc n) e))
+    go true e t f = none (Err TooMany) (run_many s ram rom (suc n) (ltb-true 1000000 (suc n) e))
     go false e (did t m) f = first t m f (longer ((run_is_steps s ram rom n (ltb-false 1000000 (suc n) e)).0 t m f))
-    go false e (no w) f = none (Refused w) (longer ((run_is_steps s ram rom n (ltb-false 1000000 (suc n) e)).1 w f))
+    go false e (no w) f = none (Err w) (longer ((run_is_steps s ram rom n (ltb-false 1000000 (suc n) e)).1 w f))
 
 pub count_is_true : (s : State) (ram rom : List ℕ) → CountIsTrue s ram rom
 count_is_true s ram rom n = go (ltb 1000000 n) refl (checks s ram rom)
@@ -309,13 +309,13 @@ count_is_true s ram rom n = go (ltb 1000000 n) refl (checks s ram rom)
 
     Count : Type 0
     Count =
-        (r.answer ≡ Done → r.done ≡ n)
-        × ((w : Why) → 0 < r.done → r.answer ≡ Refused w →
-        (r.done < n) × (run_of r.done s ram rom ≡ ends r.done r.state r.ram Done) × (try_of r.state r.ram rom ≡ no w))
+        (r.answer ≡ (Ok tt) → r.done ≡ n)
+        × ((w : Why) → 0 < r.done → r.answer ≡ Err w →
+        (r.done < n) × (run_of r.done s ram rom ≡ ends r.done r.state r.ram (Ok tt)) × (try_of r.state r.ram rom ≡ no w))
 
     -- the steps that were done left a valid state, so that the refused one passed its checks
     last_checks : (k : ℕ) → too_long (length ram) (length rom) ≡ false → valid_of s ≡ true →
-        many_of k 0 s ram rom ≡ ends (0 + k) (many_of n 0 s ram rom).state (many_of n 0 s ram rom).ram Done →
+        many_of k 0 s ram rom ≡ ends (0 + k) (many_of n 0 s ram rom).state (many_of n 0 s ram rom).ram (Ok tt) →
         try_of (many_of n 0 s ram rom).state (many_of n 0 s ram rom).ram rom ≡ once_of (many_of n 0 s ram rom).state (many_of n 0 s ram rom).ram rom
     last_checks k l v d =
         let x = go_keeps k 0 s ram rom l v (ap (λ (y : Result). y.answer) d) in
@@ -323,7 +323,7 @@ count_is_true s ram rom n = go (ltb 1000000 n) refl (checks s ram rom)
         (ap (λ (y : ℕ). too_long y (length rom)) (sym (ap (λ (y : Result). length y.ram) d) ∙ x.1) ∙ l)
         (sym (ap (λ (y : Result). valid_of y.state) d) ∙ x.0)
 
-    none_done : (w : Why) → r ≡ ends 0 s ram (Refused w) → Count
+    none_done : (w : Why) → r ≡ ends 0 s ram (Err w) → Count
     none_done w e =
         let d : r.done ≡ 0 = ap (λ (x : Result). x.done) e in
         (λ a. not_refused a (ap (λ (x : Result). x.answer) e), λ x h a. absurd (omega (arith, d, h)))
@@ -344,8 +344,8 @@ count_is_true s ram rom n = go (ltb 1000000 n) refl (checks s ram rom)
                 ap (λ (x : ℕ). run_of x s ram rom) k
                     ∙ run_goes s ram rom b.steps (omega (arith, few, less)) l v
                     ∙ b.done
-                    ∙ ap (λ (x : ℕ). ends x (many_of n 0 s ram rom).state (many_of n 0 s ram rom).ram Done) (zero-add b.steps ∙ sym k)
-                    ∙ sym (ap (λ (x : Result). ends r.done x.state x.ram Done) g),
+                    ∙ ap (λ (x : ℕ). ends x (many_of n 0 s ram rom).state (many_of n 0 s ram rom).ram (Ok tt)) (zero-add b.steps ∙ sym k)
+                    ∙ sym (ap (λ (x : Result). ends r.done x.state x.ram (Ok tt)) g),
                 ap (λ (x : Result). try_of x.state x.ram rom) g ∙ last_checks b.steps l v b.done ∙ b.refused,
               ),
         )

@@ -5,8 +5,6 @@ use mathlib.Core.List.{List}
 use mathlib.Core.Bool.{Bool, true, false}
 use mathlib.Core.Logic.{◌⊎◌, inl, inr}
 use native.Mathlib.Omega.{arith}
-use Rattle.answer.specs.declared.Answer.{Answer}
-use Rattle.answer.specs.declared.Answer.TheVariants as answer
 use Rattle.little.specs.declared.Size.{Size}
 use Rattle.little.specs.declared.Size.TheVariants.{Byte, Word, Long}
 use Rattle.little.specs.Width.{bits_of, bytes_of}
@@ -14,8 +12,6 @@ use Rattle.flags.specs.Flag.{copied_of, compared_of}
 use Rattle.flags.specs.Sums.{result_of, difference_of}
 use Rattle.flags.proofs.Packed.{packed_marks}
 use Rattle.memory.specs.Access.{load_of, store_of, ram_after}
-use Rattle.memory.specs.declared.Loaded.{Loaded}
-use Rattle.memory.specs.declared.Loaded.TheVariants as loaded
 use Rattle.state.specs.State.{marks_of, with_flags, with_both_flags}
 use Rattle.state.specs.declared.State.{State}
 use Rattle.code.specs.declared.Form.{Form}
@@ -28,6 +24,9 @@ use Rattle.run.specs.Demand.{rounds_of, RoundsDefine}
 use Rattle.run.proofs.Rounds.{refused_not, same_did}
 use Rattle.run.proofs.Steps.{at_short}
 use Rattle.run.proofs.Counts.{rounds_none, rounds_did, rounds_no}
+use Rattle.std.proofs.Common.{Ok, Err}
+use Rattle.answer.specs.Number.{Answer}
+use Rattle.memory.specs.Access.{Loaded}
 
 copied_known : (f : Form) (s : State) → marks_of (copied f s).flags ≡ 0
 unfolding copied flagged with_flags with_both_flags
@@ -53,19 +52,19 @@ module _ (f : Form) (h : bytes_of f.size ≤ 2) where
 
   -- a copy's round, by the answer of its store
   stored_known : (s t : State) (m l : List ℕ) (r : Answer) → stored_by r (copied f s) l ≡ did t m → Known t
-  stored_known s t m l answer.Done k = subst Known (same_did k).0 (copied_known f s)
-  stored_known s t m l (answer.Refused w) k = refused_not k
+  stored_known s t m l (Ok _) k = subst Known (same_did k).0 (copied_known f s)
+  stored_known s t m l (Err w) k = refused_not k
 
   round_known : (s : State) (ram rom : List ℕ) (t : State) (m : List ℕ) → round_of f s ram rom ≡ did t m → Known t
   unfolding storing store_of ram_after
   round_known s ram rom t m e = go (load_of ram rom (pointer_of s f.from) f.size) refl f.copies refl
     where
       go : (l : Loaded) → load_of ram rom (pointer_of s f.from) f.size ≡ l → (b : Bool) → f.copies ≡ b → Known t
-      go (loaded.Missing x) k b c = refused_not (sym (round_missing f s ram rom x k) ∙ e)
-      go (loaded.Value x) k true c =
+      go (Err x) k b c = refused_not (sym (round_missing f s ram rom x k) ∙ e)
+      go (Ok x) k true c =
           stored_known s t m (ram_after ram rom (pointer_of s f.to) f.size x) (store_of ram rom (pointer_of s f.to) f.size)
           (sym (round_copies f s ram rom x k c) ∙ e)
-      go (loaded.Value x) k false c = subst Known (same_did (sym (round_compares f s ram rom x k c) ∙ e)).0 (compared_known f x s h)
+      go (Ok x) k false c = subst Known (same_did (sym (round_compares f s ram rom x k c) ∙ e)).0 (compared_known f x s h)
 
   rounds_known :
       (n : ℕ) (s : State) (ram rom : List ℕ) (t : State) (m : List ℕ) → (marks_of s.flags ≡ 0) ⊎ (0 < n) → rounds_of n f s ram rom ≡ did t m →

@@ -5,7 +5,6 @@ use mathlib.Core.List.{List}
 use mathlib.Core.Bool.{true, false}
 use lib.ListN.{length}
 use borrow.Author.Tests.{lt-ltb, le-ltb}
-use Rattle.answer.specs.declared.Answer.TheVariants.{Refused}
 use Rattle.answer.specs.declared.Why.TheVariants.{TooMany, TooLong, Invalid}
 use Rattle.state.specs.State.{valid_of}
 use Rattle.state.specs.declared.State.{State}
@@ -16,6 +15,7 @@ use Rattle.step.specs.Step.{too_long, guarded, try_of}
 use Rattle.facts.proofs.Kept.{Keeps, keeps_once}
 use Rattle.turn.specs.Many.{ends, many_of}
 use Rattle.run.specs.Run.{run_of}
+use Rattle.std.proofs.Common.{Err}
 
 -- ---- the checks
 module _ (s : State) (ram rom : List ℕ) where
@@ -27,16 +27,16 @@ module _ (s : State) (ram rom : List ℕ) where
   unfolding try_of
   try_once l v = guard_passes (once_of s ram rom) l v
 
-  pub run_many : (n : ℕ) → 1000000 < n → run_of n s ram rom ≡ ends 0 s ram (Refused TooMany)
+  pub run_many : (n : ℕ) → 1000000 < n → run_of n s ram rom ≡ ends 0 s ram (Err TooMany)
   unfolding run_of
   run_many n h = rw (lt-ltb 1000000 n h) refl
 
-  pub run_long : (n : ℕ) → n ≤ 1000000 → too_long (length ram) (length rom) ≡ true → run_of n s ram rom ≡ ends 0 s ram (Refused TooLong)
+  pub run_long : (n : ℕ) → n ≤ 1000000 → too_long (length ram) (length rom) ≡ true → run_of n s ram rom ≡ ends 0 s ram (Err TooLong)
   unfolding run_of guarded
   run_long n h l = rw (le-ltb 1000000 n h, l) refl
 
   pub run_invalid :
-      (n : ℕ) → n ≤ 1000000 → too_long (length ram) (length rom) ≡ false → valid_of s ≡ false → run_of n s ram rom ≡ ends 0 s ram (Refused Invalid)
+      (n : ℕ) → n ≤ 1000000 → too_long (length ram) (length rom) ≡ false → valid_of s ≡ false → run_of n s ram rom ≡ ends 0 s ram (Err Invalid)
   unfolding run_of guarded
   run_invalid n h l v = rw (le-ltb 1000000 n h, l, v) refl
 

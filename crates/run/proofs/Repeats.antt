@@ -9,12 +9,10 @@ use native.Mathlib.Nat.{zero-add, add-zero}
 use lib.Dec.{eqb}
 use lib.ListN.{length}
 use borrow.Author.Tests.{eq-eqb, ne_eqb}
-use Rattle.answer.specs.declared.Answer.TheVariants as answer
 use Rattle.answer.specs.declared.Why.{Why}
 use Rattle.answer.specs.declared.Why.TheVariants as why
 use Rattle.little.specs.{declared.Size.TheVariants.Long, Width.bytes_of}
 use Rattle.memory.specs.{Place.place_of, Place.Present, Access.load_of, declared.Place.TheVariants.Rom, declared.Place.TheVariants.Missing}
-use Rattle.memory.specs.declared.Loaded.{Loaded, TheVariants.Value, TheVariants.Missing as Lacking}
 use Rattle.state.specs.{declared.State.State, Register.get_register}
 use Rattle.state.proofs.Laws.{register_lt}
 use Rattle.code.specs.declared.Form.{Form}
@@ -32,6 +30,8 @@ use Rattle.run.proofs.Registers.{once, once_lt}
 use Rattle.run.proofs.Rounds.{Rounded, Left, left_length, left_compare, round_leaves, ready_did, round_no_element, round_no_target, refused_not, same_did, compared_equal, copy_unequal}
 use Rattle.run.proofs.Counts.{count_round, count_bc, goes_on_lem, goes_not, rounds_none, rounds_did, rounds_no, passed_more, passed_none}
 use Rattle.run.proofs.Steps.{at_pointers, at_valid, within, step_did, step_no, at_next}
+use Rattle.std.proofs.Common.{Ok, Err}
+use Rattle.memory.specs.Access.{Loaded}
 
 -- what is supposed of the first n rounds: every element is there, every byte that a copy writes is RAM and none of the instruction's own two
 pub record Clear (n : ℕ) (f : Form) (s : State) (ram rom : List ℕ) : Type 0 where
@@ -88,12 +88,12 @@ module _ (f : Form) (s : State) (ram rom : List ℕ) (t : State) (m : List ℕ) 
         ap (λ (x : ℕ). load_of ram rom x f.size) (sym (element_next f s t r i))
             ∙ ap (λ (x : List ℕ). load_of x rom (element_of f t i) f.size) (sym (left_compare q.0 l))
             ∙ q.1
-            ∙ ap Value r.acc,
+            ∙ ap Ok r.acc,
       )
 
 -- ---- whether the first round is equal
 module _ (f : Form) (s : State) (ram rom : List ℕ) (a : At f s ram rom) (t : State) (m : List ℕ) (e : round_of f s ram rom ≡ did t m) where
-  equal_is : (x : ℕ) → f.copies ≡ false → load_of ram rom (pointer_of s f.from) f.size ≡ Value x → equal_in f t ≡ eqb (accumulator s f.size) x
+  equal_is : (x : ℕ) → f.copies ≡ false → load_of ram rom (pointer_of s f.from) f.size ≡ Ok x → equal_in f t ≡ eqb (accumulator s f.size) x
   equal_is x c h =
       let q = same_did (sym (round_compares f s ram rom x h c) ∙ e) in
       ap (equal_in f) (sym q.0)
@@ -104,12 +104,12 @@ module _ (f : Form) (s : State) (ram rom : List ℕ) (a : At f s ram rom) (t : S
     where
       go : (b : Bool) → f.copies ≡ b → (l : Loaded) → load_of ram rom (pointer_of s f.from) f.size ≡ l → equal_in f t ≡ false
       go true c l h = copy_unequal f t c
-      go false c (Lacking y) h = refused_not (sym (round_missing f s ram rom y h) ∙ e)
-      go false c (Value x) h =
+      go false c (Err y) h = refused_not (sym (round_missing f s ram rom y h) ∙ e)
+      go false c (Ok x) h =
           equal_is x c h
           ∙ ne_eqb (accumulator s f.size) x
           (λ (k : accumulator s f.size ≡ x).
-          none (c, ap (λ (y : ℕ). load_of ram rom y f.size) (element_first f s) ∙ h ∙ ap Value (sym k)))
+          none (c, ap (λ (y : ℕ). load_of ram rom y f.size) (element_first f s) ∙ h ∙ ap Ok (sym k)))
 
   equal : EqualAt f s ram rom 0 → equal_in f t ≡ true
   equal q =
@@ -279,7 +279,7 @@ module _ (n k d : ℕ) (f : Form) (s : State) (ram rom : List ℕ) (t : State) (
     ap (λ (x : ℕ). load_of m rom x f.size) element_at
         ∙ ap (λ (x : List ℕ). load_of x rom (element_of f s n) f.size) (g.same q.0)
         ∙ q.1
-        ∙ ap Value (sym g.acc),
+        ∙ ap Ok (sym g.acc),
   )
 
   equal_back : EqualAt f t m rom 0 → EqualAt f s ram rom n
@@ -288,7 +288,7 @@ module _ (n k d : ℕ) (f : Form) (s : State) (ram rom : List ℕ) (t : State) (
     ap (λ (x : ℕ). load_of ram rom x f.size) (sym element_at)
         ∙ ap (λ (x : List ℕ). load_of x rom (element_of f t 0) f.size) (sym (g.same q.0))
         ∙ q.1
-        ∙ ap Value g.acc,
+        ∙ ap Ok g.acc,
   )
 
   -- it is refused where the start tells so
@@ -305,7 +305,7 @@ module _ (n k d : ℕ) (f : Form) (s : State) (ram rom : List ℕ) (t : State) (
   pub refused_at : (w : Why) → RefusedAt f s ram rom n w → round_of f t m rom ≡ no w
   refused_at _ (no_element x h) = round_no_element f t m rom x (element_there ∙ h)
   refused_at _ (no_target c h x k) = round_no_target f t m rom (Missing x) _ c (λ y e. h y (sym element_there ∙ e)) (target_there c ∙ k) refl
-  refused_at _ (rom_target c h o k) = round_no_target f t m rom (Rom o) _ c (λ y e. h y (sym element_there ∙ e)) (target_there c ∙ k) (ap (λ (x : ℕ). answer.Refused (why.ToRom x)) (sym (target_first f t) ∙ target_at c))
+  refused_at _ (rom_target c h o k) = round_no_target f t m rom (Rom o) _ c (λ y e. h y (sym element_there ∙ e)) (target_there c ∙ k) (ap (λ (x : ℕ). Err (why.ToRom x)) (sym (target_first f t) ∙ target_at c))
 
 -- a pointer that passed j elements and then one more
 once_passed : (f : Form) (j x : ℕ) → x < 2 ^ 32 → once f (passed f x j) ≡ passed f x (suc j)
@@ -382,14 +382,14 @@ repeat_ends j k f s ram rom a le c none last =
 pub repeat_refused :
     (n k : ℕ) (f : Form) (s : State) (ram rom : List ℕ) (t : State) (m : List ℕ) (w : Why) → At f s ram rom → n < count_of s →
     Clear n f s ram rom → NoneEqual n f s ram rom → rounds_of n f s ram rom ≡ did t m → round_of f t m rom ≡ no w →
-    many_of (n + suc k) 0 s ram rom ≡ ends n t m (answer.Refused w)
+    many_of (n + suc k) 0 s ram rom ≡ ends n t m (Err w)
 repeat_refused n k f s ram rom t m w a lt c none e r =
     let x = repeat_on n (suc k) 0 f s ram rom a lt c none in
     let q = same_did (sym x.2.rounds ∙ e) in
     let g : Goes n (suc k) 0 f s ram rom t m = at_did x.0 x.1 x.2 q.0 q.1 in
     g.goes
     ∙ many_no k (0 + n) t m rom w (step_no f t m rom g.there w r)
-    ∙ ap (λ (z : ℕ). ends z t m (answer.Refused w)) (zero-add n)
+    ∙ ap (λ (z : ℕ). ends z t m (Err w)) (zero-add n)
   where
     at_did : (u : State) (v : List ℕ) → Goes n (suc k) 0 f s ram rom u v → u ≡ t → v ≡ m → Goes n (suc k) 0 f s ram rom t m
     at_did u v g p q =

@@ -8,8 +8,6 @@ use native.Mathlib.Omega.{arith}
 use native.Mathlib.Nat.{mod-eq_of_lt}
 use lib.Dec.{eqb}
 use lib.ListN.{length}
-use Rattle.answer.specs.declared.Answer.{Answer}
-use Rattle.answer.specs.declared.Answer.TheVariants as answer
 use Rattle.answer.specs.declared.Why.{Why}
 use Rattle.answer.specs.declared.Why.TheVariants as why
 use Rattle.little.specs.declared.Size.{Size}
@@ -25,9 +23,6 @@ use Rattle.memory.specs.Place.{place_of, Present}
 use Rattle.memory.specs.Access.{load_of, load_from, store_of, store_to, ram_after, operand_at}
 use Rattle.memory.specs.declared.Place.{Place}
 use Rattle.memory.specs.declared.Place.TheVariants.{Ram, Rom, Missing}
-use Rattle.memory.specs.declared.Loaded.{Loaded}
-use Rattle.memory.specs.declared.Loaded.TheVariants.{Value}
-use Rattle.memory.specs.declared.Loaded.TheVariants as loaded
 use Rattle.memory.proofs.Laws.{place_ram, after_length}
 use Rattle.state.specs.State.{with_long, with_flags, with_both_flags}
 use Rattle.state.specs.Sound.{Sound}
@@ -47,6 +42,9 @@ use Rattle.facts.proofs.Kept.{copied_valid, compared_valid, sound_flagged}
 use Rattle.little.specs.Bytes.{Bytes}
 use Rattle.run.proofs.Bytes.{bytes_after}
 use Rattle.run.proofs.Registers.{once, moved_sound, moved_self, moved_long, moved_bc, moved_acc, counted_sound, counted_bc, counted_long, counted_acc, flagged_register, flagged_acc}
+use Rattle.std.proofs.Common.{Ok, Err}
+use Rattle.answer.specs.Number.{Answer}
+use Rattle.memory.specs.Access.{Loaded}
 
 -- ---- what is known of a listed form's pointers
 pub record Pointers (f : Form) : Type 0 where
@@ -193,20 +191,20 @@ module _ (f : Form) (p : Pointers f) (s : State) (ok : Sound s) (v : Valid s) (r
   stored_leaves x t m c e = go (store_of ram rom (pointer_of s f.to) f.size) e
     where
       go : (r : Answer) → stored_by r (copied f s) (ram_after ram rom (pointer_of s f.to) f.size x) ≡ did t m → Leaves t m
-      go answer.Done h =
+      go (Ok _) h =
           let q = same_did h in
           subst (λ (u : State). Rounded f s u × Left f s ram rom m) q.0
           (copied_rounded f p s ok v c, subst (λ (l : List ℕ). Left f s ram rom l) q.1 (wrote c x))
-      go (answer.Refused w) h = refused_not h
+      go (Err w) h = refused_not h
 
   pub round_leaves : (t : State) (m : List ℕ) → round_of f s ram rom ≡ did t m → Rounded f s t × Left f s ram rom m
   unfolding Leaves
   round_leaves t m e = go element refl f.copies refl
     where
       go : (l : Loaded) → element ≡ l → (b : Bool) → f.copies ≡ b → Leaves t m
-      go (loaded.Missing x) h b c = refused_not (sym (round_missing f s ram rom x h) ∙ e)
-      go (Value x) h true c = stored_leaves x t m c (sym (round_copies f s ram rom x h c) ∙ e)
-      go (Value x) h false c =
+      go (Err x) h b c = refused_not (sym (round_missing f s ram rom x h) ∙ e)
+      go (Ok x) h true c = stored_leaves x t m c (sym (round_copies f s ram rom x h c) ∙ e)
+      go (Ok x) h false c =
           let q = same_did (sym (round_compares f s ram rom x h c) ∙ e) in
           subst (λ (u : State). Rounded f s u × Left f s ram rom m) q.0
           (compared_rounded f p s ok v x c, subst (λ (l : List ℕ). Left f s ram rom l) q.1 unchanged)
@@ -227,21 +225,20 @@ left_compare e (wrote c v) = let z : ◌≡◌ {A = ℕ} 0 1 = cc in absurd (ome
 
 -- ---- a round that finds what it needs is done; one that does not is refused with 5 or 6
 module _ (f : Form) (s : State) (ram rom : List ℕ) where
-  pub loaded_there : (a : ℕ) (z : Size) → Present (place_of (length ram) (length rom) a (bytes_of z)) → (v : ℕ) × (load_of ram rom a z ≡ Value v)
+  pub loaded_there : (a : ℕ) (z : Size) → Present (place_of (length ram) (length rom) a (bytes_of z)) → (v : ℕ) × (load_of ram rom a z ≡ Ok v)
   unfolding load_of
   loaded_there a z h = go (operand_at ram rom a z) refl
     where
-      go : (q : Place) → operand_at ram rom a z ≡ q → (v : ℕ) × (load_from q ram rom (bytes_of z) ≡ Value v)
+      go : (q : Place) → operand_at ram rom a z ≡ q → (v : ℕ) × (load_from q ram rom (bytes_of z) ≡ Ok v)
       go (Ram o) e = (_, refl)
       go (Rom o) e = (_, refl)
       go (Missing x) e = absurd (h x e)
 
-  pub missing_load : (a : ℕ) (z : Size) (v x : ℕ) → place_of (length ram) (length rom) a (bytes_of z) ≡ Missing x → load_of ram rom a z ≡ Value v → ⊥
+  pub missing_load : (a : ℕ) (z : Size) (v x : ℕ) → place_of (length ram) (length rom) a (bytes_of z) ≡ Missing x → load_of ram rom a z ≡ Ok v → ⊥
   unfolding load_of
   missing_load a z v x h e =
-      let f : loaded.Missing x ≡ Value v = sym (ap (λ (q : Place). load_from q ram rom (bytes_of z)) h) ∙ e in
-      let y : ◌≡◌ {A = ℕ} 0 1 = cc in
-      omega arith
+      let f : load_from (Missing x) ram rom (bytes_of z) ≡ Ok v = sym (ap (λ (q : Place). load_from q ram rom (bytes_of z)) h) ∙ e in
+      cc
 
   stored_there :
       (t : State) (a : ℕ) (z : Size) (v : ℕ) → a + bytes_of z ≤ length ram → storing t ram rom a z v ≡ did t (ram_after ram rom a z v)
@@ -254,7 +251,7 @@ module _ (f : Form) (s : State) (ram rom : List ℕ) where
       → (t : State) × (m : List ℕ) × (round_of f s ram rom ≡ did t m)
   ready_did h k = go (loaded_there (pointer_of s f.from) f.size h) f.copies refl
     where
-      go : (v : ℕ) × (load_of ram rom (pointer_of s f.from) f.size ≡ Value v) → (b : Bool) → f.copies ≡ b
+      go : (v : ℕ) × (load_of ram rom (pointer_of s f.from) f.size ≡ Ok v) → (b : Bool) → f.copies ≡ b
           → (t : State) × (m : List ℕ) × (round_of f s ram rom ≡ did t m)
       go x true c = (
         copied f s,
@@ -267,10 +264,10 @@ module _ (f : Form) (s : State) (ram rom : List ℕ) where
   pub round_no_element :
       (x : ℕ) → place_of (length ram) (length rom) (pointer_of s f.from) (bytes_of f.size) ≡ Missing x → round_of f s ram rom ≡ no (why.Missing x)
   unfolding load_of
-  round_no_element x h = round_missing f s ram rom x (ap (λ (q : Place). load_from q ram rom (bytes_of f.size)) h)
+  round_no_element x h = round_missing f s ram rom (record { 0 = x }) (ap (λ (q : Place). load_from q ram rom (bytes_of f.size)) h)
 
   stored_no :
-      (t : State) (a : ℕ) (z : Size) (v : ℕ) (q : Place) (w : Why) → operand_at ram rom a z ≡ q → store_to q a ≡ answer.Refused w →
+      (t : State) (a : ℕ) (z : Size) (v : ℕ) (q : Place) (w : Why) → operand_at ram rom a z ≡ q → store_to q a ≡ Err w →
       storing t ram rom a z v ≡ no w
   unfolding storing store_of ram_after
   stored_no t a z v q w h e =
@@ -279,7 +276,7 @@ module _ (f : Form) (s : State) (ram rom : List ℕ) where
   pub round_no_target :
       (q : Place) (w : Why) → f.copies ≡ true
       → Present (place_of (length ram) (length rom) (pointer_of s f.from) (bytes_of f.size))
-      → place_of (length ram) (length rom) (pointer_of s f.to) (bytes_of f.size) ≡ q → store_to q (pointer_of s f.to) ≡ answer.Refused w
+      → place_of (length ram) (length rom) (pointer_of s f.to) (bytes_of f.size) ≡ q → store_to q (pointer_of s f.to) ≡ Err w
       → round_of f s ram rom ≡ no w
   round_no_target q w c h k e =
       let x = loaded_there (pointer_of s f.from) f.size h in

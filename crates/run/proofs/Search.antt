@@ -6,7 +6,6 @@ use mathlib.Core.List.{List}
 use mathlib.Core.Bool.{Bool, true, cond}
 use native.Mathlib.Omega.{arith}
 use native.Mathlib.Nat.{add-zero}
-use Rattle.answer.specs.declared.Answer.TheVariants.{Done}
 use Rattle.little.specs.declared.Size.TheVariants.{Long}
 use Rattle.little.specs.Width.{bytes_of}
 use Rattle.state.specs.State.{long_of, marks_of, with_counter}
@@ -26,6 +25,7 @@ use Rattle.run.proofs.Repeats.{Clear, clear, Ended, repeat_ends, run_at}
 use Rattle.run.proofs.Known.{rounds_define}
 use Rattle.run.proofs.Demand.{compare_clear}
 use Rattle.run.proofs.Endings.{equal_clear}
+use Rattle.std.proofs.Common.{Ok}
 
 -- ---- the state past the form has the registers and flags of the last round
 past_register : (t : State) (r : ℕ) → get_register (past_of 2 t) Long r ≡ get_register t Long r
@@ -57,7 +57,7 @@ up_passed f x i e =
 -- a run of as many steps as rounds that end it
 pub ended_steps :
     (j : ℕ) (f : Form) (s : State) (ram rom : List ℕ) (t : State) (m : List ℕ) → At f s ram rom → suc j ≤ count_of s →
-    Ended j 0 f s ram rom t m → run_of (suc j) s ram rom ≡ ends (suc j) (past_of 2 t) m Done
+    Ended j 0 f s ram rom t m → run_of (suc j) s ram rom ≡ ends (suc j) (past_of 2 t) m (Ok tt)
 ended_steps j f s ram rom t m a le e =
     let few = count_some s in
     run_at (suc j) f s ram rom a (omega arith)
@@ -75,7 +75,7 @@ over j n f s ram rom t m a k le e =
       ran =
           ap (λ (y : ℕ). run_of y s ram rom) (sym k)
           ∙ ended_steps j f s ram rom t m a (omega arith) e
-          ∙ ap (λ (y : ℕ). ends y (past_of 2 t) m Done) k;
+          ∙ ap (λ (y : ℕ). ends y (past_of 2 t) m (Ok tt)) k;
       from = past_register t f.from ∙ e.from ∙ ap (passed f (get_register s Long f.from)) k;
       bc = past_count t ∙ omega (arith, bc, k);
       past = past_counter t s.counter e.counter;

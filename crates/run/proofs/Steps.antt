@@ -10,8 +10,6 @@ use native.Mathlib.Numerals.{add-one}
 use lib.ListN.{length, get_or, take, drop, length-drop}
 use lib.Seq.{drop-cons}
 use borrow.Author.Tests.{le-ltb}
-use Rattle.answer.specs.declared.Answer.{Answer}
-use Rattle.answer.specs.declared.Answer.TheVariants as answer
 use Rattle.answer.specs.declared.Why.{Why}
 use Rattle.little.specs.declared.Size.{Size}
 use Rattle.little.specs.declared.Size.TheVariants.{Byte, Word, Long}
@@ -22,9 +20,6 @@ use Rattle.memory.specs.Place.{place_of}
 use Rattle.memory.specs.Access.{load_of, store_of, ram_after, code_at}
 use Rattle.memory.specs.declared.Place.{Place}
 use Rattle.memory.specs.declared.Place.TheVariants.{Ram, Rom, Missing}
-use Rattle.memory.specs.declared.Loaded.{Loaded}
-use Rattle.memory.specs.declared.Loaded.TheVariants.{Value}
-use Rattle.memory.specs.declared.Loaded.TheVariants as loaded
 use Rattle.memory.proofs.Laws.{ram_fits_lem, after_length, after_below, after_above, code_in}
 use Rattle.state.specs.State.{long_of, with_long, with_counter, with_flags, with_both_flags}
 use Rattle.state.specs.Register.{slot_in, set_slot, register_at, set_register}
@@ -55,6 +50,9 @@ use Rattle.run.specs.Demand.{At}
 use Rattle.run.proofs.Bytes.{bytes_code}
 use Rattle.block.proofs.Rounds.{round_copies, round_compares, round_missing}
 use Rattle.run.proofs.Rounds.{Pointers, pointers, Rounded, Left, unchanged, wrote, left_length, left_bytes}
+use Rattle.std.proofs.Common.{Ok, Err}
+use Rattle.answer.specs.Number.{Answer}
+use Rattle.memory.specs.Access.{Loaded}
 
 -- ---- the counter has no part in a round
 pointer_free : (s : State) (c r : ℕ) → pointer_of (with_counter s c) r ≡ pointer_of s r
@@ -98,8 +96,8 @@ storing_free f s c ram rom a z x = go (store_of ram rom a z)
     go : (r : Answer) →
         stored_by r (copied f (with_counter s c)) (ram_after ram rom a z x)
         ≡ and_then (stored_by r (copied f s) (ram_after ram rom a z x)) (λ (t : State). with_counter t c)
-    go answer.Done = ap (λ (t : State). did t (ram_after ram rom a z x)) (copied_free f s c)
-    go (answer.Refused w) = refl
+    go (Ok _) = ap (λ (t : State). did t (ram_after ram rom a z x)) (copied_free f s c)
+    go (Err w) = refl
 
 pub round_free :
     (f : Form) (s : State) (c : ℕ) (ram rom : List ℕ) →
@@ -111,15 +109,15 @@ round_free f s c ram rom = go (load_of ram rom (pointer_of s f.from) f.size) ref
 
     go : (l : Loaded) → load_of ram rom (pointer_of s f.from) f.size ≡ l → (b : Bool) → f.copies ≡ b →
         round_of f (with_counter s c) ram rom ≡ and_then (round_of f s ram rom) (λ (t : State). with_counter t c)
-    go (loaded.Missing x) e b k =
+    go (Err x) e b k =
         round_missing f (with_counter s c) ram rom x (there e)
         ∙ sym (ap (λ (t : Try). and_then t (λ (t : State). with_counter t c)) (round_missing f s ram rom x e))
-    go (Value x) e true k =
+    go (Ok x) e true k =
         round_copies f (with_counter s c) ram rom x (there e) k
         ∙ ap (λ (a : ℕ). storing (copied f (with_counter s c)) ram rom a f.size x) (pointer_free s c f.to)
         ∙ storing_free f s c ram rom (pointer_of s f.to) f.size x
         ∙ sym (ap (λ (t : Try). and_then t (λ (t : State). with_counter t c)) (round_copies f s ram rom x e k))
-    go (Value x) e false k =
+    go (Ok x) e false k =
         round_compares f (with_counter s c) ram rom x (there e) k
         ∙ ap (λ (t : State). did t ram) (compared_free f x s c)
         ∙ sym (ap (λ (t : Try). and_then t (λ (t : State). with_counter t c)) (round_compares f s ram rom x e k))

@@ -1,10 +1,10 @@
 -- Demand 3: how a repeating copy or compare ends, told by its start alone. Each statement is proved in proofs/Endings.antt
 -- or proofs/Known.antt.
-use Rattle.std.specs.Prelude.{ℕ, zero, suc, ◌+◌, ◌-◌, ◌*◌, ◌%◌, ◌^◌, ◌<◌, ◌≤◌, ◌≡◌, ◌⊎◌, List, true, false, cond, eqb, length}
-use Rattle.answer.specs.declared.{Answer.TheVariants.Done, Answer.TheVariants.Refused, Why.Why}
+use Rattle.std.specs.Prelude.{ℕ, zero, suc, ◌+◌, ◌-◌, ◌*◌, ◌%◌, ◌^◌, ◌<◌, ◌≤◌, ◌≡◌, ◌⊎◌, List, true, false, cond, eqb, length, Ok, Err}
+use Rattle.answer.specs.declared.{Why.Why}
 use Rattle.little.specs.{declared.Size.TheVariants.Long, Width.bytes_of, Bytes.Bytes}
 use Rattle.memory.specs.{declared.Place.Place, declared.Place.TheVariants.Rom, declared.Place.TheVariants.Missing}
-use Rattle.memory.specs.{declared.Loaded.TheVariants.Value, Place.place_of, Place.Present, Access.load_of, Access.code_at}
+use Rattle.memory.specs.{Place.place_of, Place.Present, Access.load_of, Access.code_at}
 use Rattle.state.specs.{declared.State.State, State.valid_of, State.marks_of, Sound.Sound, Register.get_register}
 use Rattle.code.specs.{declared.Form.Form, declared.Instruction.Instruction, declared.Op.TheVariants.Blocks, declared.Decoded.TheVariants.Whole}
 use Rattle.code.specs.{Listed.decode_of}
@@ -82,7 +82,7 @@ module _ (f : Form) (s : State) where
 
     -- element i equals A, or WA: what a compare looks for
     abbrev pub EqualAt : ℕ → Type 0
-    EqualAt i = (f.copies ≡ false) × (load_of ram rom (element_of i) f.size ≡ Value (accumulator s f.size))
+    EqualAt i = (f.copies ≡ false) × (load_of ram rom (element_of i) f.size ≡ Ok (accumulator s f.size))
 
     -- the round of element i is refused with this number and address, in the order of check: 5, the element is missing, with its missing byte;
     -- or a copy finds it, and 5, its target is missing, with its missing byte, or 6, its target is ROM, with its first byte
@@ -113,18 +113,18 @@ module _ (f : Form) (s : State) where
       -- is past it
       abbrev pub EndsAfter : ℕ → Type 0
       EndsAfter n =
-          (t : State) × (m : List ℕ) × (rounds_of n f s ram rom ≡ did t m) × Leaves n (ends n (past_of 2 t) m Done) × (marks_of t.flags ≡ 0)
+          (t : State) × (m : List ℕ) × (rounds_of n f s ram rom ≡ did t m) × Leaves n (ends n (past_of 2 t) m (Ok tt)) × (marks_of t.flags ≡ 0)
 
       -- n rounds are done, and n steps come so far: the counter is at it still
       abbrev pub GoesOnAfter : ℕ → Type 0
       GoesOnAfter n =
-          (t : State) × (m : List ℕ) × (rounds_of n f s ram rom ≡ did t m) × Leaves n (ends n t m Done) × (t.counter ≡ s.counter)
+          (t : State) × (m : List ℕ) × (rounds_of n f s ram rom ≡ did t m) × Leaves n (ends n t m (Ok tt)) × (t.counter ≡ s.counter)
 
       -- n rounds are done, and the next one stops every run of more steps with this number and address: nothing of that one is done
       abbrev pub StopsAfter : ℕ → Why → Type 0
       StopsAfter n w =
           (steps : ℕ) → n < steps → steps ≤ most_steps →
-          (t : State) × (m : List ℕ) × (rounds_of n f s ram rom ≡ did t m) × Leaves steps (ends n t m (Refused w))
+          (t : State) × (m : List ℕ) × (rounds_of n f s ram rom ≡ did t m) × Leaves steps (ends n t m (Err w))
 
       -- what it comes to: the counter past it after as many steps; or at it still, and a refusal where more steps are asked for
       abbrev pub ComesTo : Ending → Type 0

@@ -1,7 +1,6 @@
 -- The outlet's search, and copies, spelt out: where pointers, BC, flags and memory are at the end. Each statement is proved in proofs/Search.antt
 -- and proofs/Copies.antt.
-use Rattle.std.specs.Prelude.{ℕ, ◌+◌, ◌-◌, ◌*◌, ◌%◌, ◌^◌, ◌≤◌, ◌≡◌, ◌⊎◌, List, true, false, length, get_or, take, drop, replicate}
-use Rattle.answer.specs.declared.Answer.TheVariants.{Done}
+use Rattle.std.specs.Prelude.{ℕ, ◌+◌, ◌-◌, ◌*◌, ◌%◌, ◌^◌, ◌≤◌, ◌≡◌, ◌⊎◌, List, true, false, length, get_or, take, drop, replicate, Ok}
 use Rattle.little.specs.{declared.Size.TheVariants.Byte, declared.Size.TheVariants.Long, Width.bytes_of, Bytes.replaced}
 use Rattle.state.specs.{declared.State.State, State.marks_of, Register.get_register}
 use Rattle.code.specs.declared.Form.{Form}
@@ -19,7 +18,7 @@ module _ (f : Form) (s : State) (ram rom : List ℕ) where
   -- n steps end it, with t and m: the source pointer has passed n elements, BC is the count less n, the counter is past the instruction,
   -- and H and V are defined
   pub record Over (n : ℕ) (t : State) (m : List ℕ) : Type 0 where
-    pub ran : run_of n s ram rom ≡ ends n t m Done
+    pub ran : run_of n s ram rom ≡ ends n t m (Ok tt)
     pub from : get_register t Long f.from ≡ passed f (get_register s Long f.from) n
     pub bc : count_in t ≡ count_of s - n
     pub past : t.counter ≡ (s.counter + 2) % 2 ^ 24

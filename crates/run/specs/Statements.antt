@@ -1,6 +1,6 @@
 -- What is proved of a run, beside what the call promises and demand 3. Each statement is proved in proofs/Joins.antt.
-use Rattle.std.specs.Prelude.{ℕ, ◌+◌, ◌<◌, ◌≤◌, ◌≡◌, List}
-use Rattle.answer.specs.declared.{Answer.TheVariants.Done, Answer.TheVariants.Refused, Why.Why}
+use Rattle.std.specs.Prelude.{ℕ, ◌+◌, ◌<◌, ◌≤◌, ◌≡◌, List, Ok, Err}
+use Rattle.answer.specs.declared.{Why.Why}
 use Rattle.state.specs.declared.State.{State}
 use Rattle.operand.specs.Try.{after, did, no}
 use Rattle.turn.specs.{declared.Ran.Ran, Many.Result, Many.ends}
@@ -22,7 +22,7 @@ module _ (s : State) (ram rom : List ℕ) where
   RunIsSteps =
       (n : ℕ) → n < most_steps →
       ((t : State) (m : List ℕ) → try_of s ram rom ≡ did t m → run_of (n + 1) s ram rom ≡ later 1 (run_of n t m rom))
-      × ((w : Why) → try_of s ram rom ≡ no w → run_of (n + 1) s ram rom ≡ ends 0 s ram (Refused w))
+      × ((w : Why) → try_of s ram rom ≡ no w → run_of (n + 1) s ram rom ≡ ends 0 s ram (Err w))
 
   -- a run of one step leaves what a step leaves
   abbrev pub OneStepRun : Type 0
@@ -31,12 +31,12 @@ module _ (s : State) (ram rom : List ℕ) where
   -- n steps and then m steps are n plus m steps
   abbrev pub RunsJoin : Type 0
   RunsJoin =
-      (n m : ℕ) → n + m ≤ most_steps → (run_of n s ram rom).answer ≡ Done →
+      (n m : ℕ) → n + m ≤ most_steps → (run_of n s ram rom).answer ≡ (Ok tt) →
       run_of (n + m) s ram rom ≡ later n (run_of m (run_of n s ram rom).state (run_of n s ram rom).ram rom)
 
   -- a run that was refused is not changed by asking for more
   abbrev pub RunStops : Type 0
-  RunStops = (n m : ℕ) (w : Why) → n + m ≤ most_steps → (run_of n s ram rom).answer ≡ Refused w → run_of (n + m) s ram rom ≡ run_of n s ram rom
+  RunStops = (n m : ℕ) (w : Why) → n + m ≤ most_steps → (run_of n s ram rom).answer ≡ Err w → run_of (n + m) s ram rom ≡ run_of n s ram rom
 
   -- the count is the steps asked for, or those before the first one refused, and the answer is then that step's;
   -- where none was done, RunIsSteps says it
@@ -44,6 +44,6 @@ module _ (s : State) (ram rom : List ℕ) where
   CountIsTrue =
       (n : ℕ) →
       let r = run_of n s ram rom in
-      (r.answer ≡ Done → r.done ≡ n)
-      × ((w : Why) → 0 < r.done → r.answer ≡ Refused w →
-      (r.done < n) × (run_of r.done s ram rom ≡ ends r.done r.state r.ram Done) × (try_of r.state r.ram rom ≡ no w))
+      (r.answer ≡ (Ok tt) → r.done ≡ n)
+      × ((w : Why) → 0 < r.done → r.answer ≡ Err w →
+      (r.done < n) × (run_of r.done s ram rom ≡ ends r.done r.state r.ram (Ok tt)) × (try_of r.state r.ram rom ≡ no w))

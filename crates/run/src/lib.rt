@@ -5,7 +5,7 @@ ghost use Rattle.std.specs.Prelude.{◌≡◌};
 ghost use Rattle.turn.specs.Many.{stopped};
 ghost use Rattle.run.specs.Run.{RunMeets};
 
-use answer::{Answer, Why};
+use answer::Why;
 use state::State;
 use turn::{Ran, many};
 
@@ -13,12 +13,12 @@ use turn::{Ran, many};
 pub const MOST_STEPS: u32 = 1000000;
 
 fn refuse(s: State, w: Why) -> Ran
-    ensures { result ≡ stopped s 0 (Answer.Refused w) }
+    ensures { result ≡ stopped s 0 (Err w) }
 {
     Ran {
         state: s,
         done: 0,
-        answer: Answer::Refused(w),
+        answer: Err(w),
     }
 }
 

@@ -6,8 +6,6 @@ use mathlib.Core.Bool.{Bool, true, false}
 use native.Mathlib.Omega.{arith}
 use lib.ListN.{length, get_or, take, drop}
 use lib.Seq.{take_all, get_or-drop}
-use Rattle.answer.specs.declared.Answer.{Answer}
-use Rattle.answer.specs.declared.Answer.TheVariants.{Done, Refused}
 use Rattle.answer.specs.declared.Why.{Why}
 use Rattle.answer.specs.declared.Why.TheVariants.{Invalid}
 use Rattle.answer.proofs.Laws.{not_refused}
@@ -21,6 +19,8 @@ use Rattle.saved.specs.Record.{longs_at, sr_at, nesting_at, marks_at, state_at, 
 use Rattle.saved.specs.declared.Restored.{Restored}
 use Rattle.saved.proofs.Numbers.{two}
 use Rattle.saved.proofs.Refusals.{bad_records}
+use Rattle.std.proofs.Common.{Ok, Err}
+use Rattle.answer.specs.Number.{Answer}
 
 -- ---- saving
 -- valid flags have two marks at most
@@ -82,13 +82,13 @@ pub state_made :
 unfolding state_at
 state_made l e f g i j k = rw (e, f, g, i, j, k)
 
-pub load_good : (n : ℕ) (l : List ℕ) → is_record_of n l ≡ true → restored_from n l ≡ record { answer = Done; state = state_at l }
+pub load_good : (n : ℕ) (l : List ℕ) → is_record_of n l ≡ true → restored_from n l ≡ record { answer = (Ok tt); state = state_at l }
 unfolding restored_from
 load_good n l e = rw e refl
 
 -- a load that is done is of a good record, and gives the state in it
 pub load_done :
-    (n : ℕ) (l : List ℕ) {o : Restored} → o ≡ restored_from n l → o.answer ≡ Done → (is_record_of n l ≡ true) × (o.state ≡ state_at l)
+    (n : ℕ) (l : List ℕ) {o : Restored} → o ≡ restored_from n l → o.answer ≡ (Ok tt) → (is_record_of n l ≡ true) × (o.state ≡ state_at l)
 load_done n l {o = o} e r = go (is_record_of n l) refl
   where
     go : (b : Bool) → is_record_of n l ≡ b → (is_record_of n l ≡ true) × (o.state ≡ state_at l)
@@ -97,10 +97,10 @@ load_done n l {o = o} e r = go (is_record_of n l) refl
 
 -- a load that is refused is of a bad record, and says 2
 pub load_refused :
-    (n : ℕ) (l : List ℕ) {o : Restored} → o ≡ restored_from n l → (w : Why) → o.answer ≡ Refused w →
-    (is_record_of n l ≡ false) × (◌≡◌ {A = Answer} (Refused w) (Refused Invalid))
+    (n : ℕ) (l : List ℕ) {o : Restored} → o ≡ restored_from n l → (w : Why) → o.answer ≡ Err w →
+    (is_record_of n l ≡ false) × (◌≡◌ {A = Answer} (Err w) (Err Invalid))
 load_refused n l e w r = go (is_record_of n l) refl
   where
-    go : (b : Bool) → is_record_of n l ≡ b → (is_record_of n l ≡ false) × (◌≡◌ {A = Answer} (Refused w) (Refused Invalid))
+    go : (b : Bool) → is_record_of n l ≡ b → (is_record_of n l ≡ false) × (◌≡◌ {A = Answer} (Err w) (Err Invalid))
     go true g = not_refused (ap (λ (o : Restored). o.answer) (e ∙ load_good n l g)) r
     go false g = (g, sym r ∙ ap (λ (o : Restored). o.answer) (e ∙ bad_records n l g))

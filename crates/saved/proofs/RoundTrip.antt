@@ -9,7 +9,6 @@ use lib.ListN.{length, get_or, take, drop, length-append, length-drop, take-appe
 use lib.Dec.{eqb}
 use lib.Seq.{take_at, drop_at, drop-drop, get_or-drop, drop-cons}
 use borrow.Author.Tests.{eq-eqb, eqb-true}
-use Rattle.answer.specs.declared.Answer.TheVariants.{Done}
 use Rattle.little.specs.Bytes.{Bytes, value_of, bytes_from}
 use Rattle.little.proofs.Laws.{length_bytes, value_bytes, value_take}
 use Rattle.state.specs.State.{valid_of, f_of}
@@ -23,6 +22,7 @@ use Rattle.saved.specs.Record.{longs_at, sr_at, nesting_at, marks_at, state_at, 
 use Rattle.saved.specs.Statements.{FrontIsOld, SavedReadsBack, RecordsAreOfStates, OldRecordsAreOfStates}
 use Rattle.saved.proofs.Numbers.{longs_length, longs_back, bytes_drop, part_bytes, bytes_longs, longs_fit}
 use Rattle.saved.proofs.Laws.{marks_lt, load_good}
+use Rattle.std.proofs.Common.{Ok}
 
 -- the parts of an old record with a tail
 parts :
@@ -136,8 +136,8 @@ module _ (s : State) (ok : Sound s) (v : Valid s) (t : List ℕ) where
           byte_is 5 ∙ k.zero,
         )
 
-    reads_back : valid_of s ≡ true → restored_from (old_length + length t) whole ≡ record { answer = Done; state = s }
-    reads_back e = load_good _ whole (whole_good e) ∙ ap (λ (r : State). record { answer = Done; state = r }) whole_back
+    reads_back : valid_of s ≡ true → restored_from (old_length + length t) whole ≡ record { answer = (Ok tt); state = s }
+    reads_back e = load_good _ whole (whole_good e) ∙ ap (λ (r : State). record { answer = (Ok tt); state = r }) whole_back
 
 pub saved_reads_back : SavedReadsBack
 unfolding record_of bytes_from

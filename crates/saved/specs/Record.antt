@@ -1,11 +1,12 @@
 -- A saved state: one record of bytes with no header. The old record is the first 88 bytes of it: it has no nesting count and no marks.
-use Rattle.std.specs.Prelude.{ℕ, zero, suc, ◌+◌, ◌-◌, ◌*◌, ◌/◌, ◌%◌, ◌^◌, ◌≡◌, List, [], ◌∷◌, ◌++◌, Bool, cond, ◌&&◌}
+use Rattle.std.specs.Prelude.{ℕ, zero, suc, ◌+◌, ◌-◌, ◌*◌, ◌/◌, ◌%◌, ◌^◌, ◌≡◌, List, [], ◌∷◌, ◌++◌, Bool, cond, ◌&&◌, Ok, Err}
 use Rattle.std.specs.Prelude.{length, get_or, take, drop, replicate, eqb}
-use Rattle.answer.specs.declared.{Answer.Answer, Answer.TheVariants.Done, Answer.TheVariants.Refused, Why.Why, Why.TheVariants.Invalid}
+use Rattle.answer.specs.declared.{Why.Why, Why.TheVariants.Invalid}
 use Rattle.little.specs.Bytes.{value_of, bytes_from}
 use Rattle.state.specs.{declared.State.State, State.valid_of, State.zero_state, State.f_of, State.marks_of}
 use Rattle.state.specs.Sr.{sr_of, f_in, bank_in, level_in, ones_in}
 use Rattle.saved.specs.declared.Restored.{Restored}
+use Rattle.answer.specs.Number.{Answer}
 
 -- how many bytes it has, and the old one
 abbrev pub record_length : ℕ
@@ -50,7 +51,7 @@ can_save s n = valid_of s && eqb n record_length
 
 -- the answer of a save
 unfoldable pub save_answer : State → ℕ → Answer
-save_answer s n = cond (can_save s n) Done (Refused Invalid)
+save_answer s n = cond (can_save s n) (Ok tt) (Err Invalid)
 
 -- what the buffer holds after it
 unfoldable pub save_bytes : State → List ℕ → List ℕ
@@ -65,7 +66,7 @@ abbrev pub can_save_old : State → ℕ → Bool
 can_save_old s n = valid_of s && (fits_old s && eqb n old_length)
 
 unfoldable pub old_save_answer : State → ℕ → Answer
-old_save_answer s n = cond (can_save_old s n) Done (Refused Invalid)
+old_save_answer s n = cond (can_save_old s n) (Ok tt) (Err Invalid)
 
 unfoldable pub old_save_bytes : State → List ℕ → List ℕ
 old_save_bytes s buffer = cond (can_save_old s (length buffer)) (old_record_of s) buffer
@@ -117,11 +118,11 @@ is_record_of n l = eqb (length l) n && (valid_of (state_at l) && fixed_at l)
 
 -- a refusal, with the all-zero state in the place of one; of a bad record it is 2
 abbrev pub refused_record : Why → Restored
-refused_record w = record { answer = Refused w; state = zero_state }
+refused_record w = record { answer = Err w; state = zero_state }
 
 -- what a load of a record of n bytes gives
 unfoldable pub restored_from : ℕ → List ℕ → Restored
-restored_from n l = cond (is_record_of n l) (record { answer = Done; state = state_at l }) (refused_record Invalid)
+restored_from n l = cond (is_record_of n l) (record { answer = (Ok tt); state = state_at l }) (refused_record Invalid)
 
 -- of a record, and of an old one
 abbrev pub is_record : List ℕ → Bool

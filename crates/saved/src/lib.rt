@@ -46,10 +46,8 @@ fn save_longs(s: State, out: &mut [u8])
     requires { old_length ≤ length out.old }
     ensures { take 80 out.new ≡ longs_bytes s.registers }
 {
-    let mut i: usize = 0;
-    while i < 20 {
-        write_at(out, 4 * i, 4, s.long(i));
-        i += 1;
+    for i in 0..20 {
+        write_at(out, 4 * i, 4, s.registers[i]);
     }
 }
 
@@ -89,10 +87,10 @@ pub fn save(s: State, out: &mut [u8]) -> Answer
             write_at(out, 88, 2, s.nesting as u32);
             write_at(out, 90, 1, marks_byte(s));
             write_at(out, 91, 1, 0);
-            return Answer::Done;
+            return Ok(());
         }
     }
-    Answer::Refused(Why::Invalid)
+    Err(Why::Invalid)
 }
 
 // The same in the old form: a state that this would not keep whole is refused too.
@@ -103,11 +101,11 @@ pub fn save_old(s: State, out: &mut [u8]) -> Answer
         if fits_old(s) {
             if out.len() == OLD_LENGTH {
                 save_front(s, out);
-                return Answer::Done;
+                return Ok(());
             }
         }
     }
-    Answer::Refused(Why::Invalid)
+    Err(Why::Invalid)
 }
 
 fn longs(bytes: &[u8]) -> [u32; 20]
@@ -115,10 +113,8 @@ fn longs(bytes: &[u8]) -> [u32; 20]
     ensures { result ≡ longs_at 20 bytes.now }
 {
     let mut registers = [0u32; 20];
-    let mut i: usize = 0;
-    while i < 20 {
+    for i in 0..20 {
         registers[i] = read_at(bytes, 4 * i, 4);
-        i += 1;
     }
     registers
 }
@@ -147,12 +143,12 @@ fn state_at(bytes: &[u8]) -> State
     let flags = flags_in(sr) as u16 + 256 * (marks % 4);
     let spare = byte_at(bytes, 86) as u16 + 256 * (marks / 4);
     State {
-        registers: registers,
-        counter: counter,
+        registers,
+        counter,
         bank: bank_in(sr),
         level: level_in(sr),
-        flags: flags,
-        spare: spare,
+        flags,
+        spare,
         nesting: nesting_at(bytes),
     }
 }
@@ -176,7 +172,7 @@ fn refuse() -> Restored
     ensures { result ≡ refused_record Why.Invalid }
 {
     Restored {
-        answer: Answer::Refused(Why::Invalid),
+        answer: Err(Why::Invalid),
         state: State::zero(),
     }
 }
@@ -192,7 +188,7 @@ fn load_of(bytes: &[u8], n: usize) -> Restored
     let s = state_at(bytes);
     if s.valid() & fixed_at(bytes) {
         return Restored {
-            answer: Answer::Done,
+            answer: Ok(()),
             state: s,
         };
     }

@@ -6,7 +6,7 @@ use Rattle.memory.specs.Access.{load_bytes}
 use Rattle.state.specs.{declared.State.State, State.with_counter, State.with_flags, Register.get_register, Register.set_register}
 use Rattle.operand.specs.{Try.Try, Try.did, Try.no, Try.and_then, Try.with_loaded, Operand.displaced, Operand.pointer_of, Operand.storing_bytes, Flag.flags_in}
 use Rattle.operand.specs.{Round.less, Round.plus}
-use Rattle.answer.specs.declared.{Answer.Answer, Answer.TheVariants.Done, Answer.TheVariants.Refused, Why.TheVariants.Undefined}
+use Rattle.answer.specs.declared.{Why.TheVariants.Undefined}
 use Rattle.code.specs.{declared.Operand.Operand, declared.Stack.Stack, Written.constant_in, Written.register_in}
 use Rattle.code.specs.declared.Stack.TheVariants.{PushF, PopF, Push, Pop, Call16, Call24, Calr, Ret}
 
@@ -39,11 +39,6 @@ pop_of s ram rom z rest = pop_bytes s ram rom (bytes_of z) rest
 -- a call pushes the next address as four bytes; the state is past the instruction
 abbrev pub call_of : State → List ℕ → List ℕ → ℕ → Try
 call_of s ram rom to = and_then (push_of s ram rom Long s.counter) (λ t. with_counter t to)
-
--- the end of the stack after a store: moved where it is done
-abbrev pub end_after : Answer → State → ℕ → State
-end_after Done s x = with_stack s x
-end_after (Refused w) s x = s
 
 -- what each does, of a size and with its operand; the state is past the instruction. POP F writes bits 5 and 3 as 0 and leaves no mark,
 -- RET keeps 24 bits

@@ -1,23 +1,23 @@
 -- An instruction's bytes, shown where they stand.
-use Rattle.std.specs.Prelude.{ℕ, ◌^◌, ◌≡◌, List, [], cond, length, take, ltb, eqb}
-use Rattle.answer.specs.declared.{Answer.Answer, Answer.TheVariants.Done, Answer.TheVariants.Refused}
+use Rattle.std.specs.Prelude.{ℕ, ◌^◌, ◌≡◌, List, [], cond, length, take, ltb, eqb, Ok, Err}
 use Rattle.answer.specs.declared.Why.TheVariants.{TooLong, Invalid, NoCode, Unlisted}
 use Rattle.memory.specs.{Access.code_at, Access.stands_at, Place.place_of}
 use Rattle.code.specs.{declared.Decoded.Decoded, Listed.decode_of}
 use Rattle.step.specs.Step.{too_long}
 use Rattle.code.specs.declared.Decoded.TheVariants as decoded
+use Rattle.answer.specs.Number.{Answer}
 
 -- 3 where the bytes are short, 4 where they are not listed
 abbrev pub judged_of : Decoded → Answer
-judged_of decoded.Short = Refused NoCode
-judged_of decoded.Unlisted = Refused Unlisted
-judged_of (decoded.Whole i) = Done
+judged_of decoded.Short = Err NoCode
+judged_of decoded.Unlisted = Err Unlisted
+judged_of (decoded.Whole i) = Ok tt
 
 -- 1, then 2 for an address of 2^24 or more, then 3 or 4
 unfoldable pub show_answer_of : List ℕ → List ℕ → ℕ → Answer
 show_answer_of ram rom at =
-    cond (too_long (length ram) (length rom)) (Refused TooLong)
-    (cond (ltb at (2 ^ 24)) (judged_of (decode_of (code_at ram rom at))) (Refused Invalid))
+    cond (too_long (length ram) (length rom)) (Err TooLong)
+    (cond (ltb at (2 ^ 24)) (judged_of (decode_of (code_at ram rom at))) (Err Invalid))
 
 -- how many bytes a whole instruction has; 0 of what is none
 abbrev pub length_in : Decoded → ℕ

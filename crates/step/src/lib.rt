@@ -14,7 +14,6 @@ ghost use Rattle.step.specs.Reset.{ResetMeets};
 use answer::{Answer, Why};
 use code::Decoded;
 use little::ADDRESSES;
-use memory::Loaded;
 use state::State;
 
 #[derive(Clone, Copy)]
@@ -28,7 +27,7 @@ fn done(s: State) -> Stepped
 {
     Stepped {
         state: s,
-        answer: Answer::Done,
+        answer: Ok(()),
     }
 }
 
@@ -37,7 +36,7 @@ fn refuse(given: State, w: Why) -> Stepped
 {
     Stepped {
         state: given,
-        answer: Answer::Refused(w),
+        answer: Err(w),
     }
 }
 
@@ -51,12 +50,10 @@ fn decode_at<'a>(ram: &'a [u8], rom: &'a [u8], at: u32) -> Decoded
 fn whole_once(s: State, ram: &mut [u8], rom: &[u8]) -> Stepped
     ensures { outcome result ram.new ≡ leaves s ram.old (once_of s ram.old rom.now) }
 {
-    let r = turn::many(s, ram, rom, 1);
-    let t = r.state;
-    let a = r.answer;
+    let ran = turn::many(s, ram, rom, 1);
     Stepped {
-        state: t,
-        answer: a,
+        state: ran.state,
+        answer: ran.answer,
     }
 }
 
@@ -84,9 +81,9 @@ fn judged(d: Decoded) -> Answer
     ensures { result ≡ judged_of d }
 {
     match d {
-        Decoded::Whole(_) => Answer::Done,
-        Decoded::Short => Answer::Refused(Why::NoCode),
-        Decoded::Unlisted => Answer::Refused(Why::Unlisted),
+        Decoded::Whole(_) => Ok(()),
+        Decoded::Short => Err(Why::NoCode),
+        Decoded::Unlisted => Err(Why::Unlisted),
     }
 }
 
@@ -95,12 +92,12 @@ pub fn show_answer<'a>(ram: &'a [u8], rom: &'a [u8], at: u32) -> Answer
     ensures { ShowAnswerMeets ram.now rom.now at result }
 {
     if too_long(ram.len(), rom.len()) {
-        return Answer::Refused(Why::TooLong);
+        return Err(Why::TooLong);
     }
     if at < ADDRESSES {
         return judged(decode_at(ram, rom, at));
     }
-    Answer::Refused(Why::Invalid)
+    Err(Why::Invalid)
 }
 
 fn length_in(code: &[u8]) -> usize
@@ -138,7 +135,7 @@ pub fn reset(ram: &[u8], rom: &[u8]) -> Stepped
         return refuse(State::zero(), Why::TooLong);
     }
     match memory::load_vector(ram, rom, State::VECTOR) {
-        Loaded::Value(v) => done(State::at_reset(v)),
-        Loaded::Missing(a) => refuse(State::zero(), Why::Missing(a)),
+        Ok(v) => done(State::at_reset(v)),
+        Err(byte) => refuse(State::zero(), Why::from(byte)),
     }
 }

@@ -1,74 +1,83 @@
 // Numbers as text, and a line that they are added to.
 #![tactic(auto)]
 
-ghost use Rattle.std.specs.Prelude.{◌≡◌, [], ◌∷◌, ◌%◌};
-ghost use Rattle.text.specs.Text.{digit_of, decimal_in, decimal_of, hex_of};
-ghost use Rattle.text.specs.Grown.{empty_line, grown};
+ghost use Rattle.std.specs.Prelude.{◌≡◌, ◌<◌, [], ◌∷◌};
+ghost use Rattle.text.specs.Text.{digit_of, decimal_of, hex_of};
+ghost use Rattle.text.specs.Grown.{grown};
+
+use std::marker::Model;
 
 // A text that grows at its end, up to 128 bytes; past them nothing is added.
-#[derive(Clone, Copy)]
+#[derive(Drop)]
 pub struct Line {
-    pub text: [u8; 128],
-    pub length: usize,
+    text: [u8; 128],
+    length: usize,
 }
 
-pub fn empty() -> Line
-    ensures { result ≡ empty_line }
-{
-    Line {
-        text: [0; 128],
-        length: 0,
+// Contracts see the bytes so far.
+impl Model for Line {
+    ghost use Rattle.std.specs.Prelude.{ℕ, ◌≤◌, List, take};
+
+    ghost Value = { List ℕ };
+
+    ghost view = { λ l. take l.length l.text };
+
+    ghost invariant = { λ l. l.length ≤ 128 };
+}
+
+impl Line {
+    pub fn new() -> Self
+        ensures { result ≡ [] }
+    {
+        Line {
+            text: [0; 128],
+            length: 0,
+        }
+    }
+
+    #[tactic(auto, unfolding(crate::specs::Grown::grown))]
+    pub fn push(&mut self, b: u8)
+        ensures { self.new ≡ grown self.old (b ∷ []) }
+    {
+        if self.length < 128 {
+            self.text[self.length] = b;
+            self.length += 1;
+        }
+    }
+
+    // Without leading zeros.
+    #[tactic(auto, using(crate::proofs::Laws::grown_joins, crate::proofs::Laws::decimal_last, crate::proofs::Laws::decimal_more))]
+    pub fn decimal(&mut self, n: u32)
+        ensures { self.new ≡ grown self.old (decimal_of n) }
+    {
+        if n >= 10 {
+            self.decimal(n / 10);
+        }
+        self.push(digit(n % 10));
+    }
+
+    // The last digits of a number, as many as there are places.
+    #[tactic(auto, using(crate::proofs::Laws::grown_none, crate::proofs::Laws::grown_joins, crate::proofs::Laws::hex_none, crate::proofs::Laws::hex_last))]
+    pub fn hex(&mut self, n: u32, places: u8)
+        ensures { self.new ≡ grown self.old (hex_of places n) }
+    {
+        if places > 0 {
+            self.hex(n / 16, places - 1);
+            self.push(digit(n % 16));
+        }
+    }
+
+    pub fn as_slice(&self) -> &[u8]
+        ensures { result.now ≡ self.now }
+    {
+        &self.text[..self.length]
     }
 }
 
-pub fn add(l: Line, b: u8) -> Line
-    ensures { result ≡ grown l (b ∷ []) }
+fn digit(d: u32) -> u8
+    requires { d < 16 }
+    ensures { result ≡ digit_of d }
 {
-    let n = l.length;
-    if n < 128 {
-        let mut t = l.text;
-        t[n] = b;
-        return Line {
-            text: t,
-            length: n + 1,
-        };
-    }
-    l
-}
-
-// A digit below 16: of a larger number its low four bits.
-fn digit(n: u32) -> u8
-    ensures { result ≡ digit_of (n % 16) }
-{
-    let d = (n % 16) as u8;
-    if d < 10 { 48 + d } else { 55 + d }
-}
-
-// Without leading zeros, where the number has no more digits than there are places.
-fn decimal_in(l: Line, n: u32, places: u8) -> Line
-    ensures { result ≡ grown l (decimal_in places n) }
-{
-    if places == 0 {
-        return l;
-    }
-    if n < 10 {
-        return add(l, digit(n));
-    }
-    add(decimal_in(l, n / 10, places - 1), digit(n % 10))
-}
-
-pub fn decimal(l: Line, n: u32) -> Line
-    ensures { result ≡ grown l (decimal_of n) }
-{
-    decimal_in(l, n, 10)
-}
-
-// The last digits of a number, as many as there are places.
-pub fn hex(l: Line, n: u32, places: u8) -> Line
-    ensures { result ≡ grown l (hex_of places n) }
-{
-    if places == 0 {
-        return l;
-    }
-    add(hex(l, n / 16, places - 1), digit(n))
+    let d = d as u8;
+    if d < 10 { b'0' + d } else { b'A' + (d - 10) }
 }

@@ -4,8 +4,6 @@ use mathlib.Core.Path.{◌≡◌, refl, ap, sym, ◌∙◌, subst}
 use mathlib.Core.List.{List}
 use native.Mathlib.Omega.{arith}
 use native.Mathlib.Nat.{sub-zero}
-use Rattle.answer.specs.declared.Answer.{Answer}
-use Rattle.answer.specs.declared.Answer.TheVariants.{Done, Refused}
 use Rattle.answer.specs.declared.Why.{Why}
 use Rattle.state.specs.declared.State.{State}
 use Rattle.operand.specs.Try.{Try, did, no, Outcome, leaves, after}
@@ -14,9 +12,11 @@ use Rattle.turn.specs.Once.{once_of}
 use Rattle.turn.specs.inner.Times.{onward, times_of, Fewer}
 use Rattle.turn.specs.Many.{Result, result_with, ends, many_of}
 use Rattle.turn.proofs.Times.{state_or, ram_or, was_done, was_refused, times_one}
+use Rattle.std.proofs.Common.{Ok, Err}
+use Rattle.answer.specs.Number.{Answer}
 
 -- ---- some steps left
-pub many_none : (d : ℕ) (s : State) (ram rom : List ℕ) → many_of 0 d s ram rom ≡ ends d s ram Done
+pub many_none : (d : ℕ) (s : State) (ram rom : List ℕ) → many_of 0 d s ram rom ≡ ends d s ram (Ok tt)
 unfolding many_of
 many_none d s ram rom = refl
 
@@ -27,7 +27,7 @@ unfolding many_of
 many_did n d s ram rom t m e = rw (e, many_of)
 
 pub many_no :
-    (n d : ℕ) (s : State) (ram rom : List ℕ) (w : Why) → once_of s ram rom ≡ no w → many_of (suc n) d s ram rom ≡ ends d s ram (Refused w)
+    (n d : ℕ) (s : State) (ram rom : List ℕ) (w : Why) → once_of s ram rom ≡ no w → many_of (suc n) d s ram rom ≡ ends d s ram (Err w)
 unfolding many_of
 many_no n d s ram rom w e = rw (e, many_of)
 
@@ -78,26 +78,26 @@ module _ (s : State) (ram rom : List ℕ) where
 module _
     (s : State) (ram rom : List ℕ) (a : Answer) (u : State) (m : List ℕ) (n l : ℕ) (fewer : Fewer a n l)
     (e : after a u m ≡ leaves s ram (times_of (suc (n - l)) s ram rom)) where
-  pub turn_less : a ≡ Done → l ≤ n
+  pub turn_less : a ≡ (Ok tt) → l ≤ n
   turn_less d = subst (λ (x : Answer). Fewer x n l) d fewer
 
-  pub turn_same : (w : Why) → a ≡ Refused w → l ≡ n
+  pub turn_same : (w : Why) → a ≡ Err w → l ≡ n
   turn_same w d = subst (λ (x : Answer). Fewer x n l) d fewer
 
-  pub turn_on : (d : ℕ) → a ≡ Done → many_of (suc n) d s ram rom ≡ many_of l (d + suc (n - l)) u m rom
+  pub turn_on : (d : ℕ) → a ≡ (Ok tt) → many_of (suc n) d s ram rom ≡ many_of l (d + suc (n - l)) u m rom
   turn_on d h =
       let b = turn_less h in
       let k : suc n ≡ suc (n - l) + l = omega (arith, b) in
       ap (λ (x : ℕ). many_of x d s ram rom) k
       ∙ gone s ram rom (suc (n - l)) u m (was_done s ram a u m (times_of (suc (n - l)) s ram rom) e h) l d
 
-  pub turn_off : (d : ℕ) (w : Why) → a ≡ Refused w → ◌≡◌ {A = Result} (ends d u m (Refused w)) (many_of (suc n) d s ram rom)
+  pub turn_off : (d : ℕ) (w : Why) → a ≡ Err w → ◌≡◌ {A = Result} (ends d u m (Err w)) (many_of (suc n) d s ram rom)
   turn_off d w h =
       let x = was_refused s ram a u m w (times_of (suc (n - l)) s ram rom) e h in
       let f : once_of s ram rom ≡ no w =
       sym (times_one n s ram rom) ∙ ap (λ (y : ℕ). times_of (suc (n - y)) s ram rom) (sym (turn_same w h)) ∙ x.0 in
       rw (x.1, x.2) (sym (many_no n d s ram rom w f))
 
-pub turn_end : (n : ℕ) (s : State) (ram rom : List ℕ) (l : ℕ) → l ≡ 0 → ◌≡◌ {A = Result} (ends n s ram Done) (many_of l (n - l) s ram rom)
+pub turn_end : (n : ℕ) (s : State) (ram rom : List ℕ) (l : ℕ) → l ≡ 0 → ◌≡◌ {A = Result} (ends n s ram (Ok tt)) (many_of l (n - l) s ram rom)
 turn_end n s ram rom l z =
     sym (ap (λ (x : ℕ). many_of x (n - x) s ram rom) z ∙ ap (λ (x : ℕ). many_of 0 x s ram rom) (sub-zero n) ∙ many_none n s ram rom)

@@ -7,7 +7,6 @@ use mathlib.Core.Logic.{◌⊎◌, inl, inr}
 use native.Mathlib.Omega.{arith}
 use lib.Dec.{eqb}
 use borrow.Author.Tests.{eqb-true}
-use Rattle.answer.specs.declared.Answer.{Answer}
 use Rattle.little.specs.declared.Size.{Size}
 use Rattle.state.specs.declared.Bank.{Bank}
 use Rattle.state.specs.declared.State.{State}
@@ -33,6 +32,7 @@ use Rattle.exec.specs.Exec.{past_of, effect_of, executed_of, done}
 use Rattle.exec.specs.inner.Counter.{back_of}
 use Rattle.exec.proofs.Laws.{came_back}
 use Rattle.turn.specs.inner.Times.{past_name}
+use Rattle.answer.specs.Number.{Answer}
 
 past_twice : (n m counter : ℕ) → (counter + (n + m)) % 2 ^ 24 ≡ (past_name n counter + m) % 2 ^ 24
 past_twice n m counter = go (eqb n 0) refl

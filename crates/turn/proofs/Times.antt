@@ -9,8 +9,6 @@ use lib.ListN.{length}
 use lib.Dec.{ltb}
 use borrow.Author.Tests.{ltb-true}
 use Rattle.state.proofs.Valid.{and_true}
-use Rattle.answer.specs.declared.Answer.{Answer}
-use Rattle.answer.specs.declared.Answer.TheVariants.{Done, Refused}
 use Rattle.answer.specs.declared.Why.{Why}
 use Rattle.little.specs.declared.Size.{Size}
 use Rattle.memory.specs.Access.{code_at}
@@ -34,23 +32,25 @@ use Rattle.exec.specs.Exec.{past_of, effect_of, executed_of, done}
 use Rattle.turn.specs.Once.{once_of}
 use Rattle.turn.specs.inner.Times.{times_of, Fewer, most_rounds, Stands}
 use Rattle.block.specs.inner.Again.{in_rom, again_of}
+use Rattle.std.proofs.Common.{Ok, Err}
+use Rattle.answer.specs.Number.{Answer}
 
 -- ---- what was tried, from what a call leaves
 module _ (s : State) (ram : List ℕ) (a : Answer) (u : State) (m : List ℕ) where
-  pub was_done : (t : Try) → after a u m ≡ leaves s ram t → a ≡ Done → t ≡ did u m
+  pub was_done : (t : Try) → after a u m ≡ leaves s ram t → a ≡ (Ok tt) → t ≡ did u m
   was_done (did v n) e d = rw (ap (λ (o : Outcome). o.state) e, ap (λ (o : Outcome). o.ram) e) refl
   was_done (no w) e d =
-      let b : a ≡ Refused w = ap (λ (o : Outcome). o.answer) e in
+      let b : a ≡ Err w = ap (λ (o : Outcome). o.answer) e in
       let z : ◌≡◌ {A = ℕ} 0 1 = cc in
       absurd (omega arith)
 
-  pub was_refused : (w : Why) (t : Try) → after a u m ≡ leaves s ram t → a ≡ Refused w → (t ≡ no w) × (u ≡ s) × (m ≡ ram)
+  pub was_refused : (w : Why) (t : Try) → after a u m ≡ leaves s ram t → a ≡ Err w → (t ≡ no w) × (u ≡ s) × (m ≡ ram)
   was_refused w (did v n) e d =
-      let b : a ≡ Done = ap (λ (o : Outcome). o.answer) e in
+      let b : a ≡ (Ok tt) = ap (λ (o : Outcome). o.answer) e in
       let z : ◌≡◌ {A = ℕ} 0 1 = cc in
       absurd (omega arith)
   was_refused w (no x) e d =
-      let b : Refused w ≡ Refused x = sym d ∙ ap (λ (o : Outcome). o.answer) e in
+      let b : Err w ≡ Err x = sym d ∙ ap (λ (o : Outcome). o.answer) e in
       (cc, ap (λ (o : Outcome). o.state) e, ap (λ (o : Outcome). o.ram) e)
 
 -- the state and RAM of a step that is done
@@ -87,8 +87,8 @@ rounds_stay true more l = refl
 rounds_stay false more l = absurd (omega arith)
 
 pub fewer_same : (a : Answer) (n : ℕ) → Fewer a n n
-fewer_same Done n = omega arith
-fewer_same (Refused w) n = refl
+fewer_same (Ok _) n = omega arith
+fewer_same (Err w) n = refl
 
 -- ---- what stands at an address
 pub stands_form :
@@ -132,18 +132,18 @@ module _
   next_is : times_of (suc k) start ram rom ≡ and_then (round_of f (banked_at_with rest registers bank past flags) m rom) (ends_at f at)
   next_is = times_more k start ram rom (banked_at_with rest registers bank at flags) m so_far ∙ h m same (banked_at_with rest registers bank at flags)
 
-  pub round_done : a ≡ Done → times_of (suc k) start ram rom ≡ did (ends_at f at (banked_at_with rest registers' bank past flags')) m'
+  pub round_done : a ≡ (Ok tt) → times_of (suc k) start ram rom ≡ did (ends_at f at (banked_at_with rest registers' bank past flags')) m'
   round_done d =
       next_is
       ∙ ap (λ (t : Try). and_then t (ends_at f at))
       (was_done (banked_at_with rest registers bank past flags) m a (banked_at_with rest registers' bank past flags') m' (round_of f (banked_at_with rest registers bank past flags) m rom) e d)
 
-  pub round_again : a ≡ Done → goes_on f (banked_at_with rest registers' bank past flags') ≡ true → at < 2 ^ 24
+  pub round_again : a ≡ (Ok tt) → goes_on f (banked_at_with rest registers' bank past flags') ≡ true → at < 2 ^ 24
       → times_of (suc k) start ram rom ≡ did (banked_at_with rest registers' bank at flags') m'
   unfolding ends_at with_counter
   round_again d g l = round_done d ∙ rw (g, mod-eq_of_lt l) refl
 
-  pub round_not : (w : Why) → a ≡ Refused w → times_of (suc k) start ram rom ≡ no w
+  pub round_not : (w : Why) → a ≡ Err w → times_of (suc k) start ram rom ≡ no w
   round_not w d =
       next_is
       ∙ ap (λ (t : Try). and_then t (ends_at f at))
@@ -151,8 +151,8 @@ module _
 
   -- a refusal of the first round, and of a later one
   pub first_not :
-      (w : Why) → a ≡ Refused w → (registers₀ : List ℕ) (flags₀ : ℕ) → start ≡ banked_at_with rest registers₀ bank at flags₀ → k ≡ 0
-      → after (Refused w) (banked_at_with rest registers' bank past flags') m'
+      (w : Why) → a ≡ Err w → (registers₀ : List ℕ) (flags₀ : ℕ) → start ≡ banked_at_with rest registers₀ bank at flags₀ → k ≡ 0
+      → after (Err w) (banked_at_with rest registers' bank past flags') m'
       ≡ leaves (banked_at_with rest registers₀ bank past flags₀) ram (times_of (suc k) start ram rom)
   unfolding times_of
   first_not w d registers₀ flags₀ s z =
@@ -161,14 +161,14 @@ module _
       let v : banked_at_with rest registers' bank past flags' ≡ banked_at_with rest registers₀ bank past flags₀ =
       g.1 ∙ sym (ap (λ (x : State). banked_at_with rest x.registers bank past x.flags) (sym s ∙ ap (state_or start) b)) in
       let r : m' ≡ ram = g.2 ∙ sym (ap (ram_or ram) b) in
-      ap (λ (x : State). after (Refused w) x m') v ∙ ap (λ (x : List ℕ). after (Refused w) (banked_at_with rest registers₀ bank past flags₀) x) r
+      ap (λ (x : State). after (Err w) x m') v ∙ ap (λ (x : List ℕ). after (Err w) (banked_at_with rest registers₀ bank past flags₀) x) r
       ∙ ap (leaves (banked_at_with rest registers₀ bank past flags₀) ram) (sym (round_not w d))
 
   pub later_not :
-      (w : Why) → a ≡ Refused w → (p : State) → after Done (banked_at_with rest registers' bank at flags') m' ≡ leaves p ram (times_of k start ram rom)
+      (w : Why) → a ≡ Err w → (p : State) → after (Ok tt) (banked_at_with rest registers' bank at flags') m' ≡ leaves p ram (times_of k start ram rom)
   later_not w d p =
       let g = was_refused (banked_at_with rest registers bank past flags) m a (banked_at_with rest registers' bank past flags') m' w (round_of f (banked_at_with rest registers bank past flags) m rom) e d in
       let v : banked_at_with rest registers' bank at flags' ≡ banked_at_with rest registers bank at flags =
       ap (λ (x : State). banked_at_with rest x.registers bank at x.flags) g.1 in
-      ap (λ (x : State). after Done x m') v ∙ ap (λ (x : List ℕ). after Done (banked_at_with rest registers bank at flags) x) g.2
+      ap (λ (x : State). after (Ok tt) x m') v ∙ ap (λ (x : List ℕ). after (Ok tt) (banked_at_with rest registers bank at flags) x) g.2
       ∙ ap (leaves p ram) (sym so_far)

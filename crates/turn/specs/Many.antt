@@ -1,9 +1,9 @@
 -- Many steps of a state, whatever state it is, one after the other.
-use Rattle.std.specs.Prelude.{ℕ, zero, suc, ◌+◌, List}
-use Rattle.answer.specs.declared.{Answer.Answer, Answer.TheVariants.Done, Answer.TheVariants.Refused}
+use Rattle.std.specs.Prelude.{ℕ, zero, suc, ◌+◌, List, Ok, Err}
 use Rattle.state.specs.declared.State.{State}
 use Rattle.operand.specs.Try.{did, no}
 use Rattle.turn.specs.{declared.Ran.Ran, Once.once_of}
+use Rattle.answer.specs.Number.{Answer}
 
 -- what they leave: the state so far, the bytes of RAM, the steps done, and the answer
 pub record Result : Type 0 where
@@ -26,9 +26,9 @@ ends d s ram a = record { state = s; ram = ram; done = d; answer = a }
 
 -- d steps are done and n are left: all of them, or those before the first one refused
 unfoldable pub many_of : ℕ → ℕ → State → List ℕ → List ℕ → Result
-many_of zero d s ram rom = ends d s ram Done
+many_of zero d s ram rom = ends d s ram (Ok tt)
 many_of (suc n) d s ram rom =
     elim (once_of s ram rom) [
       | did t m ↦ many_of n (d + 1) t m rom
-      | no w ↦ ends d s ram (Refused w)
+      | no w ↦ ends d s ram (Err w)
     ]

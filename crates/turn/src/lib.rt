@@ -30,10 +30,7 @@ use state::{Bank, State, current, mask};
 fn rounds(stays: bool, more: u32) -> u32
     ensures { result ≡ most_rounds stays more }
 {
-    if stays {
-        return more;
-    }
-    0
+    if stays { more } else { 0 }
 }
 
 // A round of the form that stands at an address, and as many more as there are steps for and the form goes on; the counter is
@@ -59,22 +56,21 @@ fn block(
     let apart = *more - most;
     let mut left = most;
     loop {
-        let a = round(f, bank, &mut *flags, &mut *regs, &mut *ram, rom);
-        if let Answer::Refused(_) = a {
+        if let Err(why) = round(f, bank, &mut *flags, &mut *regs, &mut *ram, rom) {
             if left == most {
-                return a;
+                return Err(why);
             }
             // The rounds before it are done; the refused one is for the next call.
             *more = apart + left + 1;
             *counter = at;
-            return Answer::Done;
+            return Ok(());
         }
         if again(f, left, bank, *flags, &*regs) {
             left -= 1;
         } else {
             *counter = ended(f, at, bank, *flags, &*regs, *counter);
             *more = apart + left;
-            return Answer::Done;
+            return Ok(());
         }
     }
 }
@@ -120,8 +116,8 @@ fn of_memory(
             let a = block(f, here, bank, flags, regs, &mut *counter, ram, rom, more);
             back(a, here, counter)
         }
-        OfMemory::Short => Answer::Refused(Why::NoCode),
-        OfMemory::Unlisted => Answer::Refused(Why::Unlisted),
+        OfMemory::Short => Err(Why::NoCode),
+        OfMemory::Unlisted => Err(Why::Unlisted),
     }
 }
 
@@ -129,10 +125,9 @@ fn of_memory(
 fn past_name(counter: &mut u32, n: usize)
     ensures { counter.new ≡ past_name n counter.old }
 {
-    if n == 0 {
-        return;
+    if n != 0 {
+        past(counter, n);
     }
-    past(counter, n);
 }
 
 // What a register form says, whose first byte is b; the instruction stands at the counter.
@@ -159,8 +154,8 @@ fn of_registers(
             let a = of_register(read, behind, size, r, bank, flags, regs, &mut *counter);
             back(a, here, counter)
         }
-        Chosen::Short => Answer::Refused(Why::NoCode),
-        Chosen::Unlisted => Answer::Refused(Why::Unlisted),
+        Chosen::Short => Err(Why::NoCode),
+        Chosen::Unlisted => Err(Why::Unlisted),
     }
 }
 
@@ -188,7 +183,7 @@ fn once(
 {
     let code = memory::fetch(&*ram, rom, *counter);
     if code.len() == 0 {
-        return Answer::Refused(Why::NoCode);
+        return Err(Why::NoCode);
     }
     let b = code[0];
     if b < 0x80 {
@@ -207,8 +202,8 @@ fn once(
             let read = forms::after(code, b, n);
             of_memory(read, at, bank, flags, regs, counter, ram, rom, more)
         }
-        Begun::Short => Answer::Refused(Why::NoCode),
-        Begun::Unlisted => Answer::Refused(Why::Unlisted),
+        Begun::Short => Err(Why::NoCode),
+        Begun::Unlisted => Err(Why::Unlisted),
     }
 }
 
@@ -246,7 +241,7 @@ pub fn many(s: State, ram: &mut [u8], rom: &[u8], steps: u32) -> Ran
     let mut left = steps;
     while 0 < left {
         left -= 1;
-        let a = once(
+        if let Err(why) = once(
             &mut regs,
             &mut counter,
             &mut bank,
@@ -257,16 +252,15 @@ pub fn many(s: State, ram: &mut [u8], rom: &[u8], steps: u32) -> Ran
             &mut *ram,
             rom,
             &mut left,
-        );
-        if let Answer::Refused(w) = a {
+        ) {
             let b = current(&bank);
             let l = mask(&level);
             let t = state::whole(regs, counter, b, l, flags, spare, nesting);
-            return stop(t, steps - 1 - left, Answer::Refused(w));
+            return stop(t, steps - 1 - left, Err(why));
         }
     }
     let b = current(&bank);
     let l = mask(&level);
     let t = state::whole(regs, counter, b, l, flags, spare, nesting);
-    stop(t, steps, Answer::Done)
+    stop(t, steps, Ok(()))
 }

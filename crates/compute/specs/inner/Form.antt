@@ -1,6 +1,5 @@
 -- What is put where the address of the operand is known, as the functions of compute::form promise it.
 use Rattle.std.specs.Prelude.{ℕ, List, cond}
-use Rattle.answer.specs.declared.{Answer.Answer, Answer.TheVariants.Done, Answer.TheVariants.Refused}
 use Rattle.little.specs.declared.Size.{Size}
 use Rattle.flags.specs.declared.{Computed.Computed}
 use Rattle.alu.specs.declared.{Arith.Arith}
@@ -27,8 +26,3 @@ answer_to op at z s ram rom r = cond (stores_of op) (storing (flagged s r.flags)
 
 abbrev pub second_with : Arith → ℕ → ℕ → Size → State → List ℕ → List ℕ → Try
 second_with op r at z s ram rom = with_loaded (load_of ram rom at z) (λ v. answer_to op at z s ram rom (computed s op z v (get_register s z r)))
-
--- F after a store: what it was before, where that is refused
-abbrev pub kept_or : Answer → ℕ → ℕ → ℕ
-kept_or Done before flags = flags
-kept_or (Refused w) before flags = before

@@ -9,12 +9,12 @@ one_of zero v = []
 one_of (suc n) v = v ∷ []
 
 -- what a place's pieces say
-abbrev pub placed : Place → List ℕ
-placed p = one_of p.first.bytes p.first.value ++ bytes_from p.rest.bytes p.rest.value
+abbrev pub place_spelt : Place → List ℕ
+place_spelt p = one_of p.first.bytes p.first.value ++ bytes_from p.rest.bytes p.rest.value
 
 -- and a whole code's
 abbrev pub spelt : Code → List ℕ
-spelt c = placed c.place ++ (one_of c.next.bytes c.next.value ++ bytes_from c.number.bytes c.number.value)
+spelt c = place_spelt c.place ++ (one_of c.next.bytes c.next.value ++ bytes_from c.number.bytes c.number.value)
 
 -- the low eight bits of each number
 abbrev pub eights : List ℕ → List ℕ

@@ -1,6 +1,5 @@
 use Prim.Native.Nat.{◌+◌, ◌%◌, ◌^◌}
 use mathlib.Core.Path.{refl, ap}
-use Rattle.answer.specs.declared.Answer.TheVariants.{Done}
 use Rattle.state.specs.State.{with_counter}
 use Rattle.state.specs.inner.Lent.{all_of}
 use Rattle.state.specs.declared.State.{State}
@@ -12,6 +11,7 @@ use Rattle.interrupt.specs.Interrupt.{interrupt_of}
 use Rattle.exec.specs.Exec.{past_of, effect_of, executed_of}
 use Rattle.exec.proofs.Laws.{returned, moved_on}
 use Rattle.exec.proofs.alone.Goals as goal
+use Rattle.std.proofs.Common.{Ok}
 
 pub returns-in-Controls : goal.returns-in-Controls
 unfolding executed_of effect_of past_of with_counter
@@ -42,8 +42,8 @@ returns-in-Sets c =
     let u = all_of c.write.new.registers a.counter.now a.bank.now a.level.now a.flags.now a.spare.now a.nesting.now in
     let p = all_of a.regs.now ((a.counter.now + n) % 2 ^ 24) a.bank.now a.level.now a.flags.now a.spare.now a.nesting.now in
     rw (c.on.ensures.0, c.on.ensures.1, c.in-Sets.is)
-    (moved_on s n a.ram.now Done u a.ram.now (did (set_register p c.in-Sets.size c.in-Sets.r c.in-Sets.v) a.ram.now)
-    (ap (λ (x : State). after Done x a.ram.now) (rw c.current.ensures at (c.write.ensures p))))
+    (moved_on s n a.ram.now (Ok tt) u a.ram.now (did (set_register p c.in-Sets.size c.in-Sets.r c.in-Sets.v) a.ram.now)
+    (ap (λ (x : State). after (Ok tt) x a.ram.now) (rw c.current.ensures at (c.write.ensures p))))
 
 pub returns-in-Interrupts : goal.returns-in-Interrupts
 unfolding executed_of effect_of past_of with_counter

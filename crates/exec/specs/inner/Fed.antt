@@ -1,12 +1,12 @@
 -- What `exec::feed` promises: a form of the feed calculation, read and done.
-use Rattle.std.specs.Prelude.{ℕ, ◌≡◌, List, cond, eqb}
-use Rattle.answer.specs.declared.{Answer.Answer, Answer.TheVariants.Done, Answer.TheVariants.Refused}
+use Rattle.std.specs.Prelude.{ℕ, ◌≡◌, List, cond, eqb, Ok, Err}
 use Rattle.answer.specs.declared.Why.{TheVariants.NoCode, TheVariants.Unlisted}
 use Rattle.state.specs.declared.State.{State}
 use Rattle.code.specs.declared.Decoded.{Decoded}
 use Rattle.operand.specs.{Try.Try, Try.no, inner.Does.Does}
 use Rattle.exec.specs.Exec.{effect_of}
 use Rattle.code.specs.declared.Decoded.TheVariants as decoded
+use Rattle.answer.specs.Number.{Answer}
 
 -- what was read, as one number: how many bytes, or 1 where they are too few, or 0 where they begin nothing that is listed
 abbrev pub bytes_told : Decoded → ℕ
@@ -16,7 +16,7 @@ bytes_told decoded.Unlisted = 0
 
 -- and the answer to it
 abbrev pub answer_of : ℕ → Answer
-answer_of n = cond (eqb n 0) (Refused Unlisted) (cond (eqb n 1) (Refused NoCode) Done)
+answer_of n = cond (eqb n 0) (Err Unlisted) (cond (eqb n 1) (Err NoCode) (Ok tt))
 
 -- what an instruction does where the state is past it already; none of these looks at where it stands
 abbrev pub fed_of : Decoded → State → List ℕ → List ℕ → Try

@@ -7,9 +7,9 @@ use Rattle.memory.specs.Place.{place_of}
 use Rattle.memory.specs.Access.{load_from}
 use Rattle.memory.specs.declared.Place.{Place}
 use Rattle.memory.specs.declared.Place.TheVariants.{Ram, Rom}
-use Rattle.memory.specs.declared.Loaded.TheVariants.{Value}
 use Rattle.memory.proofs.Laws.{ram_fits_lem, rom_fits_lem, part_four}
 use Rattle.memory.proofs.load_bytes.Goals as goal
+use Rattle.std.proofs.Common.{Ok}
 
 pub overflow_add-e : goal.overflow_add-e
 overflow_add-e c =
@@ -37,7 +37,7 @@ returns-in-Ram c =
     let k = c in
     let t = k in
     let a = t.args in
-    ap Value (c.read.ensures ∙ ap value_of (part_four k.in-Ram.o a.n (drop k.in-Ram.o a.ram.now) t.requires))
+    ap Ok (c.read.ensures ∙ ap value_of (part_four k.in-Ram.o a.n (drop k.in-Ram.o a.ram.now) t.requires))
     ∙ ap (λ (p : Place). load_from p a.ram.now a.rom.now a.n) (sym is_ram)
 
 pub returns-in-Rom : goal.returns-in-Rom
@@ -46,7 +46,7 @@ returns-in-Rom c =
     let k = c in
     let t = k in
     let a = t.args in
-    ap Value (c.read-in-Rom.ensures ∙ ap value_of (part_four k.in-Rom.o a.n (drop k.in-Rom.o a.rom.now) t.requires))
+    ap Ok (c.read-in-Rom.ensures ∙ ap value_of (part_four k.in-Rom.o a.n (drop k.in-Rom.o a.rom.now) t.requires))
     ∙ ap (λ (p : Place). load_from p a.ram.now a.rom.now a.n) (sym is_rom)
 
 pub returns-in-Missing : goal.returns-in-Missing

@@ -1,3 +1,5 @@
+use Rattle.std.proofs.Common.{ap, sym, ◌∙◌}
+use Rattle.answer.specs.Number.{number_of, at_of}
 use Rattle.module.proofs.Laws.{run_many, run_stops, run_ran}
 use Rattle.module.proofs.tlcs900h_run.Goals as goal
 
@@ -6,10 +8,11 @@ returns-then-steps-gt-MOST_STEPS c =
     let a = c.args in
     run_many a.steps a.bytes.now a.ram.now a.rom.now c.if-steps-gt-MOST_STEPS.true c.told.ensures.value c.told.ensures.at_after
 
-pub returns-in-Refused : goal.returns-in-Refused
-returns-in-Refused c =
+pub returns-in-Err : goal.returns-in-Err
+returns-in-Err c =
     let a = c.args in
-    run_stops a.steps a.bytes.now a.ram.now a.rom.now c.if-steps-gt-MOST_STEPS.false c.opened-o.result c.opened-o.ensures c.in-Refused.field-0 c.in-Refused.is c.told-in-Refused.ensures.value c.told-in-Refused.ensures.at_after
+    run_stops a.steps a.bytes.now a.ram.now a.rom.now c.if-steps-gt-MOST_STEPS.false c.opened-o.result c.opened-o.ensures c.in-Err.why c.in-Err.is
+    (c.told-in-Err.ensures.value ∙ ap number_of (sym c.in-Err.is)) (c.told-in-Err.ensures.at_after ∙ ap at_of (sym c.in-Err.is))
 
 pub returns : goal.returns
 returns c =

@@ -11,13 +11,13 @@ use Rattle.registers.proofs.case_00.Goals as goal
 pub overflow_add-result : goal.overflow_add-result
 overflow_add-result c = omega (arith, bytes_bounds c.args.size _ c.bytes-n.ensures)
 
-pub returns-in-Value : goal.returns-in-Value
+pub returns-in-Some : goal.returns-in-Some
 unfolding register_rows lookup
-returns-in-Value c = λ o. rw (c.if-c-eq3.true, ← c.bytes-n.ensures) (number_whole _ _ _ _ _ _ _ _ _ (as_many _ _ _ (bytes_bounds c.args.size _ c.bytes-n.ensures) c.number.ensures) c.in-Value.is refl)
+returns-in-Some c = λ o. rw (c.if-c-eq3.true, ← c.bytes-n.ensures) (number_whole _ _ _ _ _ _ _ _ _ (as_many _ _ _ (bytes_bounds c.args.size _ c.bytes-n.ensures) c.number.ensures) c.in-Some.is refl)
 
-pub returns-in-Missing : goal.returns-in-Missing
+pub returns-in-None : goal.returns-in-None
 unfolding register_rows lookup
-returns-in-Missing c = λ o. rw (c.if-c-eq3.true, ← c.bytes-n.ensures) (number_short _ _ _ _ _ (as_many _ _ _ (bytes_bounds c.args.size _ c.bytes-n.ensures) c.number.ensures) c.in-Missing.is)
+returns-in-None c = λ o. rw (c.if-c-eq3.true, ← c.bytes-n.ensures) (number_short _ _ _ _ _ (as_many _ _ _ (bytes_bounds c.args.size _ c.bytes-n.ensures) c.number.ensures) c.in-None.is)
 
 pub returns : goal.returns
 unfolding judge

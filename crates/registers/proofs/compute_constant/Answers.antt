@@ -7,8 +7,8 @@ use Rattle.registers.proofs.compute_constant.Goals as goal
 pub overflow_add-result : goal.overflow_add-result
 overflow_add-result c = omega (arith, bytes_bounds c.args.size _ c.bytes-n.ensures)
 
-pub returns-in-Value : goal.returns-in-Value
-returns-in-Value c = λ o. rw (compute_constant _ _ _ c.requires.1, ← c.bytes-n.ensures) (number_whole _ _ _ _ _ _ _ _ _ (as_many _ _ _ (bytes_bounds c.args.size _ c.bytes-n.ensures) c.number.ensures) c.in-Value.is (rw c.arith_of.ensures))
+pub returns-in-Some : goal.returns-in-Some
+returns-in-Some c = λ o. rw (compute_constant _ _ _ c.requires.1, ← c.bytes-n.ensures) (number_whole _ _ _ _ _ _ _ _ _ (as_many _ _ _ (bytes_bounds c.args.size _ c.bytes-n.ensures) c.number.ensures) c.in-Some.is (rw c.arith_of.ensures))
 
-pub returns-in-Missing : goal.returns-in-Missing
-returns-in-Missing c = λ o. rw (compute_constant _ _ _ c.requires.1, ← c.bytes-n.ensures) (number_short _ _ _ _ _ (as_many _ _ _ (bytes_bounds c.args.size _ c.bytes-n.ensures) c.number.ensures) c.in-Missing.is)
+pub returns-in-None : goal.returns-in-None
+returns-in-None c = λ o. rw (compute_constant _ _ _ c.requires.1, ← c.bytes-n.ensures) (number_short _ _ _ _ _ (as_many _ _ _ (bytes_bounds c.args.size _ c.bytes-n.ensures) c.number.ensures) c.in-None.is)

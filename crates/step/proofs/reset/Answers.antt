@@ -6,14 +6,14 @@ pub returns-then-too_long : goal.returns-then-too_long
 unfolding reset_of
 returns-then-too_long c = c.refuse.ensures ∙ rw (sym c.too_long.ensures ∙ c.if-too_long.true, c.zero.ensures) refl
 
-pub returns-in-Value : goal.returns-in-Value
+pub returns-in-Ok : goal.returns-in-Ok
 unfolding reset_of
-returns-in-Value c =
+returns-in-Ok c =
     c.done.ensures
-    ∙ rw (sym c.too_long.ensures ∙ c.if-too_long.false, sym c.load_vector.ensures ∙ c.in-Value.is, c.at_reset.ensures) refl
+    ∙ rw (sym c.too_long.ensures ∙ c.if-too_long.false, sym c.load_vector.ensures ∙ c.in-Ok.is, c.at_reset.ensures) refl
 
-pub returns-in-Missing : goal.returns-in-Missing
+pub returns-in-Err : goal.returns-in-Err
 unfolding reset_of
-returns-in-Missing c =
-    c.refuse-in-Missing.ensures
-    ∙ rw (sym c.too_long.ensures ∙ c.if-too_long.false, sym c.load_vector.ensures ∙ c.in-Missing.is, c.zero-in-Missing.ensures) refl
+returns-in-Err c =
+    c.refuse-in-Err.ensures
+    ∙ rw (sym c.too_long.ensures ∙ c.if-too_long.false, sym c.load_vector.ensures ∙ c.in-Err.is, c.zero-in-Err.ensures, c.from.ensures) refl

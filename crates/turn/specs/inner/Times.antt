@@ -1,10 +1,10 @@
 -- Several steps in one call.
-use Rattle.std.specs.Prelude.{ℕ, Bool, zero, suc, ◌+◌, ◌%◌, ◌^◌, ◌≤◌, ◌≡◌, List, cond, eqb}
-use Rattle.answer.specs.declared.{Answer.Answer, Answer.TheVariants.Done, Answer.TheVariants.Refused}
+use Rattle.std.specs.Prelude.{ℕ, Bool, zero, suc, ◌+◌, ◌%◌, ◌^◌, ◌≤◌, ◌≡◌, List, cond, eqb, Ok, Err}
 use Rattle.memory.specs.Access.{code_at}
 use Rattle.state.specs.{declared.State.State, inner.Lent.standing_at}
 use Rattle.operand.specs.Try.{Try, did, no}
 use Rattle.turn.specs.Once.{once_of}
+use Rattle.answer.specs.Number.{Answer}
 
 -- what is tried after a step that is done
 abbrev pub onward : Try → (State → List ℕ → Try) → Try
@@ -19,8 +19,8 @@ times_of (suc k) s ram rom = onward (times_of k s ram rom) (λ t m. once_of t m 
 -- A call may do m steps more than the one it is asked for, and leaves n of them: no more than there were, and where it is
 -- refused, all.
 abbrev pub Fewer : Answer → ℕ → ℕ → Type 0
-Fewer Done m n = n ≤ m
-Fewer (Refused w) m n = n ≡ m
+Fewer (Ok _) m n = n ≤ m
+Fewer (Err w) m n = n ≡ m
 
 -- how many rounds more one call can do: only a form that stays what it is goes on in it
 abbrev pub most_rounds : Bool → ℕ → ℕ

@@ -7,11 +7,4 @@ use Rattle.compute.proofs.form.first.Goals as goal
 pub returns-then-stores : goal.returns-then-stores
 unfolding flagged with_flags with_both_flags
 returns-then-stores c rest =
-    rw (sym c.load.ensures ∙ c.in-Value.is, c.write.ensures (flagged_at rest rest.counter c.operate-w.new.flags), sym c.stores.ensures ∙ c.if-stores.true, c.operate-w.ensures.0, c.operate-w.ensures.1, c.read-x.ensures) refl
-
-pub returns-else-stores : goal.returns-else-stores
-unfolding flagged with_flags with_both_flags
-returns-else-stores c rest = rw (sym c.load.ensures ∙ c.in-Value.is, sym c.stores.ensures ∙ c.if-stores.false, c.operate-w.ensures.1, c.read-x.ensures) refl
-
-pub returns-in-Missing : goal.returns-in-Missing
-returns-in-Missing c rest = rw (sym c.load.ensures ∙ c.in-Missing.is) refl
+    rw (sym c.load.ensures ∙ c.in_ok-v.was, c.write.ensures (flagged_at rest rest.counter c.operate-w.new.flags), sym c.stores.ensures ∙ c.if-stores.true, c.operate-w.ensures.0, c.operate-w.ensures.1, c.read-x.ensures) refl

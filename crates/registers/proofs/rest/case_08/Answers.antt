@@ -13,19 +13,19 @@ returns-then-c-gt11 c = λ o e. rw (no_constant _ o _ c.requires.1 c.if-c-gt11.t
 pub overflow_add-result : goal.overflow_add-result
 overflow_add-result c = omega (arith, bytes_bounds c.args.size _ c.bytes-n.ensures)
 
-pub returns-in-Value : goal.returns-in-Value
-returns-in-Value c = λ o e.
+pub returns-in-Some : goal.returns-in-Some
+returns-in-Some c = λ o e.
     let a = c.args in
     let n = bytes_bounds a.size _ c.bytes-n.ensures in
     rw (with_constant_lem _ o _ c.requires.1 c.if-c-gt11.false, e ∙ c.if-half.true, ← c.bytes-n.ensures)
-    (number_whole _ _ _ _ _ _ _ _ _ (as_many _ _ _ n c.number.ensures) c.in-Value.is (rw c.scale_of.ensures))
+    (number_whole _ _ _ _ _ _ _ _ _ (as_many _ _ _ n c.number.ensures) c.in-Some.is (rw c.scale_of.ensures))
 
-pub returns-in-Missing : goal.returns-in-Missing
-returns-in-Missing c = λ o e.
+pub returns-in-None : goal.returns-in-None
+returns-in-None c = λ o e.
     let a = c.args in
     let n = bytes_bounds a.size _ c.bytes-n.ensures in
     rw (with_constant_lem _ o _ c.requires.1 c.if-c-gt11.false, e ∙ c.if-half.true, ← c.bytes-n.ensures)
-    (number_short _ _ _ _ _ (as_many _ _ _ n c.number.ensures) c.in-Missing.is)
+    (number_short _ _ _ _ _ (as_many _ _ _ n c.number.ensures) c.in-None.is)
 
 pub returns : goal.returns
 unfolding judge
