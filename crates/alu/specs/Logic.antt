@@ -1,7 +1,7 @@
 -- AND, OR and XOR of two operands of k bits.
 use Rattle.std.specs.Prelude.{ℕ, Bool, true, false, bit_and, bit_or, bit_xor}
 use Rattle.flags.specs.{declared.Computed.Computed, Width.low, Sums.computed_of, Undefined.by_parity, Undefined.undefined_of}
-use Rattle.alu.specs.{Parity.even_ones}
+use Rattle.alu.specs.Parity.{even_ones}
 
 -- a result of k bits whose V is its parity: 1 where the ones are even; N 0
 unfoldable pub plain : ℕ → ℕ → Bool → Bool → Computed

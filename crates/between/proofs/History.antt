@@ -20,7 +20,6 @@ use Rattle.code.specs.declared.Op.TheVariants.{Controls, Stacks, Puts, Sets, Blo
 use Rattle.code.specs.declared.Interrupt.{Interrupt}
 use Rattle.code.specs.declared.Interrupt.TheVariants.{PushSr, PopSr, Reti}
 use Rattle.code.specs.declared.Instruction.{Instruction}
-use Rattle.code.specs.declared.Decoded.TheVariants as decoded
 use Rattle.code.specs.Listed.{decode_of}
 use Rattle.operand.specs.Try.{Try, did, no, Outcome, after, leaves, and_then, with_loaded}
 use Rattle.operand.specs.Operand.{stored_by}
@@ -73,7 +72,7 @@ offered level address s ram rom t m e = go (course level address s ram rom)
     o : request_of level address s ram rom ≡ after (Ok tt) t m
     o = request_left_lem level address s ram rom t m e
 
-    a : (request_of level address s ram rom).answer ≡ (Ok tt)
+    a : (request_of level address s ram rom).answer ≡ Ok tt
     a = ap (λ (x : Outcome). x.answer) o
 
     go : Course level address s ram rom → Offered level address s ram rom t m
@@ -210,13 +209,13 @@ step_balances s ram rom t m ok e = go (operated s ram rom (Ok tt) (inl refl) d)
     o : step_of s ram rom ≡ after (Ok tt) t m
     o = step_left_lem s ram rom t m e
 
-    d : (step_of s ram rom).answer ≡ (Ok tt)
+    d : (step_of s ram rom).answer ≡ Ok tt
     d = ap (λ (x : Outcome). x.answer) o
 
     state : (step_of s ram rom).state.nesting ≡ t.nesting
     state = ap (λ (x : Outcome). x.state.nesting) o
 
-    go : (i : Instruction) × (Passed s ram rom × (decode_of (code_at ram rom s.counter) ≡ decoded.Whole i)) →
+    go : (i : Instruction) × (Passed s ram rom × (decode_of (code_at ram rom s.counter) ≡ Ok i)) →
         (t.nesting + one (return_at (decode_of (code_at ram rom s.counter)))) % 2 ^ 16 ≡ s.nesting % 2 ^ 16
     go (i, (p, h)) = by (returns_by i.op) refl
       where
@@ -235,14 +234,14 @@ entered_counts level vector s = omega arith
 
 -- done, a push and then what is entered, by its answer
 stored_counts :
-    (s t : State) (ram m : List ℕ) (level vector : ℕ) (a : Answer) → (leaves s ram (and_then (stored_by a t m) (entered level vector))).answer ≡ (Ok tt) →
+    (s t : State) (ram m : List ℕ) (level vector : ℕ) (a : Answer) → (leaves s ram (and_then (stored_by a t m) (entered level vector))).answer ≡ Ok tt →
     (leaves s ram (and_then (stored_by a t m) (entered level vector))).state.nesting ≡ plus 16 t.nesting 1
 stored_counts s t ram m level vector (Ok _) e = entered_counts level vector t
 stored_counts s t ram m level vector (Err w) e = absurd (omega (arith, ap number_of e, some w))
 
 loaded_counts :
     (s : State) (ram rom : List ℕ) (level : ℕ) (l : Loaded) →
-    (leaves s ram (with_loaded l (λ v. entering (return_address s) level v s ram rom))).answer ≡ (Ok tt) →
+    (leaves s ram (with_loaded l (λ v. entering (return_address s) level v s ram rom))).answer ≡ Ok tt →
     (leaves s ram (with_loaded l (λ v. entering (return_address s) level v s ram rom))).state.nesting ≡ plus 16 s.nesting 1
 unfolding set_register set_slot with_long
 loaded_counts s ram rom level (Ok v) e =
@@ -354,7 +353,7 @@ stopped_there :
     (n : ℕ) (s t : State) (ram rom m : List ℕ) (w : Why) → n < most_steps → run_of n s ram rom ≡ ends n t m (Ok tt) → try_of t m rom ≡ no w →
     run_of (n + 1) s ram rom ≡ ends n t m (Err w)
 stopped_there n s t ram rom m w few e f =
-    let d : (run_of n s ram rom).answer ≡ (Ok tt) = ap (λ (r : Result). r.answer) e in
+    let d : (run_of n s ram rom).answer ≡ Ok tt = ap (λ (r : Result). r.answer) e in
     let one : run_of 1 t m rom ≡ ends 0 t m (Err w) = (run_is_steps t m rom 0 (omega arith)).1 w f in
     runs_join s ram rom n 1 (omega arith) d
     ∙ ap (λ (r : Result). later n (run_of 1 r.state r.ram rom)) e

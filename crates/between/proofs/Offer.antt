@@ -206,9 +206,9 @@ module _ (level address : ℕ) (s : State) (ram rom : List ℕ) where
     pub passed : Passed s ram rom
     pub good : bad_request level address ≡ false
     pub lets : admitted ≡ true
-    pub done : answer ≡ (Ok tt)
+    pub done : answer ≡ Ok tt
 
-  took_done : (a : Answer) (b : Bool) → if_done a b ≡ true → (a ≡ (Ok tt)) × (b ≡ true)
+  took_done : (a : Answer) (b : Bool) → if_done a b ≡ true → (a ≡ Ok tt) × (b ≡ true)
   took_done (Ok _) b e = (refl, e)
   took_done (Err w) b e = let z : ◌≡◌ {A = ℕ} 0 1 = cc in absurd (omega arith)
 
@@ -216,7 +216,7 @@ module _ (level address : ℕ) (s : State) (ram rom : List ℕ) where
   unfolding took_of
   taken_says e = let d = took_done answer admitted e in go course d.0 d.1
     where
-      go : Course → answer ≡ (Ok tt) → admitted ≡ true → Taken
+      go : Course → answer ≡ Ok tt → admitted ≡ true → Taken
       go (long l a) d t = absurd (omega (arith, ap number_of (sym a ∙ d)))
       go (invalid w v a) d t = absurd (omega (arith, ap number_of (sym a ∙ d)))
       go (bad p b a) d t = absurd (omega (arith, ap number_of (sym a ∙ d)))
@@ -224,7 +224,7 @@ module _ (level address : ℕ) (s : State) (ram rom : List ℕ) where
       go (let_in p b i a) d t = record { passed = p; good = b; lets = t; done = d }
 
   taken_holds :
-      (took_of level address s ram rom ≡ true) ⇔ (Passed s ram rom × Good level address × (admitted ≡ true) × (operands ≡ (Ok tt)))
+      (took_of level address s ram rom ≡ true) ⇔ (Passed s ram rom × Good level address × (admitted ≡ true) × (operands ≡ Ok tt))
   unfolding took_of
   taken_holds = (
     λ e. let t = taken_says e in (t.passed, not_bad_good level address t.good, t.lets, sym (in_answer t.passed t.good t.lets) ∙ t.done),

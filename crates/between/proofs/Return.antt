@@ -32,7 +32,6 @@ use Rattle.code.specs.declared.Op.TheVariants.{Interrupts}
 use Rattle.code.specs.declared.Interrupt.TheVariants.{Reti}
 use Rattle.code.specs.declared.Operand.TheVariants.{Constant}
 use Rattle.code.specs.declared.Instruction.{Instruction}
-use Rattle.code.specs.declared.Decoded.TheVariants as decoded
 use Rattle.code.specs.Listed.{decode_of}
 use Rattle.code.specs.Written.{code_of}
 use Rattle.code.proofs.Exact.{reads_back}
@@ -105,7 +104,7 @@ module _ (level address : ℕ) (s : State) (ram rom : List ℕ) where
   record Left : Type 0 where
     vector : ℕ
     left : request_of level address s ram rom ≡ after (Ok tt) (entered level vector (with_stack s end)) (ram_bytes ram rom at 6 (return_address s))
-    stored : store_bytes ram rom at 6 ≡ (Ok tt)
+    stored : store_bytes ram rom at 6 ≡ Ok tt
 
   left_by_lem : Taken level address s ram rom → Left
   left_by_lem t = loading (load_of ram rom address Long) (taken_is level address s ram rom t)
@@ -122,7 +121,7 @@ module _ (level address : ℕ) (s : State) (ram rom : List ℕ) where
       loading (Err x) h = absurd (omega (arith, ap number_of (sym (ap (λ (o : Outcome). o.answer) h) ∙ t.done)))
 
   -- the six bytes are in RAM
-  in_ram : (p : Place) → bytes_at ram rom at 6 ≡ p → store_to p at ≡ (Ok tt) → (bytes_at ram rom at 6 ≡ Ram at) × (at + 6 ≤ length ram)
+  in_ram : (p : Place) → bytes_at ram rom at 6 ≡ p → store_to p at ≡ Ok tt → (bytes_at ram rom at 6 ≡ Ram at) × (at + 6 ≤ length ram)
   in_ram (Ram o) e d = let f = ram_fits_lem (length ram) (length rom) at 6 o e in (e ∙ ap Ram f.0, omega (arith, f.0, f.1))
   in_ram (Rom o) e d = absurd (omega (arith, ap number_of d))
   in_ram (Missing x) e d = absurd (omega (arith, ap number_of d))
@@ -189,7 +188,7 @@ entered_parts level vector s x = (refl, refl, refl)
 abbrev reti : Instruction
 reti = record { op = Interrupts Reti; size = Byte; operand = Constant 0; length = 1 }
 
-is_reti_lem : (rest : List ℕ) → decode_of (0x07 ∷ rest) ≡ decoded.Whole reti
+is_reti_lem : (rest : List ℕ) → decode_of (0x07 ∷ rest) ≡ Ok reti
 unfolding code_of
 is_reti_lem rest = reads_back (Interrupts Reti) Byte (Constant 0) rest refl
 

@@ -1,9 +1,9 @@
 -- Steps with offers of requests between them, one after the other (request K8). Each statement is proved in proofs/History.antt.
 use Rattle.std.specs.Prelude.{ℕ, ◌+◌, ◌%◌, ◌^◌, ◌<◌, ◌≡◌, List, [], ◌∷◌, Bool, true, false, cond, Ok, Err}
-use Rattle.answer.specs.declared.{Why.Why}
+use Rattle.answer.specs.declared.Why.{Why}
 use Rattle.memory.specs.Access.{code_at}
 use Rattle.state.specs.{declared.State.State, Sound.Sound}
-use Rattle.code.specs.{declared.Op.Op, declared.Interrupt.Interrupt, declared.Decoded.Decoded, Listed.decode_of}
+use Rattle.code.specs.{declared.Op.Op, declared.Interrupt.Interrupt, Listed.decode_of}
 use Rattle.code.specs.declared.Op.TheVariants.{Controls, Stacks, Puts, Sets, Blocks, Interrupts}
 use Rattle.code.specs.declared.Interrupt.TheVariants.{PushSr, PopSr, Reti}
 use Rattle.operand.specs.Try.{Try, did, no}
@@ -12,7 +12,8 @@ use Rattle.turn.specs.Many.{ends}
 use Rattle.facts.specs.Statements.{Passed}
 use Rattle.run.specs.Run.{most_steps, run_of}
 use Rattle.request.specs.Request.{offered_of, took_of}
-use Rattle.code.specs.declared.Decoded.TheVariants as decoded
+use Rattle.code.specs.Unread.{Decoded}
+use Rattle.code.specs.declared.Unread.TheVariants.{Short, Unlisted}
 
 -- what happens to the machine: a step, or an offer of a level with a vector's address
 pub data Event : Type 0 where
@@ -49,9 +50,9 @@ returns_by (Blocks f) = false
 returns_by (Interrupts what) = is_reti what
 
 abbrev pub return_at : Decoded → Bool
-return_at decoded.Short = false
-return_at decoded.Unlisted = false
-return_at (decoded.Whole i) = returns_by i.op
+return_at (Err Short) = false
+return_at (Err Unlisted) = false
+return_at (Ok i) = returns_by i.op
 
 -- an event is a step; an offer that is taken; a step at RETI
 abbrev pub stepping : Event → State → List ℕ → List ℕ → Bool

@@ -24,7 +24,7 @@ module _ (level address : ℕ) (s : State) (ram rom : List ℕ) where
     pub taken :
         (took_of level address s ram rom ≡ true)
         ⇔ (Passed s ram rom × Good level address × (takes s.level.0 level ≡ true)
-        × (operands_answer ram rom (bytes address 4) (below_stack s 6) ≡ (Ok tt)))
+        × (operands_answer ram rom (bytes address 4) (below_stack s 6) ≡ Ok tt))
 
   -- one that is not taken is as if it had not been offered, whatever the vector's address is: state and RAM are as they were, and the number is 0
   abbrev pub NotTaken : Type 0

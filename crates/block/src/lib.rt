@@ -15,7 +15,7 @@ ghost use Rattle.memory.specs.Place.{place_of};
 ghost use Rattle.block.specs.inner.Again.{in_rom, again_of};
 ghost use Rattle.block.specs.Block.{counted, stepped_of, moved, copied, accumulator_in, compared, round_of, goes_on, ends_at};
 
-use answer::{Answer, Why};
+use answer::Answer;
 use code::Form;
 use flags::Computed;
 use little::{ADDRESSES, Size};

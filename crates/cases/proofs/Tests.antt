@@ -21,7 +21,6 @@ use Rattle.code.specs.declared.Form.{Form}
 use Rattle.code.specs.declared.Base.TheVariants.{Indirect}
 use Rattle.code.specs.declared.Op.TheVariants.{Blocks}
 use Rattle.code.specs.declared.Instruction.{Instruction}
-use Rattle.code.specs.declared.Decoded.TheVariants.{Whole}
 use Rattle.block.specs.Block.{accumulator}
 use Rattle.run.specs.Demand.{At, Spares, EqualAt, RefusedAt, element_of, target_of, element_place, count_of, at_count, at_equal, at_refusal, Passes}
 use Rattle.cases.specs.Table.{Machine}
@@ -122,7 +121,7 @@ module _ (f : Form) (s : State) (ram rom : List ℕ) where
   abbrev pub at_test : Bool
   at_test = sound_test s && (memory_test ram && memory_test rom)
 
-  pub at_by : T at_test → valid_of s ≡ true → decode_of (code_at ram rom s.counter) ≡ Whole (block f) → f.again ≡ true → At f s ram rom
+  pub at_by : T at_test → valid_of s ≡ true → decode_of (code_at ram rom s.counter) ≡ Ok (block f) → f.again ≡ true → At f s ram rom
   at_by t valid here again =
       let both = and_right (sound_test s) (memory_test ram && memory_test rom) t in
       let m = and_left (memory_test ram) (memory_test rom) both in
@@ -148,7 +147,7 @@ module _ (f : Form) (x : Machine) (rom : List ℕ) where
   abbrev ram : List ℕ
   ram = x.ram
 
-  module _ (t : T (at_test f s ram rom)) (v : valid_of s ≡ true) (h : decode_of (code_at ram rom s.counter) ≡ Whole (block f)) (a : f.again ≡ true) where
+  module _ (t : T (at_test f s ram rom)) (v : valid_of s ≡ true) (h : decode_of (code_at ram rom s.counter) ≡ Ok (block f)) (a : f.again ≡ true) where
     pub count_met :
         (n : ℕ) → count_of s ≡ n → T (below n (pass_test f s ram rom)) → T (below n (spared_test f s)) → StartMet (tells f x rom at_count n)
     count_met n e y z = (at_by f s ram rom t v h a, subst (λ (k : ℕ). Passes f s ram rom k) (sym e) (passes f s ram rom n y), e, spared f s n z)

@@ -1,6 +1,6 @@
 -- How a table of runs, or of histories, is written: what they start from, and all that they leave.
 use Rattle.std.specs.Prelude.{ℕ, ◌≡◌, List, [], ◌∷◌, replicate, Ok}
-use Rattle.answer.specs.declared.{Why.Why}
+use Rattle.answer.specs.declared.Why.{Why}
 use Rattle.little.specs.{declared.Size.Size, Bytes.replaced}
 use Rattle.little.specs.declared.Size.TheVariants.{Byte, Word, Long}
 use Rattle.state.specs.{declared.State.State, State.reset_state, State.lent, State.with_counter, State.with_bank, State.with_level, State.with_nesting, State.with_flags, State.with_both_flags, State.with_long, Register.set_register}

@@ -20,19 +20,19 @@ use Rattle.code.specs.declared.Use.{Use}
 use Rattle.code.specs.declared.Use.TheVariants.{Scaled, ScaledWith, Cycled}
 use Rattle.code.specs.declared.Operand.{Operand}
 use Rattle.code.specs.declared.Operand.TheVariants.{Register}
-use Rattle.code.specs.declared.Decoded.{Decoded}
-use Rattle.code.specs.declared.Decoded.TheVariants.{Short, Unlisted}
 use Rattle.code.specs.Said.{Said, whole, unlisted, next, number, judge, number_at, with_found, whole_of}
 use Rattle.code.specs.Rows.{Bytes, run, Row, ◌⇒◌, has, lookup, by_rows, only, no_byte, only_word}
 use Rattle.code.proofs.Prefix.{grows, after_next}
 use Rattle.code.specs.Registers.{register_rows, places_rows, is_low, scale_kind, stride_kind, last_rows, table_rows, feed_rows}
-use Rattle.std.proofs.Common.{Some, None, Option}
+use Rattle.std.proofs.Common.{Some, None, Option, Err}
+use Rattle.code.specs.Unread.{Decoded}
+use Rattle.code.specs.declared.Unread.TheVariants.{Short, Unlisted}
 
 module _ (z : Size) (o p : Operand) where
   abbrev pub Alike : Decoded → Decoded → Type 0
   Alike d e =
       ((how : Use) × (n : ℕ) × (d ≡ whole_of (Puts how) z o n) × (e ≡ whole_of (Puts how) z p n))
-      ⊎ (((d ≡ Short) × (e ≡ Short)) ⊎ ((d ≡ Unlisted) × (e ≡ Unlisted)))
+      ⊎ (((d ≡ Err Short) × (e ≡ Err Short)) ⊎ ((d ≡ Err Unlisted) × (e ≡ Err Unlisted)))
 
   -- of what is said, wherever it is judged
   abbrev Same : Said → Said → Type 0
@@ -64,7 +64,7 @@ module _ (z : Size) (o p : Operand) where
   unfolding judge
   same_next f g h s i = go (ltb i (length s))
     where
-      go : (b : Bool) → Alike (cond b (judge (f (get_or s i 0)) s (i + 1)) Short) (cond b (judge (g (get_or s i 0)) s (i + 1)) Short)
+      go : (b : Bool) → Alike (cond b (judge (f (get_or s i 0)) s (i + 1)) (Err Short)) (cond b (judge (g (get_or s i 0)) s (i + 1)) (Err Short))
       go true = h (get_or s i 0) s (i + 1)
       go false = inr (inl (refl, refl))
 
@@ -122,7 +122,7 @@ module _ (z : Size) (o p : Operand) where
   alike e = same_next _ _ (same_registers e)
 
 -- of the feed calculation's rows alone: what they say is a use of the operand, or nothing
-pub feed_forms : (z : Size) (o : Operand) (s : List ℕ) → ((how : Use) × (n : ℕ) × (judge (by_rows (feed_rows z o)) s 1 ≡ whole_of (Puts how) z o n)) ⊎ ((judge (by_rows (feed_rows z o)) s 1 ≡ Short) ⊎ (judge (by_rows (feed_rows z o)) s 1 ≡ Unlisted))
+pub feed_forms : (z : Size) (o : Operand) (s : List ℕ) → ((how : Use) × (n : ℕ) × (judge (by_rows (feed_rows z o)) s 1 ≡ whole_of (Puts how) z o n)) ⊎ ((judge (by_rows (feed_rows z o)) s 1 ≡ Err Short) ⊎ (judge (by_rows (feed_rows z o)) s 1 ≡ Err Unlisted))
 feed_forms z o s = elim (same_next z o o _ _ (same_feed z o o refl) s 1) [
   | inl w ↦ inl (w.0, w.1, w.2)
   | inr w ↦ elim w [ inl x ↦ inr (inl x.0) | inr x ↦ inr (inr x.0) ]

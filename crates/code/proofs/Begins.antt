@@ -11,7 +11,6 @@ use lib.Dec.{ltb, leb}
 use borrow.Author.Tests.{ltb-true, ltb-false, leb-true, leb-false}
 use Rattle.little.specs.Bytes.{Bytes, value_of, bytes_from}
 use Rattle.code.specs.declared.Instruction.{Instruction}
-use Rattle.code.specs.declared.Decoded.TheVariants.{Whole, Short}
 use Rattle.code.specs.Said.{Said, whole, unlisted, next, number, judge, number_at, with_found}
 use Rattle.code.specs.Rows.{by_rows}
 use Rattle.code.specs.Listed.{first_rows, decode_of}
@@ -20,11 +19,12 @@ use Rattle.code.proofs.Prefix.{step_next, step_number, byte_in_lem, value_in_lem
 use Rattle.code.proofs.Says.{bytes_append}
 use Rattle.code.proofs.Walk.{Can, Walk}
 use Rattle.code.proofs.Codes.{first_rows_lem}
-use Rattle.std.proofs.Common.{Some, None}
+use Rattle.std.proofs.Common.{Some, None, Ok, Err}
+use Rattle.code.specs.declared.Unread.TheVariants.{Short}
 
 -- ---- more bytes, all of them bytes
 abbrev Ends : Said → List ℕ → ℕ → Type 0
-Ends j s i = (t : List ℕ) × (x : Instruction) × (Bytes t) × (judge j (s ++ t) i ≡ Whole x)
+Ends j s i = (t : List ℕ) × (x : Instruction) × (Bytes t) × (judge j (s ++ t) i ≡ Ok x)
 
 no_bytes : Bytes []
 no_bytes k = omega arith
@@ -68,31 +68,31 @@ ends (number n f) c s = fill n f (length s) s (omega arith) (omega arith) (λ v 
 
 -- ---- where the bytes end
 short_next :
-    (f : ℕ → Said) (s : List ℕ) (i : ℕ) → judge (next f) s i ≡ Short →
-    ((i < length s) × (judge (f (get_or s i 0)) s (i + 1) ≡ Short)) ⊎ (length s ≤ i)
+    (f : ℕ → Said) (s : List ℕ) (i : ℕ) → judge (next f) s i ≡ Err Short →
+    ((i < length s) × (judge (f (get_or s i 0)) s (i + 1) ≡ Err Short)) ⊎ (length s ≤ i)
 unfolding judge
 short_next f s i = go (ltb i (length s)) refl
   where
     go :
-        (t : Bool) → ltb i (length s) ≡ t → cond t (judge (f (get_or s i 0)) s (i + 1)) Short ≡ Short →
-        ((i < length s) × (judge (f (get_or s i 0)) s (i + 1) ≡ Short)) ⊎ (length s ≤ i)
+        (t : Bool) → ltb i (length s) ≡ t → cond t (judge (f (get_or s i 0)) s (i + 1)) (Err Short) ≡ Err Short →
+        ((i < length s) × (judge (f (get_or s i 0)) s (i + 1) ≡ Err Short)) ⊎ (length s ≤ i)
     go true e h = inl (ltb-true _ _ e, h)
     go false e h = inr (ltb-false _ _ e)
 
 short_number :
-    (f : ℕ → Said) (s : List ℕ) (i n : ℕ) → judge (number n f) s i ≡ Short →
-    ((i + n ≤ length s) × (judge (f (value_of (take n (drop i s)))) s (i + n) ≡ Short)) ⊎ (length s ≤ i + n)
+    (f : ℕ → Said) (s : List ℕ) (i n : ℕ) → judge (number n f) s i ≡ Err Short →
+    ((i + n ≤ length s) × (judge (f (value_of (take n (drop i s)))) s (i + n) ≡ Err Short)) ⊎ (length s ≤ i + n)
 unfolding judge number_at
 short_number f s i n = go (leb (i + n) (length s)) refl
   where
     go :
         (t : Bool) → leb (i + n) (length s) ≡ t →
-        with_found (cond t (Some (value_of (take n (drop i s)))) None) (λ v. judge (f v) s (i + n)) ≡ Short →
-        ((i + n ≤ length s) × (judge (f (value_of (take n (drop i s)))) s (i + n) ≡ Short)) ⊎ (length s ≤ i + n)
+        with_found (cond t (Some (value_of (take n (drop i s)))) None) (λ v. judge (f v) s (i + n)) ≡ Err Short →
+        ((i + n ≤ length s) × (judge (f (value_of (take n (drop i s)))) s (i + n) ≡ Err Short)) ⊎ (length s ≤ i + n)
     go true e h = inl (leb-true _ _ e, h)
     go false e h = inr (let l : length s < i + n = leb-false _ _ e in omega arith)
 
-begins : (j : Said) (s : List ℕ) (i : ℕ) (p : List ℕ) → Walk ⊥ j i p → i ≤ length s → judge j s i ≡ Short → Ends j s i
+begins : (j : Said) (s : List ℕ) (i : ℕ) (p : List ℕ) → Walk ⊥ j i p → i ≤ length s → judge j s i ≡ Err Short → Ends j s i
 unfolding judge
 begins (whole op z o) s i p g h e = let x : ◌≡◌ {A = ℕ} 0 1 = cc in let y : ⊥ = omega arith in absurd y
 begins unlisted s i p g h e = let x : ◌≡◌ {A = ℕ} 0 1 = cc in let y : ⊥ = omega arith in absurd y

@@ -10,8 +10,6 @@ use Rattle.little.specs.declared.Size.{Size}
 use Rattle.code.specs.declared.Op.{Op}
 use Rattle.code.specs.declared.Operand.{Operand}
 use Rattle.code.specs.declared.Instruction.{Instruction}
-use Rattle.code.specs.declared.Decoded.{Decoded}
-use Rattle.code.specs.declared.Decoded.TheVariants.{Whole, Short, Unlisted}
 use Rattle.code.specs.Said.{whole_of, judge}
 use Rattle.code.specs.Listed.{decode_of}
 use Rattle.code.specs.Range.{range_of, in_range}
@@ -20,6 +18,9 @@ use Rattle.code.specs.Laws.{RangeTest, RangeExact, ReadsBack, CodeFits, NoneBegi
 use Rattle.code.proofs.Holds.{holds_so, so_holds}
 use Rattle.code.proofs.Walked.{ranges}
 use Rattle.code.proofs.ReadsBack.{reads}
+use Rattle.std.proofs.Common.{Ok, Err}
+use Rattle.code.specs.Unread.{Decoded}
+use Rattle.code.specs.declared.Unread.TheVariants.{Short, Unlisted}
 
 pub range_test : RangeTest
 range_test op z o = (holds_so (range_of op z o), so_holds (range_of op z o))
@@ -42,9 +43,9 @@ range_exact op z o = (
 )
 
 abbrev parts_of : Decoded → Instruction → Instruction
-parts_of (Whole i) d = i
-parts_of Short d = d
-parts_of Unlisted d = d
+parts_of (Ok i) d = i
+parts_of (Err Short) d = d
+parts_of (Err Unlisted) d = d
 
 nothing_more : (s t : List ℕ) → length s ≡ length (s ++ t) → t ≡ []
 nothing_more s [] e = refl
@@ -54,6 +55,6 @@ pub none_begins : NoneBegins
 none_begins op op' z z' o o' t h h' e =
     let i : Instruction = record { op = op; size = z; operand = o; length = length (code_of op z o) } in
     let j : Instruction = record { op = op'; size = z'; operand = o'; length = length (code_of op' z' o') } in
-    let w : Whole i ≡ Whole j = sym (reads_back op z o t h) ∙ (ap decode_of e ∙ read_alone op' z' o' h') in
+    let w : Ok i ≡ Ok j = sym (reads_back op z o t h) ∙ (ap decode_of e ∙ read_alone op' z' o' h') in
     let p : i ≡ j = ap (λ (d : Decoded). parts_of d i) w in
     (ap (λ (x : Instruction). x.op) p, ap (λ (x : Instruction). x.size) p, ap (λ (x : Instruction). x.operand) p, nothing_more (code_of op z o) t (ap (λ (x : Instruction). x.length) p ∙ ap length (sym e)))

@@ -21,7 +21,6 @@ use Rattle.code.specs.declared.Op.TheVariants.{Puts}
 use Rattle.code.specs.declared.Use.TheVariants.{Scaled, ScaledWith, Cycled}
 use Rattle.code.specs.declared.Operand.{Operand}
 use Rattle.code.specs.declared.Operand.TheVariants.{Register}
-use Rattle.code.specs.declared.Decoded.TheVariants.{Short, Unlisted}
 use Rattle.code.specs.Said.{Said, whole, unlisted, number, judge, whole_of}
 use Rattle.code.specs.Rows.{lookup, by_rows, only, only_word}
 use Rattle.code.specs.Registers.{is_low, scale_kind, stride_kind, last_rows, table_rows, feed_rows}
@@ -34,6 +33,8 @@ use Rattle.code.proofs.Groups.{in_group, Missed}
 use Rattle.code.proofs.Judge.{bytes_bounds, run_there, next_short}
 use Rattle.code.proofs.RowBytes.{run_in}
 use Rattle.code.proofs.Walk.{Can, Walk, Rows, by_rows_lem}
+use Rattle.std.proofs.Common.{Err}
+use Rattle.code.specs.declared.Unread.TheVariants.{Short, Unlisted}
 
 -- ---- a number that 000 allows, less the step: a power of two less the step
 power_is : (n num : ℕ) → is_power n num ≡ true → (j : ℕ) × (j ≤ n) × (num ≡ 2 ^ j)
@@ -219,18 +220,18 @@ module _ (z : Size) (o : Operand) where
 
   -- a number less its step, judged byte by byte
   module _ (s : Stride) (how : ℕ → Cycle) (t : List ℕ) (l : 2 < length t) (lo : ℕ) (b : lo ≡ get_or t 2 0) (w : lo ≤ 0xFF) where
-    pub low_none : is_table s lo ≡ false → Unlisted ≡ judge (by_rows (table_rows z o s how)) t 2
+    pub low_none : is_table s lo ≡ false → (Err Unlisted) ≡ judge (by_rows (table_rows z o s how)) t 2
     unfolding table_rows judge
-    low_none e = run_there 0xFF _ t 2 l Unlisted (rw (← b) w) (rw (← b, e) refl)
+    low_none e = run_there 0xFF _ t 2 l (Err Unlisted) (rw (← b) w) (rw (← b, e) refl)
 
-    pub high_short : is_table s lo ≡ true → length t ≤ 3 → Short ≡ judge (by_rows (table_rows z o s how)) t 2
+    pub high_short : is_table s lo ≡ true → length t ≤ 3 → (Err Short) ≡ judge (by_rows (table_rows z o s how)) t 2
     unfolding table_rows judge
-    high_short e k = run_there 0xFF _ t 2 l Short (rw (← b) w) (rw (← b, e) (next_short (lookup (last_rows z o s how lo)) t 3 k))
+    high_short e k = run_there 0xFF _ t 2 l (Err Short) (rw (← b) w) (rw (← b, e) (next_short (lookup (last_rows z o s how lo)) t 3 k))
 
     module _ (e : is_table s lo ≡ true) (m : 3 < length t) (hi : ℕ) (c : hi ≡ get_or t 3 0) (v : hi ≤ 0xFF) where
-      pub high_none : is_table s (lo + 256 * hi) ≡ false → Unlisted ≡ judge (by_rows (table_rows z o s how)) t 2
+      pub high_none : is_table s (lo + 256 * hi) ≡ false → (Err Unlisted) ≡ judge (by_rows (table_rows z o s how)) t 2
       unfolding table_rows last_rows judge
-      high_none f = run_there 0xFF _ t 2 l Unlisted (rw (← b) w) (rw (← b, e) (run_there 0xFF _ t 3 m Unlisted (rw (← c) v) (rw (← c, f) refl)))
+      high_none f = run_there 0xFF _ t 2 l (Err Unlisted) (rw (← b) w) (rw (← b, e) (run_there 0xFF _ t 3 m (Err Unlisted) (rw (← c) v) (rw (← c, f) refl)))
 
       pub table_whole : is_table s (lo + 256 * hi) ≡ true → whole_of (Puts (Cycled (how (lo + 256 * hi)))) z o 4 ≡ judge (by_rows (table_rows z o s how)) t 2
       unfolding table_rows last_rows judge

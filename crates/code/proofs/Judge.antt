@@ -14,18 +14,18 @@ use Rattle.little.specs.declared.Size.{Size}
 use Rattle.little.specs.declared.Size.TheVariants.{Byte, Word, Long}
 use Rattle.code.specs.declared.Op.{Op}
 use Rattle.code.specs.declared.Operand.{Operand}
-use Rattle.code.specs.declared.Decoded.{Decoded}
-use Rattle.code.specs.declared.Decoded.TheVariants.{Short, Unlisted}
 use Rattle.code.specs.Said.{Said, whole, next, number, judge, number_at, whole_of}
 use Rattle.code.specs.Rows.{run, ◌⇒◌, lookup, by_rows}
-use Rattle.std.proofs.Common.{Some, None, Option}
+use Rattle.std.proofs.Common.{Some, None, Option, Err}
+use Rattle.code.specs.Unread.{Decoded}
+use Rattle.code.specs.declared.Unread.TheVariants.{Short, Unlisted}
 
 module _ (f : ℕ → Said) (s : List ℕ) (i : ℕ) where
   pub next_there : (d : Decoded) → i < length s → d ≡ judge (f (get_or s i 0)) s (i + 1) → d ≡ judge (next f) s i
   unfolding judge
   next_there d h e = simp (lt-ltb _ _ h) e
 
-  pub next_short : length s ≤ i → Short ≡ judge (next f) s i
+  pub next_short : length s ≤ i → (Err Short) ≡ judge (next f) s i
   unfolding judge
   next_short h = simp (le-ltb _ _ h)
 
@@ -35,7 +35,7 @@ module _ (hi : ℕ) (f : ℕ → Said) (s : List ℕ) (i : ℕ) (h : i < length 
   unfolding judge lookup
   run_there d k e = simp (lt-ltb _ _ h, leb-zero, le-leb _ _ k) e
 
-  pub run_unlisted : hi < get_or s i 0 → Unlisted ≡ judge (by_rows ((run 0 hi ⇒ f) ∷ [])) s i
+  pub run_unlisted : hi < get_or s i 0 → (Err Unlisted) ≡ judge (by_rows ((run 0 hi ⇒ f) ∷ [])) s i
   unfolding judge lookup
   run_unlisted k = simp (lt-ltb _ _ h, leb-zero, lt-leb _ _ k)
 
@@ -92,6 +92,6 @@ module _ (k : ℕ → Said) (s : List ℕ) (i n : ℕ) where
   unfolding judge
   number_then v f d e g h = rw (← e, g) h
 
-  pub number_short : (f : Option ℕ) → f ≡ number_at s i n → f ≡ None → Short ≡ judge (number n k) s i
+  pub number_short : (f : Option ℕ) → f ≡ number_at s i n → f ≡ None → (Err Short) ≡ judge (number n k) s i
   unfolding judge
   number_short f e g = rw (← e, g)

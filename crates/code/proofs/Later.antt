@@ -10,12 +10,12 @@ use lib.ListN.{length, get_or, take, drop, length-drop}
 use lib.Seq.{get_or-drop, drop-drop, take_all}
 use borrow.Author.Tests.{ltb-true, ltb-false, lt-ltb, le-ltb, leb-true, leb-false, le-leb, lt-leb}
 use Rattle.code.specs.declared.Instruction.{Instruction}
-use Rattle.code.specs.declared.Decoded.{Decoded}
-use Rattle.code.specs.declared.Decoded.TheVariants.{Whole, Short}
 use Rattle.code.specs.Said.{Said, whole, unlisted, next, number, judge, number_at, with_found}
 use Rattle.code.specs.inner.Parts.{longer}
 use Rattle.code.proofs.Prefix.{after_next, within}
-use Rattle.std.proofs.Common.{Some, None, Option}
+use Rattle.std.proofs.Common.{Some, None, Option, Ok, Err}
+use Rattle.code.specs.Unread.{Decoded}
+use Rattle.code.specs.declared.Unread.TheVariants.{Short}
 
 module _ (n : ℕ) (s : List ℕ) (k : n ≤ length s) where
   byte_there : (i : ℕ) → ltb i (length (drop n s)) ≡ ltb (n + i) (length s)
@@ -37,7 +37,7 @@ module _ (n : ℕ) (s : List ℕ) (k : n ≤ length s) where
   same_number i m = rw (number_there i m, drop-drop i n s) refl
 
   -- what follows, where it is there and judged so
-  next_later : (x y : Decoded) → x ≡ longer n y → (b : Bool) → cond b x Short ≡ longer n (cond b y Short)
+  next_later : (x y : Decoded) → x ≡ longer n y → (b : Bool) → cond b x (Err Short) ≡ longer n (cond b y (Err Short))
   next_later x y e true = e
   next_later x y e false = refl
 
@@ -65,9 +65,9 @@ module _ (n : ℕ) (s : List ℕ) (k : n ≤ length s) (f : ℕ → Said) where
   pub part_later : longer n (judge (next f) (take (length s - n) (drop n s)) 1) ≡ judge (next f) s (1 + n)
   part_later = rw (part_drop, add_comm 1 n) (sym (judged_later n s k (next f) 1))
 
-  pub part_within : (x : Instruction) → judge (next f) (take (length s - n) (drop n s)) 1 ≡ Whole x → n + x.length ≤ length s
+  pub part_within : (x : Instruction) → judge (next f) (take (length s - n) (drop n s)) 1 ≡ Ok x → n + x.length ≤ length s
   part_within x e =
-      let d : judge (next f) (drop n s) 1 ≡ Whole x = rw part_drop at e in
-      let l : 1 < length (drop n s) = (after_next f (drop n s) 1 (Whole x) tt d).0 in
+      let d : judge (next f) (drop n s) 1 ≡ Ok x = rw part_drop at e in
+      let l : 1 < length (drop n s) = (after_next f (drop n s) 1 (Ok x) tt d).0 in
       let h : x.length ≤ length (drop n s) = within (next f) (drop n s) 1 x (omega arith) d in
       omega (arith, length-drop n s)

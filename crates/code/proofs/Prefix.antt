@@ -10,19 +10,19 @@ use lib.Dec.{ltb, leb}
 use borrow.Author.Tests.{ltb-true, leb-true}
 use Rattle.little.specs.Bytes.{value_of}
 use Rattle.code.specs.declared.Instruction.{Instruction}
-use Rattle.code.specs.declared.Decoded.{Decoded}
-use Rattle.code.specs.declared.Decoded.TheVariants.{Whole, Short, Unlisted}
 use Rattle.code.specs.Said.{Said, whole, unlisted, next, number, judge, number_at, with_found}
 use Rattle.code.specs.Listed.{decode_of}
 use Rattle.code.specs.Laws.{WholeStays, OwnBytes, SameStart, UnlistedStays, TwoBytes}
 use Rattle.code.proofs.Judge.{next_there, number_there, number_then}
-use Rattle.std.proofs.Common.{Some, None}
+use Rattle.std.proofs.Common.{Some, None, Ok, Err}
+use Rattle.code.specs.Unread.{Decoded}
+use Rattle.code.specs.declared.Unread.TheVariants.{Short, Unlisted}
 
 -- not short
 abbrev pub Settled : Decoded → Type 0
-Settled (Whole x) = Unit {0}
-Settled Short = ⊥
-Settled Unlisted = Unit {0}
+Settled (Ok x) = Unit {0}
+Settled (Err Short) = ⊥
+Settled (Err Unlisted) = Unit {0}
 
 -- ---- what was judged was there
 module _ (f : ℕ → Said) (s : List ℕ) (i : ℕ) (d : Decoded) (w : Settled d) where
@@ -30,7 +30,7 @@ module _ (f : ℕ → Said) (s : List ℕ) (i : ℕ) (d : Decoded) (w : Settled 
   unfolding judge
   after_next = go (ltb i (length s)) refl
     where
-      go : (t : Bool) → ltb i (length s) ≡ t → cond t (judge (f (get_or s i 0)) s (i + 1)) Short ≡ d → (i < length s) × (judge (f (get_or s i 0)) s (i + 1) ≡ d)
+      go : (t : Bool) → ltb i (length s) ≡ t → cond t (judge (f (get_or s i 0)) s (i + 1)) (Err Short) ≡ d → (i < length s) × (judge (f (get_or s i 0)) s (i + 1) ≡ d)
       go true e h = (ltb-true _ _ e, h)
       go false e h = absurd (subst Settled (sym h) w)
 
@@ -83,47 +83,47 @@ stays (number n f) p q i d w e =
 
 -- ---- lengths
 abbrev length_of : Decoded → ℕ
-length_of (Whole x) = x.length
-length_of Short = 0
-length_of Unlisted = 0
+length_of (Ok x) = x.length
+length_of (Err Short) = 0
+length_of (Err Unlisted) = 0
 
-pub grows : (j : Said) (s : List ℕ) (i : ℕ) (x : Instruction) → judge j s i ≡ Whole x → i ≤ x.length
+pub grows : (j : Said) (s : List ℕ) (i : ℕ) (x : Instruction) → judge j s i ≡ Ok x → i ≤ x.length
 unfolding judge
 grows (whole op z o) s i x e = let l : i ≡ x.length = ap length_of e in omega arith
 grows unlisted s i x e = let z : ◌≡◌ {A = ℕ} 0 1 = cc in omega arith
 grows (next f) s i x e =
-    let k : i + 1 ≤ x.length = grows (f (get_or s i 0)) s (i + 1) x (after_next f s i (Whole x) tt e).1 in
+    let k : i + 1 ≤ x.length = grows (f (get_or s i 0)) s (i + 1) x (after_next f s i (Ok x) tt e).1 in
     omega arith
 grows (number n f) s i x e =
-    let k : i + n ≤ x.length = grows (f (value_of (take n (drop i s)))) s (i + n) x (after_number f s i (Whole x) tt n e).1 in
+    let k : i + n ≤ x.length = grows (f (value_of (take n (drop i s)))) s (i + n) x (after_number f s i (Ok x) tt n e).1 in
     omega arith
 
-pub within : (j : Said) (s : List ℕ) (i : ℕ) (x : Instruction) → i ≤ length s → judge j s i ≡ Whole x → x.length ≤ length s
+pub within : (j : Said) (s : List ℕ) (i : ℕ) (x : Instruction) → i ≤ length s → judge j s i ≡ Ok x → x.length ≤ length s
 unfolding judge
 within (whole op z o) s i x h e = let l : i ≡ x.length = ap length_of e in omega arith
 within unlisted s i x h e = let z : ◌≡◌ {A = ℕ} 0 1 = cc in omega arith
 within (next f) s i x h e =
-    let a = after_next f s i (Whole x) tt e in
+    let a = after_next f s i (Ok x) tt e in
     let k : i < length s = a.0 in
     within (f (get_or s i 0)) s (i + 1) x (omega arith) a.1
 within (number n f) s i x h e =
-    let a = after_number f s i (Whole x) tt n e in
+    let a = after_number f s i (Ok x) tt n e in
     within (f (value_of (take n (drop i s)))) s (i + n) x a.0 a.1
 
 -- the bytes of the instruction are enough
-pub enough : (j : Said) (p q : List ℕ) (i : ℕ) (x : Instruction) → x.length ≤ length p → judge j (p ++ q) i ≡ Whole x → judge j p i ≡ Whole x
+pub enough : (j : Said) (p q : List ℕ) (i : ℕ) (x : Instruction) → x.length ≤ length p → judge j (p ++ q) i ≡ Ok x → judge j p i ≡ Ok x
 unfolding judge
 enough (whole op z o) p q i x h e = e
 enough unlisted p q i x h e = e
 enough (next f) p q i x h e =
-    let a = after_next f (p ++ q) i (Whole x) tt e in
+    let a = after_next f (p ++ q) i (Ok x) tt e in
     let g : i + 1 ≤ x.length = grows (f (get_or (p ++ q) i 0)) (p ++ q) (i + 1) x a.1 in
     let k : i < length p = omega arith in
     step_next f p i (get_or (p ++ q) i 0) k (sym (byte_in_lem p q i k))
     ∙ enough (f (get_or (p ++ q) i 0)) p q (i + 1) x h a.1
 enough (number n f) p q i x h e =
     let v = value_of (take n (drop i (p ++ q))) in
-    let a = after_number f (p ++ q) i (Whole x) tt n e in
+    let a = after_number f (p ++ q) i (Ok x) tt n e in
     let g : i + n ≤ x.length = grows (f v) (p ++ q) (i + n) x a.1 in
     let k : i + n ≤ length p = omega arith in
     step_number f p i n v k (sym (value_in_lem p q i n k)) ∙ enough (f v) p q (i + n) x h a.1
@@ -131,11 +131,11 @@ enough (number n f) p q i x h e =
 -- ---- the statements
 pub whole_stays : WholeStays
 unfolding decode_of
-whole_stays s t i e = stays _ s t 0 (Whole i) tt e
+whole_stays s t i e = stays _ s t 0 (Ok i) tt e
 
 pub unlisted_stays : UnlistedStays
 unfolding decode_of
-unlisted_stays s t e = stays _ s t 0 Unlisted tt e
+unlisted_stays s t e = stays _ s t 0 (Err Unlisted) tt e
 
 pub two_bytes : TwoBytes
 two_bytes b c s i e = whole_stays (b ∷ c ∷ []) s i e

@@ -10,8 +10,6 @@ use Rattle.little.specs.Bytes.{Bytes, value_of, bytes_from}
 use Rattle.little.proofs.Laws.{value_lt, bytes_value, length_bytes}
 use Rattle.code.specs.declared.Op.{Op}
 use Rattle.code.specs.declared.Instruction.{Instruction}
-use Rattle.code.specs.declared.Decoded.{Decoded}
-use Rattle.code.specs.declared.Decoded.TheVariants.{Whole, Short, Unlisted}
 use Rattle.code.specs.Said.{Said, whole, unlisted, next, number, judge}
 use Rattle.code.specs.Rows.{lookup, by_rows}
 use Rattle.code.specs.Listed.{first_rows, decode_of}
@@ -20,6 +18,9 @@ use Rattle.code.specs.Laws.{LengthFits, LengthIs, Ranges, BlockLength, KeepsByte
 use Rattle.code.proofs.Prefix.{within, grows, after_next, after_number}
 use Rattle.code.proofs.Walk.{Fine, Walk}
 use Rattle.code.proofs.Codes.{first_rows_lem}
+use Rattle.std.proofs.Common.{Ok, Err}
+use Rattle.code.specs.Unread.{Decoded}
+use Rattle.code.specs.declared.Unread.TheVariants.{Short, Unlisted}
 
 -- ---- a part of bytes is of bytes, and a number in n of them is below 256 to the n
 pub bytes_take : (n : ℕ) (l : List ℕ) → Bytes l → Bytes (take n l)
@@ -55,26 +56,26 @@ module _ (s : List ℕ) where
     fine : Fine (Bytes s) x.length code x.op x.size x.operand
 
   abbrev At : Decoded → Type 0
-  At (Whole x) = Met x
-  At Short = Unit {0}
-  At Unlisted = Unit {0}
+  At (Ok x) = Met x
+  At (Err Short) = Unit {0}
+  At (Err Unlisted) = Unit {0}
 
-  met : (x : Instruction) (j : Said) (i : ℕ) (p : List ℕ) → length p ≡ i → (Bytes s → p ≡ take i s) → Walk (Bytes s) j i p → judge j s i ≡ Whole x → Met x
+  met : (x : Instruction) (j : Said) (i : ℕ) (p : List ℕ) → length p ≡ i → (Bytes s → p ≡ take i s) → Walk (Bytes s) j i p → judge j s i ≡ Ok x → Met x
   unfolding judge
   met x (whole op z o) i p l f w h = subst At h (record { code = p; long = l; first = f; fine = w })
   met x unlisted i p l f w h = let z : ◌≡◌ {A = ℕ} 0 1 = cc in let y : ⊥ = omega arith in absurd y
   met x (next g) i p l f w h =
-      let a = after_next g s i (Whole x) tt h in
+      let a = after_next g s i (Ok x) tt h in
       let b = get_or s i 0 in
       let m : length (p ++ (b ∷ [])) ≡ i + 1 = rw length-append (omega arith) in
       met x (g b) (i + 1) (p ++ (b ∷ [])) m (λ y. ap (λ (q : List ℕ). q ++ (b ∷ [])) (f y) ∙ one_more i a.0) (w.1 b) a.1
   met x (number n g) i p l f w h =
-      let a = after_number g s i (Whole x) tt n h in
+      let a = after_number g s i (Ok x) tt n h in
       let v = value_of (take n (drop i s)) in
       let m : length (p ++ bytes_from n v) ≡ i + n = rw (length-append p (bytes_from n v), length_bytes n v) (omega arith) in
       met x (g v) (i + n) (p ++ bytes_from n v) m (λ y. ap (λ (q : List ℕ). q ++ bytes_from n v) (f y) ∙ n_more y i n a.0) (w.1 v (value_below s i n a.0)) a.1
 
-  walked : (x : Instruction) → decode_of s ≡ Whole x → Met x
+  walked : (x : Instruction) → decode_of s ≡ Ok x → Met x
   unfolding decode_of
   walked x e = met x (by_rows first_rows) 0 [] refl (λ y. refl) (first_rows_lem (Bytes s)) e
 
@@ -82,7 +83,7 @@ module _ (s : List ℕ) where
 pub length_fits : LengthFits
 unfolding decode_of
 length_fits s x e =
-    let a = after_next (lookup first_rows) s 0 (Whole x) tt e in
+    let a = after_next (lookup first_rows) s 0 (Ok x) tt e in
     (grows (lookup first_rows (get_or s 0 0)) s 1 x a.1, ((walked s x e).fine.0, within (by_rows first_rows) s 0 x (omega arith) e))
 
 pub length_is : LengthIs

@@ -1,5 +1,5 @@
 -- Codes and what they are: some of each bullet in its order, some that are short, and some that are not listed.
-use Rattle.std.specs.Prelude.{ℕ, ◌≡◌, refl, true, false, List, [], ◌∷◌, map}
+use Rattle.std.specs.Prelude.{ℕ, ◌≡◌, refl, true, false, List, [], ◌∷◌, map, Err}
 use Rattle.little.specs.Bytes.{value_of}
 use Rattle.little.specs.declared.Size.TheVariants.{Byte, Word, Long}
 use Rattle.alu.specs.declared.Shift.TheVariants.{Sla, Sra, Srl}
@@ -9,8 +9,8 @@ use Rattle.feed.specs.declared.scale.Scale.TheVariants.{Mul, Muls, Div, Divs}
 use Rattle.feed.specs.declared.cycle.Stride.TheVariants.{One, Two, Four}
 use Rattle.feed.specs.declared.cycle.Cycle.TheVariants.{Minc, Mdec}
 use Rattle.feed.specs.Cycle.{is_power, is_table}
-use Rattle.code.specs.{declared.Operand.TheVariants.Register, declared.Operand.TheVariants.Named, declared.Operand.TheVariants.Constant, declared.Decoded.Decoded}
-use Rattle.code.specs.{declared.Decoded.TheVariants.Short, declared.Decoded.TheVariants.Unlisted, Said.judge, Said.number_at, Said.whole_of}
+use Rattle.code.specs.{declared.Operand.TheVariants.Register, declared.Operand.TheVariants.Named, declared.Operand.TheVariants.Constant}
+use Rattle.code.specs.{Said.judge, Said.number_at, Said.whole_of}
 use Rattle.code.specs.{Rows.lookup, Registers.register_rows, Registers.feed_rows, Registers.table_rows, Registers.last_rows, Registers.places_rows, Memory.form, Memory.memory_rows, Memory.store_rows}
 use Rattle.code.specs.{Memory.copies, Memory.compares, Memory.blocks, Memory.indirect_rows, Listed.absolute_rows, Listed.up_to_seven_rows}
 use Rattle.code.specs.{Listed.bank_rows, Listed.flag_rows, Listed.constant_rows, Listed.stack_rows, Listed.jump_rows, Listed.relative_rows}
@@ -23,6 +23,8 @@ use Rattle.code.specs.declared.Interrupt.TheVariants.{PushSr, PopSr, Reti}
 use Rattle.code.specs.declared.Use.TheVariants.{Number, From, Load, Compute, Changed, Scaled, ScaledWith, Cycled}
 use Rattle.code.specs.declared.Side.TheVariants.{First, Second, With}
 use Rattle.code.specs.declared.Base.TheVariants.{Indirect, Displaced, Absolute8, Absolute16, Absolute24}
+use Rattle.code.specs.Unread.{Decoded}
+use Rattle.code.specs.declared.Unread.TheVariants.{Short, Unlisted}
 
 -- bytes, and what they are
 pub record Example : Type 0 where
@@ -112,21 +114,21 @@ examples =
     ((0x84 ∷ 0x15 ∷ []) is whole_of (Blocks (record { copies = false; size = Byte; up = true; again = true; to = 4; from = 4 })) Byte (form (Indirect 4) 0) 2) ∷
     ((0x97 ∷ 0x16 ∷ []) is whole_of (Blocks (record { copies = false; size = Word; up = false; again = false; to = 7; from = 7 })) Word (form (Indirect 7) 0) 2) ∷
     -- short
-    (([]) is Short) ∷ ((0x17 ∷ []) is Short) ∷ ((0x42 ∷ 0x01 ∷ 0x02 ∷ 0x03 ∷ []) is Short) ∷ ((0xDB ∷ 0xEC ∷ []) is Short) ∷
-    ((0xC9 ∷ 0xC8 ∷ []) is Short) ∷ ((0xC1 ∷ 0x34 ∷ []) is Short) ∷ ((0xC1 ∷ 0x34 ∷ 0x12 ∷ []) is Short) ∷ ((0x83 ∷ []) is Short) ∷
-    ((0xF2 ∷ []) is Short) ∷ ((0x06 ∷ []) is Short) ∷ ((0xC7 ∷ []) is Short) ∷ ((0xD7 ∷ 0x22 ∷ []) is Short) ∷
-    ((0xE7 ∷ 0x34 ∷ 0xCA ∷ 0x78 ∷ 0x56 ∷ 0x34 ∷ []) is Short) ∷ ((0xC9 ∷ 0x08 ∷ []) is Short) ∷ ((0xD8 ∷ 0x38 ∷ []) is Short) ∷
-    ((0xD8 ∷ 0x38 ∷ 0xFF ∷ []) is Short) ∷
+    (([]) is Err Short) ∷ ((0x17 ∷ []) is Err Short) ∷ ((0x42 ∷ 0x01 ∷ 0x02 ∷ 0x03 ∷ []) is Err Short) ∷ ((0xDB ∷ 0xEC ∷ []) is Err Short) ∷
+    ((0xC9 ∷ 0xC8 ∷ []) is Err Short) ∷ ((0xC1 ∷ 0x34 ∷ []) is Err Short) ∷ ((0xC1 ∷ 0x34 ∷ 0x12 ∷ []) is Err Short) ∷ ((0x83 ∷ []) is Err Short) ∷
+    ((0xF2 ∷ []) is Err Short) ∷ ((0x06 ∷ []) is Err Short) ∷ ((0xC7 ∷ []) is Err Short) ∷ ((0xD7 ∷ 0x22 ∷ []) is Err Short) ∷
+    ((0xE7 ∷ 0x34 ∷ 0xCA ∷ 0x78 ∷ 0x56 ∷ 0x34 ∷ []) is Err Short) ∷ ((0xC9 ∷ 0x08 ∷ []) is Err Short) ∷ ((0xD8 ∷ 0x38 ∷ []) is Err Short) ∷
+    ((0xD8 ∷ 0x38 ∷ 0xFF ∷ []) is Err Short) ∷
     -- unlisted
-    ((0x2F ∷ []) is Unlisted) ∷ ((0x3F ∷ []) is Unlisted) ∷ ((0x4F ∷ []) is Unlisted) ∷ ((0x5F ∷ []) is Unlisted) ∷ ((0x01 ∷ []) is Unlisted) ∷
-    ((0x17 ∷ 0x08 ∷ []) is Unlisted) ∷ ((0xDB ∷ 0xEC ∷ 0x10 ∷ []) is Unlisted) ∷ ((0xC8 ∷ 0x12 ∷ []) is Unlisted) ∷ ((0x84 ∷ 0x10 ∷ []) is Unlisted) ∷
-    ((0x80 ∷ 0x14 ∷ []) is Unlisted) ∷ ((0x93 ∷ 0x18 ∷ []) is Unlisted) ∷ ((0xA3 ∷ 0x11 ∷ []) is Unlisted) ∷ ((0xFF ∷ []) is Unlisted) ∷
-    ((0xB3 ∷ 0x20 ∷ []) is Unlisted) ∷ ((0xC3 ∷ []) is Unlisted) ∷ ((0x06 ∷ 0x08 ∷ []) is Unlisted) ∷ ((0x04 ∷ []) is Unlisted) ∷
-    ((0x05 ∷ []) is Unlisted) ∷ ((0x08 ∷ []) is Unlisted) ∷ ((0xC7 ∷ 0x40 ∷ []) is Unlisted) ∷ ((0xC7 ∷ 0xCF ∷ []) is Unlisted) ∷
-    ((0xD7 ∷ 0x21 ∷ []) is Unlisted) ∷ ((0xE7 ∷ 0x22 ∷ []) is Unlisted) ∷ ((0xC7 ∷ 0x20 ∷ 0x12 ∷ []) is Unlisted) ∷ ((0xF7 ∷ []) is Unlisted) ∷
-    ((0xC9 ∷ 0x40 ∷ []) is Unlisted) ∷ ((0xC8 ∷ 0x08 ∷ []) is Unlisted) ∷ ((0xC7 ∷ 0x21 ∷ 0x08 ∷ []) is Unlisted) ∷
-    ((0xD7 ∷ 0x22 ∷ 0x08 ∷ []) is Unlisted) ∷ ((0xE8 ∷ 0x41 ∷ []) is Unlisted) ∷ ((0xC9 ∷ 0x38 ∷ []) is Unlisted) ∷
-    ((0xD8 ∷ 0x3B ∷ []) is Unlisted) ∷ ((0xD8 ∷ 0x38 ∷ 0x02 ∷ []) is Unlisted) ∷ ((0xD8 ∷ 0x38 ∷ 0xFF ∷ 0xFF ∷ []) is Unlisted) ∷ []
+    ((0x2F ∷ []) is Err Unlisted) ∷ ((0x3F ∷ []) is Err Unlisted) ∷ ((0x4F ∷ []) is Err Unlisted) ∷ ((0x5F ∷ []) is Err Unlisted) ∷ ((0x01 ∷ []) is Err Unlisted) ∷
+    ((0x17 ∷ 0x08 ∷ []) is Err Unlisted) ∷ ((0xDB ∷ 0xEC ∷ 0x10 ∷ []) is Err Unlisted) ∷ ((0xC8 ∷ 0x12 ∷ []) is Err Unlisted) ∷ ((0x84 ∷ 0x10 ∷ []) is Err Unlisted) ∷
+    ((0x80 ∷ 0x14 ∷ []) is Err Unlisted) ∷ ((0x93 ∷ 0x18 ∷ []) is Err Unlisted) ∷ ((0xA3 ∷ 0x11 ∷ []) is Err Unlisted) ∷ ((0xFF ∷ []) is Err Unlisted) ∷
+    ((0xB3 ∷ 0x20 ∷ []) is Err Unlisted) ∷ ((0xC3 ∷ []) is Err Unlisted) ∷ ((0x06 ∷ 0x08 ∷ []) is Err Unlisted) ∷ ((0x04 ∷ []) is Err Unlisted) ∷
+    ((0x05 ∷ []) is Err Unlisted) ∷ ((0x08 ∷ []) is Err Unlisted) ∷ ((0xC7 ∷ 0x40 ∷ []) is Err Unlisted) ∷ ((0xC7 ∷ 0xCF ∷ []) is Err Unlisted) ∷
+    ((0xD7 ∷ 0x21 ∷ []) is Err Unlisted) ∷ ((0xE7 ∷ 0x22 ∷ []) is Err Unlisted) ∷ ((0xC7 ∷ 0x20 ∷ 0x12 ∷ []) is Err Unlisted) ∷ ((0xF7 ∷ []) is Err Unlisted) ∷
+    ((0xC9 ∷ 0x40 ∷ []) is Err Unlisted) ∷ ((0xC8 ∷ 0x08 ∷ []) is Err Unlisted) ∷ ((0xC7 ∷ 0x21 ∷ 0x08 ∷ []) is Err Unlisted) ∷
+    ((0xD7 ∷ 0x22 ∷ 0x08 ∷ []) is Err Unlisted) ∷ ((0xE8 ∷ 0x41 ∷ []) is Err Unlisted) ∷ ((0xC9 ∷ 0x38 ∷ []) is Err Unlisted) ∷
+    ((0xD8 ∷ 0x3B ∷ []) is Err Unlisted) ∷ ((0xD8 ∷ 0x38 ∷ 0x02 ∷ []) is Err Unlisted) ∷ ((0xD8 ∷ 0x38 ∷ 0xFF ∷ 0xFF ∷ []) is Err Unlisted) ∷ []
 
 -- all of them are so, by computation
 pub decoded : map (λ e. decode_of e.code) examples ≡ map (λ e. e.means) examples

@@ -1,3 +1,4 @@
+pub mod Unread
 pub mod Said
 pub mod Rows
 pub mod Registers

@@ -4,7 +4,7 @@ use Rattle.little.specs.{declared.Size.Size, Width.bytes_of}
 use Rattle.state.specs.Named.{is_named}
 use Rattle.little.specs.declared.Size.TheVariants.{Byte, Word, Long}
 use Rattle.code.specs.{declared.Op.Op, declared.Base.Base, declared.Operand.Operand, declared.Operand.TheVariants.Register, declared.Operand.TheVariants.Named}
-use Rattle.code.specs.{declared.Operand.TheVariants.Constant, declared.Decoded.Decoded, Said.Said, Said.whole, Said.number, Said.judge}
+use Rattle.code.specs.{declared.Operand.TheVariants.Constant, Said.Said, Said.whole, Said.number, Said.judge}
 use Rattle.code.specs.{Rows.one, Rows.run, Rows.Row, Rows.◌⇒◌, Rows.only, Rows.by_rows, Registers.register_rows, Memory.form, Memory.memory_rows}
 use Rattle.code.specs.{Memory.store_rows, Memory.indirect_rows}
 use Rattle.code.specs.declared.Op.TheVariants.{Controls, Stacks, Sets, Interrupts}
@@ -12,6 +12,7 @@ use Rattle.code.specs.declared.Control.TheVariants.{Nop, Incf, Decf, Ldf, Rcf, S
 use Rattle.code.specs.declared.Stack.TheVariants.{PushF, PopF, Push, Pop, Call16, Call24, Calr, Ret}
 use Rattle.code.specs.declared.Interrupt.TheVariants.{PushSr, PopSr, Reti}
 use Rattle.code.specs.declared.Base.TheVariants.{Indirect, Displaced, Absolute8, Absolute16, Absolute24}
+use Rattle.code.specs.Unread.{Decoded}
 
 -- an operation that is said by one byte alone
 abbrev pub alone : Op → Said

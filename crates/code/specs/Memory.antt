@@ -5,7 +5,7 @@ use Rattle.little.specs.declared.Size.TheVariants.{Byte, Word, Long}
 use Rattle.code.specs.{declared.Form.Form, declared.Op.TheVariants.Puts, declared.Op.TheVariants.Blocks, declared.Side.TheVariants.First}
 use Rattle.code.specs.{declared.Side.TheVariants.Second, declared.Base.Base, declared.Base.TheVariants.Indirect, declared.Operand.Operand}
 use Rattle.code.specs.{declared.Operand.TheVariants.Memory, Said.Said, Said.whole, Rows.one, Rows.run, Rows.columns, Rows.Row, Rows.◌⇒◌}
-use Rattle.code.specs.{Registers.arith_of}
+use Rattle.code.specs.Registers.{arith_of}
 use Rattle.code.specs.declared.Use.TheVariants.{From, Load, Compute}
 
 -- 20+R load; 80, 90 .. F0 +R: ADD .. CP of R with memory; 88, 98 .. F8 +R the same, memory with R

@@ -2,9 +2,11 @@
 #![tactic(auto)]
 
 ghost use Rattle.std.specs.Prelude.{◌≡◌};
+ghost use Rattle.code.specs.Unread.{why_of};
 ghost use Rattle.code.specs.Written.{constant_in, register_in};
 
 use alu::{Arith, Change};
+use answer::Why;
 use feed::cycle::Cycle;
 use feed::scale::Scale;
 use little::Size;
@@ -148,12 +150,25 @@ pub struct Instruction {
     pub length: usize,
 }
 
-// Short: the bytes begin a listed instruction and are not the whole of it. Unlisted: they begin none.
+// Why the bytes are no instruction. Short: they begin a listed one and are not the whole of it. Unlisted: they begin none.
 #[derive(Clone, Copy)]
-pub enum Decoded {
-    Whole(Instruction),
+pub enum Unread {
     Short,
     Unlisted,
+}
+
+// The instruction that a code begins with, or why there is none.
+pub type Decoded = Result<Instruction, Unread>;
+
+impl From<Unread> for Why {
+    ghost from_gives = { λ unread why. why ≡ why_of unread };
+
+    fn from(unread: Unread) -> Why {
+        match unread {
+            Unread::Short => Why::NoCode,
+            Unread::Unlisted => Why::Unlisted,
+        }
+    }
 }
 
 // What a code says whose first byte is 00 to 7F: with its number, or its size and operand, and how many bytes it has.

@@ -2,7 +2,7 @@
 -- what is put, and where.
 use Rattle.std.specs.Prelude.{ℕ, ◌/◌, List, Bool, true, false, cond}
 use Rattle.little.specs.{declared.Size.Size, Width.bits_of, Width.twice_of}
-use Rattle.flags.specs.{declared.Computed.Computed}
+use Rattle.flags.specs.declared.Computed.{Computed}
 use Rattle.alu.specs.{declared.Arith.Arith, Operation.operated, Change.changed}
 use Rattle.alu.specs.declared.Arith.TheVariants.{Add, Adc, Sub, Sbc, And, Xor, Or, Cp}
 use Rattle.feed.specs.{declared.scale.Scale.Scale, Scale.scaled, Cycle.cycled}

@@ -8,7 +8,7 @@ ghost use Rattle.compute.specs.inner.Form.{loaded_from, stored_to, first_with, s
 
 use crate::stores;
 use alu::Arith;
-use answer::{Answer, Why};
+use answer::Answer;
 use little::Size;
 use state::Bank;
 
@@ -76,7 +76,7 @@ pub fn first(
     Ok(())
 }
 
-// The operation on the value there and the register r, back there; CP puts nothing. F is set where the store is done.
+// The operation on the value there and the register r, back there; CP puts nothing. A refused store leaves F.
 #[tactic(auto, using(operand::proofs::Laws::stored, operand::proofs::Laws::not_stored), unfolding(operand::specs::Flag::flagged, state::specs::State::with_flags, state::specs::State::with_both_flags))]
 pub fn second(
     op: Arith,

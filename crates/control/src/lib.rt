@@ -43,14 +43,14 @@ pub fn jump(flags: u16, counter: &mut u32, cc: u8, size: Size, d: u32) -> Answer
 
 // To an address.
 fn go(counter: &mut u32, to: u32) -> Answer
-    ensures { (result ≡ (Ok tt)) × (counter.new ≡ to % 2 ^ 24) }
+    ensures { (result ≡ Ok tt) × (counter.new ≡ to % 2 ^ 24) }
 {
     *counter = to % ADDRESSES;
     Ok(())
 }
 
 fn select(bank: &mut u8, n: u32) -> Answer
-    ensures { (result ≡ (Ok tt)) × (bank.new ≡ n % 4) }
+    ensures { (result ≡ Ok tt) × (bank.new ≡ n % 4) }
 {
     *bank = (n % 4) as u8;
     Ok(())
@@ -58,7 +58,7 @@ fn select(bank: &mut u8, n: u32) -> Answer
 
 // The level becomes the number: EI.
 fn admit(level: &mut u8, n: u32) -> Answer
-    ensures { (result ≡ (Ok tt)) × (level.new ≡ n % 8) }
+    ensures { (result ≡ Ok tt) × (level.new ≡ n % 8) }
 {
     let l = Level((n % 8) as u8);
     *level = l.0;
@@ -66,14 +66,14 @@ fn admit(level: &mut u8, n: u32) -> Answer
 }
 
 fn set(flags: &mut u16, new: Flags) -> Answer
-    ensures { (result ≡ (Ok tt)) × (flags.new ≡ packed_of new) }
+    ensures { (result ≡ Ok tt) × (flags.new ≡ packed_of new) }
 {
     *flags = flags::pack(new);
     Ok(())
 }
 
 fn exchange(flags: &mut u16, spare: &mut u16) -> Answer
-    ensures { (result ≡ (Ok tt)) × ((flags.new ≡ spare.old) × (spare.new ≡ flags.old)) }
+    ensures { (result ≡ Ok tt) × ((flags.new ≡ spare.old) × (spare.new ≡ flags.old)) }
 {
     std::mem::swap(flags, spare);
     Ok(())

@@ -10,7 +10,7 @@ ghost use Rattle.code.specs.Listed.{memory_first_rows, decode_of};
 
 use code::{
     Alone, Base, Begun, Chosen, Decoded, Instruction, MemoryForm, OfFeed, OfMemory, OfRegister, Op,
-    Operand, Side, Use,
+    Operand, Side, Unread, Use,
 };
 use little::Size;
 use registers::rest;
@@ -18,11 +18,11 @@ use registers::rest;
 fn whole(op: Op, size: Size, operand: Operand, length: usize) -> Decoded
     ensures { result ≡ whole_of op size operand length }
 {
-    Decoded::Whole(Instruction {
-        op: op,
-        size: size,
-        operand: operand,
-        length: length,
+    Ok(Instruction {
+        op,
+        size,
+        operand,
+        length,
     })
 }
 
@@ -51,8 +51,8 @@ fn whole_alone(read: Alone) -> Decoded
             Operand::Constant(0),
             n,
         ),
-        Alone::Short => Decoded::Short,
-        Alone::Unlisted => Decoded::Unlisted,
+        Alone::Short => Err(Unread::Short),
+        Alone::Unlisted => Err(Unread::Unlisted),
     }
 }
 
@@ -63,8 +63,8 @@ fn whole_of_feed(read: OfFeed, size: Size, operand: Operand) -> Decoded
         OfFeed::Scaled(how, r, n) => puts(Use::Scaled(how, r), size, operand, n),
         OfFeed::ScaledWith(how, v, n) => puts(Use::ScaledWith(how, v), size, operand, n),
         OfFeed::Cycled(how, n) => puts(Use::Cycled(how), size, operand, n),
-        OfFeed::Short => Decoded::Short,
-        OfFeed::Unlisted => Decoded::Unlisted,
+        OfFeed::Short => Err(Unread::Short),
+        OfFeed::Unlisted => Err(Unread::Unlisted),
     }
 }
 
@@ -87,8 +87,8 @@ fn whole_of_register(read: OfRegister, code: &[u8], size: Size, operand: Operand
         OfRegister::With(op, v, n) => puts(Use::Compute(op, Side::With(v)), size, operand, n),
         OfRegister::Changed(how, n) => puts(Use::Changed(how), size, operand, n),
         OfRegister::Rest => whole_rest(code, size, operand),
-        OfRegister::Short => Decoded::Short,
-        OfRegister::Unlisted => Decoded::Unlisted,
+        OfRegister::Short => Err(Unread::Short),
+        OfRegister::Unlisted => Err(Unread::Unlisted),
     }
 }
 
@@ -119,8 +119,8 @@ fn whole_of_memory(read: OfMemory, m: MemoryForm) -> Decoded
             };
             whole(Op::Blocks(f), size, Operand::Memory(pointer), n)
         }
-        OfMemory::Short => Decoded::Short,
-        OfMemory::Unlisted => Decoded::Unlisted,
+        OfMemory::Short => Err(Unread::Short),
+        OfMemory::Unlisted => Err(Unread::Unlisted),
     }
 }
 
@@ -133,19 +133,14 @@ fn whole_behind(code: &[u8], size: Size, operand: Operand) -> Decoded
 
 // An instruction of which n bytes more stand before those that were read.
 fn behind(read: Decoded, n: usize) -> Decoded
-    requires { (i : Instruction) → read ≡ Decoded.Whole i → n + i.length < 2 ^ 64 }
+    requires { (i : Instruction) → read ≡ Ok i → n + i.length < 2 ^ 64 }
     ensures { result ≡ longer n read }
 {
-    match read {
-        Decoded::Whole(i) => {
-            let op = i.op;
-            let size = i.size;
-            let operand = i.operand;
-            whole(op, size, operand, n + i.length)
-        }
-        Decoded::Short => Decoded::Short,
-        Decoded::Unlisted => Decoded::Unlisted,
-    }
+    let i = read?;
+    Ok(Instruction {
+        length: n + i.length,
+        ..i
+    })
 }
 
 // A register form from its first byte on, as an instruction.
@@ -155,8 +150,8 @@ fn whole_chosen(code: &[u8], b: u8) -> Decoded
     let size = registers::size_by(b);
     match registers::begin(code, size, b) {
         Chosen::Register(operand, n) => behind(whole_behind(&code[n..], size, operand), n),
-        Chosen::Short => Decoded::Short,
-        Chosen::Unlisted => Decoded::Unlisted,
+        Chosen::Short => Err(Unread::Short),
+        Chosen::Unlisted => Err(Unread::Unlisted),
     }
 }
 
@@ -172,8 +167,8 @@ fn whole_begun(code: &[u8], b: u8) -> Decoded
             };
             whole_of_memory(forms::after(code, b, n), m)
         }
-        Begun::Short => Decoded::Short,
-        Begun::Unlisted => Decoded::Unlisted,
+        Begun::Short => Err(Unread::Short),
+        Begun::Unlisted => Err(Unread::Unlisted),
     }
 }
 
@@ -182,7 +177,7 @@ pub fn decode(code: &[u8]) -> Decoded
     ensures { result ≡ decode_of code.now }
 {
     if code.len() == 0 {
-        return Decoded::Short;
+        return Err(Unread::Short);
     }
     let b = code[0];
     if b < 0x80 {

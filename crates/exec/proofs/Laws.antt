@@ -14,11 +14,11 @@ use Rattle.code.specs.declared.Operand.{Operand}
 use Rattle.code.specs.Said.{whole_of}
 use Rattle.compute.specs.Compute.{puts_of}
 use Rattle.operand.specs.Try.{Try, did, no, Outcome, leaves, after}
-use Rattle.code.specs.declared.Decoded.{Decoded}
 use Rattle.exec.specs.Exec.{past_of, effect_of, executed_of, done}
 use Rattle.exec.specs.inner.Counter.{back_of, on_of}
 use Rattle.std.proofs.Common.{Ok, Err}
 use Rattle.answer.specs.Number.{Answer}
+use Rattle.code.specs.Unread.{Decoded}
 
 -- ---- an instruction: the state past it, and back where it is refused
 -- the state with the counter that it had, not cut
@@ -35,7 +35,7 @@ pub came_back :
     after a u m ≡ leaves beyond ram t → after a (standing_at u (back_of a s.counter u.counter)) m ≡ leaves s ram t
 unfolding back_at
 came_back s beyond same ram a u m (did v l) e =
-    let b : a ≡ (Ok tt) = ap (λ (o : Outcome). o.answer) e in
+    let b : a ≡ Ok tt = ap (λ (o : Outcome). o.answer) e in
     rw b (ap (λ (x : Answer). after x u m) (sym b) ∙ e)
 came_back s beyond same ram a u m (no x) e =
     let b : a ≡ Err x = ap (λ (o : Outcome). o.answer) e in
@@ -54,7 +54,7 @@ module _ (s : State) (n : ℕ) (ram : List ℕ) (a : Answer) (u : State) (m : Li
       → after a (standing_at u (on_of a n s.counter)) m ≡ leaves s ram t
   unfolding back_at
   moved_on (did v l) e =
-      let b : a ≡ (Ok tt) = ap (λ (o : Outcome). o.answer) e in
+      let b : a ≡ Ok tt = ap (λ (o : Outcome). o.answer) e in
       rw b (ap (λ (x : Answer). after x (standing_at u ((s.counter + n) % 2 ^ 24)) m) (sym b) ∙ e)
   moved_on (no x) e =
       let b : a ≡ Err x = ap (λ (o : Outcome). o.answer) e in

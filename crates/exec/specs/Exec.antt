@@ -1,9 +1,9 @@
 -- What a listed instruction does: each kind of work has its own list, instruction by instruction (control/Control, stack/Stack,
 -- compute/Compute, block/Block, interrupt/Interrupt).
-use Rattle.std.specs.Prelude.{ℕ, ◌+◌, List}
+use Rattle.std.specs.Prelude.{ℕ, ◌+◌, List, Ok, Err}
 use Rattle.answer.specs.declared.Why.{TheVariants.NoCode, TheVariants.Unlisted}
 use Rattle.little.specs.declared.Size.{Size}
-use Rattle.code.specs.{declared.Operand.Operand, declared.Instruction.Instruction, declared.Op.Op, declared.Decoded.Decoded, Written.constant_in}
+use Rattle.code.specs.{declared.Operand.Operand, declared.Instruction.Instruction, declared.Op.Op, Written.constant_in}
 use Rattle.code.specs.declared.Op.TheVariants.{Controls, Stacks, Puts, Sets, Blocks, Interrupts}
 use Rattle.state.specs.{declared.State.State, State.with_counter, Register.set_register}
 use Rattle.operand.specs.Try.{Try, did, no, and_then}
@@ -12,7 +12,8 @@ use Rattle.stack.specs.Stack.{stack_of}
 use Rattle.compute.specs.Compute.{puts_of}
 use Rattle.block.specs.Block.{round_of, ends_at}
 use Rattle.interrupt.specs.Interrupt.{interrupt_of}
-use Rattle.code.specs.declared.Decoded.TheVariants as decoded
+use Rattle.code.specs.Unread.{Decoded}
+use Rattle.code.specs.declared.Unread.TheVariants as unread
 
 -- the state past an instruction of n bytes
 unfoldable pub past_of : ℕ → State → State
@@ -34,6 +35,6 @@ executed_of i s ram rom = effect_of i.op i.size i.operand s.counter (past_of i.l
 
 -- 3 or 4, as the bytes at the counter are judged; then the instruction
 abbrev pub done : Decoded → State → List ℕ → List ℕ → Try
-done decoded.Short s ram rom = no NoCode
-done decoded.Unlisted s ram rom = no Unlisted
-done (decoded.Whole i) s ram rom = executed_of i s ram rom
+done (Err unread.Short) s ram rom = no NoCode
+done (Err unread.Unlisted) s ram rom = no Unlisted
+done (Ok i) s ram rom = executed_of i s ram rom

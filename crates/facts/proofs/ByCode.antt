@@ -27,7 +27,6 @@ use Rattle.code.specs.declared.Use.TheVariants.{Number, From, Load, Compute, Cha
 use Rattle.code.specs.declared.Side.TheVariants.{First, Second, With}
 use Rattle.code.specs.declared.Operand.{Operand}
 use Rattle.code.specs.declared.Operand.TheVariants.{Register, Named}
-use Rattle.code.specs.declared.Decoded.{Decoded}
 use Rattle.code.specs.Range.{Holds, register_range}
 use Rattle.code.specs.Said.{judge}
 use Rattle.code.specs.Rows.{by_rows}
@@ -48,6 +47,7 @@ use Rattle.exec.specs.Exec.{past_of, effect_of, executed_of, done}
 use Rattle.facts.specs.ByCode.{SameByCode}
 use Rattle.std.proofs.Common.{Ok}
 use Rattle.memory.specs.Access.{Loaded}
+use Rattle.code.specs.Unread.{Decoded}
 
 -- ---- what is put
 module _ (z : Size) (r : ℕ) (h : r < 8) where

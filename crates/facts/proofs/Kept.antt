@@ -24,8 +24,6 @@ use Rattle.code.specs.declared.Form.{Form}
 use Rattle.code.specs.declared.Op.{Op}
 use Rattle.code.specs.declared.Op.TheVariants.{Controls, Stacks, Puts, Sets, Blocks, Interrupts}
 use Rattle.code.specs.declared.Instruction.{Instruction}
-use Rattle.code.specs.declared.Decoded.{Decoded}
-use Rattle.code.specs.declared.Decoded.TheVariants as decoded
 use Rattle.code.specs.Listed.{decode_of}
 use Rattle.operand.specs.Try.{Try, did, no}
 use Rattle.operand.specs.Flag.{flagged, exchanged}
@@ -35,6 +33,9 @@ use Rattle.turn.specs.Once.{once_of}
 use Rattle.facts.specs.Touched.{Span, none, bytes, uses_marked, read_of, stored_of, KeepsRest}
 use Rattle.facts.proofs.Touched.{Kept, Recounted, past_kept, copied_kept, compared_kept, Gives, GivesBy, fair_round, fair_effect}
 use Rattle.answer.specs.Number.{Answer}
+use Rattle.std.proofs.Common.{Ok, Err}
+use Rattle.code.specs.Unread.{Decoded}
+use Rattle.code.specs.declared.Unread.TheVariants.{Short, Unlisted}
 
 -- ---- validity
 valid_part : (s : State) (z : Size) (c v : ℕ) → Valid s → Valid (with_held s (named (s.bank.0 % 4) (bytes_of z) c) v)
@@ -159,6 +160,6 @@ unfolding once_of Keeps
 keeps_once ram rom s ok = go (decode_of (code_at ram rom s.counter))
   where
     go : (d : Decoded) → Keeps ram (done d s ram rom)
-    go decoded.Short = tt
-    go decoded.Unlisted = tt
-    go (decoded.Whole i) = keeps_fair ram rom _ _ (executed_of i s ram rom) (executed_fair Valid i s ram rom valid_kept (valid_recounted i.op) ok)
+    go (Err Short) = tt
+    go (Err Unlisted) = tt
+    go (Ok i) = keeps_fair ram rom _ _ (executed_of i s ram rom) (executed_fair Valid i s ram rom valid_kept (valid_recounted i.op) ok)

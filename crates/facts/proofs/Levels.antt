@@ -22,7 +22,6 @@ use Rattle.code.specs.declared.Interrupt.TheVariants.{Reti}
 use Rattle.code.specs.declared.Operand.{Operand}
 use Rattle.code.specs.declared.Operand.TheVariants.{Constant}
 use Rattle.code.specs.declared.Instruction.{Instruction}
-use Rattle.code.specs.declared.Decoded.TheVariants as decoded
 use Rattle.code.specs.Listed.{decode_of}
 use Rattle.code.specs.Written.{code_of}
 use Rattle.code.proofs.Exact.{reads_back}
@@ -44,16 +43,17 @@ use Rattle.facts.proofs.Banks.{past_seven}
 use Rattle.facts.proofs.Statements.{not_long, step_judged, step_whole, operated, left}
 use Rattle.std.proofs.Common.{Ok, Err}
 use Rattle.memory.specs.Access.{Loaded}
+use Rattle.code.specs.declared.Unread.TheVariants.{Unlisted}
 
 -- ---- EI
 abbrev ei : ℕ → Instruction
 ei n = record { op = Controls Ei; size = Byte; operand = Constant n; length = 2 }
 
-is_ei : (n : ℕ) (rest : List ℕ) → n < 8 → decode_of (0x06 ∷ n ∷ rest) ≡ decoded.Whole (ei n)
+is_ei : (n : ℕ) (rest : List ℕ) → n < 8 → decode_of (0x06 ∷ n ∷ rest) ≡ Ok (ei n)
 unfolding code_of
 is_ei n rest h = reads_back (Controls Ei) Byte (Constant n) rest (rw (lt-ltb n 8 h) refl)
 
-no_ei : (n : ℕ) (rest : List ℕ) → 8 ≤ n → decode_of (0x06 ∷ n ∷ rest) ≡ decoded.Unlisted
+no_ei : (n : ℕ) (rest : List ℕ) → 8 ≤ n → decode_of (0x06 ∷ n ∷ rest) ≡ Err Unlisted
 unfolding first
 no_ei = past_seven (Controls Ei) 0x06 refl
 
@@ -63,7 +63,7 @@ ei_sets s ram rom rest n p e = (
   λ h.
       let m : n % 8 ≡ n = omega arith in
       rw m at (step_whole s ram rom (ei n) p (ap decode_of e ∙ is_ei n rest h)),
-  λ h. step_judged s ram rom decoded.Unlisted (not_long (length ram) (length rom) p.0.0 p.0.1) p.1 (ap decode_of e ∙ no_ei n rest h),
+  λ h. step_judged s ram rom (Err Unlisted) (not_long (length ram) (length rom) p.0.0 p.0.1) p.1 (ap decode_of e ∙ no_ei n rest h),
 )
 
 -- ---- the nesting count
@@ -98,13 +98,13 @@ returned_counts s v = omega arith
 
 popped_counts :
     (s : State) (ram : List ℕ) (c : ℕ) (f : ℕ → State) → ((v : ℕ) → (f v).nesting ≡ c) → (l : Loaded) →
-    (leaves s ram (with_loaded l (λ v. did (f v) ram))).answer ≡ (Ok tt) → (leaves s ram (with_loaded l (λ v. did (f v) ram))).state.nesting ≡ c
+    (leaves s ram (with_loaded l (λ v. did (f v) ram))).answer ≡ Ok tt → (leaves s ram (with_loaded l (λ v. did (f v) ram))).state.nesting ≡ c
 popped_counts s ram c f h (Ok v) e = h v
 popped_counts s ram c f h (Err x) e = absurd (omega (arith, ap number_of e))
 
 -- an operation done takes one off
 abbrev OneOff : State → State → List ℕ → Try → Type 0
-OneOff s t ram x = (leaves s ram x).answer ≡ (Ok tt) → (leaves s ram x).state.nesting ≡ less 16 t.nesting 1
+OneOff s t ram x = (leaves s ram x).answer ≡ Ok tt → (leaves s ram x).state.nesting ≡ less 16 t.nesting 1
 
 reti_counts : (z : Size) (o : Operand) (at : ℕ) (s t : State) (ram rom : List ℕ) → OneOff s t ram (effect_of (Interrupts Reti) z o at t ram rom)
 unfolding effect_of interrupt_of set_register set_slot with_long
@@ -121,7 +121,7 @@ executed_counts s ram rom i e =
 pub step_counts : StepCounts
 step_counts s ram rom i d = go (operated s ram rom (Ok tt) (inl refl) d.0)
   where
-    go : (j : Instruction) × (Passed s ram rom × (decode_of (code_at ram rom s.counter) ≡ decoded.Whole j)) →
+    go : (j : Instruction) × (Passed s ram rom × (decode_of (code_at ram rom s.counter) ≡ Ok j)) →
         (i.op ≡ Interrupts Reti → (step_of s ram rom).state.nesting ≡ less 16 s.nesting 1)
         × ((i.op ≡ Interrupts Reti → ⊥) → (step_of s ram rom).state.nesting ≡ s.nesting)
     go (j, (p, h)) = (

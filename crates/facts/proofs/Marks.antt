@@ -23,7 +23,6 @@ use Rattle.code.specs.declared.Op.TheVariants.{Stacks, Interrupts}
 use Rattle.code.specs.declared.Stack.TheVariants.{PushF}
 use Rattle.code.specs.declared.Interrupt.TheVariants.{PushSr}
 use Rattle.code.specs.declared.Instruction.{Instruction}
-use Rattle.code.specs.declared.Decoded.TheVariants.{Whole}
 use Rattle.code.specs.Listed.{decode_of}
 use Rattle.operand.specs.Flag.{flags_in}
 use Rattle.operand.proofs.Flags.{valid_packed, valid_fits}
@@ -66,14 +65,14 @@ marked_say_nothing s f f' g g' x y a b =
     ap₂ (with_both_flags s) (set_same f g v.flags w.flags a) (set_same f' g' v.spare w.spare b)
 
 -- ---- a step that is done uses no marked flag
-unused : (b : Bool) (a : Answer) → answer_by b a ≡ (Ok tt) → b ≡ false
+unused : (b : Bool) (a : Answer) → answer_by b a ≡ Ok tt → b ≡ false
 unused true a e = absurd (omega (arith, ap number_of e))
 unused false a e = refl
 
 done_unused : (s : State) (ram rom : List ℕ) (i : Instruction) → DoneAt s ram rom i → uses_marked i.op s ≡ false
 done_unused s ram rom i d = go (operated s ram rom (Ok tt) (inl refl) d.0)
   where
-    go : (j : Instruction) × (Passed s ram rom × (decode_of (code_at ram rom s.counter) ≡ Whole j)) → uses_marked i.op s ≡ false
+    go : (j : Instruction) × (Passed s ram rom × (decode_of (code_at ram rom s.counter) ≡ Ok j)) → uses_marked i.op s ≡ false
     go (j, (p, h)) = unused _ _ (sym ((refused_when s ram rom).operands i p d.1) ∙ d.0)
 
 pub jump_reads_defined : JumpReadsDefined

@@ -22,8 +22,6 @@ use Rattle.state.specs.Sound.{Sound}
 use Rattle.state.specs.declared.State.{State}
 use Rattle.state.proofs.Valid.{Valid, valid_says, valid_from}
 use Rattle.code.specs.declared.Instruction.{Instruction}
-use Rattle.code.specs.declared.Decoded.{Decoded}
-use Rattle.code.specs.declared.Decoded.TheVariants as decoded
 use Rattle.code.specs.Listed.{decode_of}
 use Rattle.step.specs.declared.Stepped.{Stepped}
 use Rattle.operand.specs.Try.{Try, did, no, Outcome, leaves, and_then}
@@ -38,6 +36,8 @@ use Rattle.facts.proofs.Touched.{Kept, Recounted, Gives}
 use Rattle.facts.proofs.Kept.{valid_kept, valid_recounted, Whole, whole_kept, whole_recounted, spares_length, executed_fair}
 use Rattle.std.proofs.Common.{Ok, Err}
 use Rattle.answer.specs.Number.{Answer}
+use Rattle.code.specs.Unread.{Decoded}
+use Rattle.code.specs.declared.Unread.TheVariants as unread
 
 -- ---- the limits
 pub longer : (a b : ℕ) → too_long a b ≡ true → (2 ^ 16 < a) ⊎ (2 ^ 16 < b)
@@ -79,7 +79,7 @@ module _ (P : State → Type 0) (s : State) (ram rom : List ℕ) (a : Answer) (g
   fair_answer (did t m) h = sym h.1.1
   fair_answer (no w) h = sym h
 
-  pub fair_done : (t : Try) → Gives P ram rom a g t → (leaves s ram t).answer ≡ (Ok tt) → P (leaves s ram t).state × KeepsRest g ram (leaves s ram t).ram
+  pub fair_done : (t : Try) → Gives P ram rom a g t → (leaves s ram t).answer ≡ Ok tt → P (leaves s ram t).state × KeepsRest g ram (leaves s ram t).ram
   unfolding Gives
   fair_done (did t m) h e = (h.0, h.1.0)
   fair_done (no w) h e = absurd (omega (arith, ap number_of e, some w))
@@ -156,16 +156,16 @@ module _ (s : State) (ram rom : List ℕ) where
   unfolding step_of try_of guarded once_of
   step_judged d e f h = rw (e, f, h) refl
 
-  pub step_whole : (i : Instruction) → Passed s ram rom → judged ≡ decoded.Whole i → step_of s ram rom ≡ leaves s ram (executed_of i s ram rom)
-  step_whole i p e = step_judged (decoded.Whole i) (not_long (length ram) (length rom) p.0.0 p.0.1) p.1 e
+  pub step_whole : (i : Instruction) → Passed s ram rom → judged ≡ Ok i → step_of s ram rom ≡ leaves s ram (executed_of i s ram rom)
+  step_whole i p e = step_judged (Ok i) (not_long (length ram) (length rom) p.0.0 p.0.1) p.1 e
 
-  answered : (i : Instruction) → Passed s ram rom → judged ≡ decoded.Whole i → answer ≡ operated_by i
+  answered : (i : Instruction) → Passed s ram rom → judged ≡ Ok i → answer ≡ operated_by i
   answered i p e =
       ap answer_in (step_whole i p e)
       ∙ fair_answer Valid s ram rom (operated_by i) (target i) (executed_of i s ram rom)
       (executed_fair Valid i s ram rom valid_kept (valid_recounted i.op) (valid_says s p.1))
 
-  pub left : (P : State → Type 0) → Kept P → P s → (i : Instruction) → Recounted P i.op → Passed s ram rom → judged ≡ decoded.Whole i → answer ≡ (Ok tt) → P (step_of s ram rom).state × KeepsRest (target i) ram (step_of s ram rom).ram
+  pub left : (P : State → Type 0) → Kept P → P s → (i : Instruction) → Recounted P i.op → Passed s ram rom → judged ≡ Ok i → answer ≡ Ok tt → P (step_of s ram rom).state × KeepsRest (target i) ram (step_of s ram rom).ram
   left P k ok i c p e d =
       let w = step_whole i p e in
       subst (λ (o : Outcome). P o.state × KeepsRest (target i) ram o.ram) (sym w)
@@ -175,9 +175,9 @@ module _ (s : State) (ram rom : List ℕ) where
   data Course : Type 0 where
     long : (2 ^ 16 < length ram) ⊎ (2 ^ 16 < length rom) → answer ≡ Err TooLong → Course
     invalid : Within ram rom → valid_of s ≡ false → answer ≡ Err Invalid → Course
-    short : Passed s ram rom → judged ≡ decoded.Short → answer ≡ Err NoCode → Course
-    unlisted : Passed s ram rom → judged ≡ decoded.Unlisted → answer ≡ Err Unlisted → Course
-    whole : (i : Instruction) → Passed s ram rom → judged ≡ decoded.Whole i → answer ≡ operated_by i → Course
+    short : Passed s ram rom → judged ≡ Err unread.Short → answer ≡ Err NoCode → Course
+    unlisted : Passed s ram rom → judged ≡ Err unread.Unlisted → answer ≡ Err Unlisted → Course
+    whole : (i : Instruction) → Passed s ram rom → judged ≡ Ok i → answer ≡ operated_by i → Course
 
   course : Course
   course = go (too_long (length ram) (length rom)) (valid_of s) judged refl refl refl
@@ -185,9 +185,9 @@ module _ (s : State) (ram rom : List ℕ) where
       go : (b v : Bool) (d : Decoded) → too_long (length ram) (length rom) ≡ b → valid_of s ≡ v → judged ≡ d → Course
       go true v d e f h = long (longer _ _ e) (ap answer_in (step_long e))
       go false false d e f h = invalid (within _ _ e) f (ap answer_in (step_invalid e f))
-      go false true decoded.Short e f h = short (within _ _ e, f) h (ap answer_in (step_judged decoded.Short e f h))
-      go false true decoded.Unlisted e f h = unlisted (within _ _ e, f) h (ap answer_in (step_judged decoded.Unlisted e f h))
-      go false true (decoded.Whole i) e f h = whole i (within _ _ e, f) h (answered i (within _ _ e, f) h)
+      go false true (Err unread.Short) e f h = short (within _ _ e, f) h (ap answer_in (step_judged (Err unread.Short) e f h))
+      go false true (Err unread.Unlisted) e f h = unlisted (within _ _ e, f) h (ap answer_in (step_judged (Err unread.Unlisted) e f h))
+      go false true (Ok i) e f h = whole i (within _ _ e, f) h (answered i (within _ _ e, f) h)
 
   -- a number from 1 to 4 does not come from operands and flags
   not_operands : (i : Instruction) (a : Answer) → 1 ≤ number_of a → number_of a ≤ 4 → answer ≡ operated_by i → answer ≡ a → ⊥
@@ -243,38 +243,38 @@ module _ (s : State) (ram rom : List ℕ) where
 
   -- the bytes are judged one way
   abbrev kind : Decoded → ℕ
-  kind decoded.Short = 0
-  kind decoded.Unlisted = 1
-  kind (decoded.Whole i) = 2
+  kind (Err unread.Short) = 0
+  kind (Err unread.Unlisted) = 1
+  kind (Ok i) = 2
 
-  three_holds : (answer ≡ Err NoCode) ⇔ (Passed s ram rom × (judged ≡ decoded.Short))
+  three_holds : (answer ≡ Err NoCode) ⇔ (Passed s ram rom × (judged ≡ Err unread.Short))
   three_holds = (go course, back course)
     where
-      go : Course → answer ≡ Err NoCode → Passed s ram rom × (judged ≡ decoded.Short)
+      go : Course → answer ≡ Err NoCode → Passed s ram rom × (judged ≡ Err unread.Short)
       go (long l a) e = absurd (omega (arith, ap number_of (sym a ∙ e)))
       go (invalid w v a) e = absurd (omega (arith, ap number_of (sym a ∙ e)))
       go (short p d a) e = (p, d)
       go (unlisted p d a) e = absurd (omega (arith, ap number_of (sym a ∙ e)))
       go (whole i p d a) e = absurd (not_operands i (Err NoCode) (omega arith) (omega arith) a e)
 
-      back : Course → Passed s ram rom × (judged ≡ decoded.Short) → answer ≡ Err NoCode
+      back : Course → Passed s ram rom × (judged ≡ Err unread.Short) → answer ≡ Err NoCode
       back (long l a) h = absurd (far l h.0.0)
       back (invalid w v a) h = absurd (both h.0.1 v)
       back (short p d a) h = a
       back (unlisted p d a) h = absurd (omega (arith, ap kind (sym d ∙ h.1)))
       back (whole i p d a) h = absurd (omega (arith, ap kind (sym d ∙ h.1)))
 
-  four_holds : (answer ≡ Err Unlisted) ⇔ (Passed s ram rom × (judged ≡ decoded.Unlisted))
+  four_holds : (answer ≡ Err Unlisted) ⇔ (Passed s ram rom × (judged ≡ Err unread.Unlisted))
   four_holds = (go course, back course)
     where
-      go : Course → answer ≡ Err Unlisted → Passed s ram rom × (judged ≡ decoded.Unlisted)
+      go : Course → answer ≡ Err Unlisted → Passed s ram rom × (judged ≡ Err unread.Unlisted)
       go (long l a) e = absurd (omega (arith, ap number_of (sym a ∙ e)))
       go (invalid w v a) e = absurd (omega (arith, ap number_of (sym a ∙ e)))
       go (short p d a) e = absurd (omega (arith, ap number_of (sym a ∙ e)))
       go (unlisted p d a) e = (p, d)
       go (whole i p d a) e = absurd (not_operands i (Err Unlisted) (omega arith) (omega arith) a e)
 
-      back : Course → Passed s ram rom × (judged ≡ decoded.Unlisted) → answer ≡ Err Unlisted
+      back : Course → Passed s ram rom × (judged ≡ Err unread.Unlisted) → answer ≡ Err Unlisted
       back (long l a) h = absurd (far l h.0.0)
       back (invalid w v a) h = absurd (both h.0.1 v)
       back (short p d a) h = absurd (omega (arith, ap kind (sym d ∙ h.1)))
@@ -291,17 +291,17 @@ module _ (s : State) (ram rom : List ℕ) where
       go false (inr z) n = absurd (omega (arith, z.1))
 
   eight_holds :
-      (answer ≡ Err Undefined) ⇔ (Passed s ram rom × ((i : Instruction) × (judged ≡ decoded.Whole i) × (uses i ≡ true)))
+      (answer ≡ Err Undefined) ⇔ (Passed s ram rom × ((i : Instruction) × (judged ≡ Ok i) × (uses i ≡ true)))
   eight_holds = (go course, λ h. back h.1.0 h.0 h.1.1 h.1.2)
     where
-      go : Course → answer ≡ Err Undefined → Passed s ram rom × ((i : Instruction) × (judged ≡ decoded.Whole i) × (uses i ≡ true))
+      go : Course → answer ≡ Err Undefined → Passed s ram rom × ((i : Instruction) × (judged ≡ Ok i) × (uses i ≡ true))
       go (long l a) e = absurd (omega (arith, ap number_of (sym a ∙ e)))
       go (invalid w v a) e = absurd (omega (arith, ap number_of (sym a ∙ e)))
       go (short p d a) e = absurd (omega (arith, ap number_of (sym a ∙ e)))
       go (unlisted p d a) e = absurd (omega (arith, ap number_of (sym a ∙ e)))
       go (whole i p d a) e = (p, (i, d, eight_marked i a e))
 
-      back : (i : Instruction) → Passed s ram rom → judged ≡ decoded.Whole i → uses i ≡ true → answer ≡ Err Undefined
+      back : (i : Instruction) → Passed s ram rom → judged ≡ Ok i → uses i ≡ true → answer ≡ Err Undefined
       back i p d u = answered i p d ∙ ap (λ (b : Bool). answer_by b (operands_answer ram rom (reads i) (target i))) u
 
   pub refused_when : RefusedWhen s ram rom
@@ -320,13 +320,13 @@ module _ (s : State) (ram rom : List ℕ) where
       go (inr z) n = inr (sym n ∙ z)
 
   -- an accepted step, and one refused with 5, 6 or 8, has a whole instruction at its counter
-  pub operated : (b : Answer) → (number_of b ≡ 0) ⊎ (5 ≤ number_of b) → answer ≡ b → (i : Instruction) × (Passed s ram rom × (judged ≡ decoded.Whole i))
+  pub operated : (b : Answer) → (number_of b ≡ 0) ⊎ (5 ≤ number_of b) → answer ≡ b → (i : Instruction) × (Passed s ram rom × (judged ≡ Ok i))
   operated b n e = go course
     where
       judged_so : (c : Answer) → answer ≡ c → 1 ≤ number_of c → number_of c ≤ 4 → ⊥
       judged_so c a l m = ⊎_elim (λ z. omega (arith, ap number_of (sym a ∙ e))) (λ z. omega (arith, ap number_of (sym a ∙ e))) n
 
-      go : Course → (i : Instruction) × (Passed s ram rom × (judged ≡ decoded.Whole i))
+      go : Course → (i : Instruction) × (Passed s ram rom × (judged ≡ Ok i))
       go (long l a) = absurd (judged_so _ a (omega arith) (omega arith))
       go (invalid w v a) = absurd (judged_so _ a (omega arith) (omega arith))
       go (short p d a) = absurd (judged_so _ a (omega arith) (omega arith))
@@ -351,7 +351,7 @@ pub keeps_valid : KeepsValid
 keeps_valid s ram rom e = go (operated s ram rom (Ok tt) (inl refl) e)
   where
     go :
-        (i : Instruction) × (Passed s ram rom × (decode_of (code_at ram rom s.counter) ≡ decoded.Whole i))
+        (i : Instruction) × (Passed s ram rom × (decode_of (code_at ram rom s.counter) ≡ Ok i))
         → (valid_of (step_of s ram rom).state ≡ true) × (length (step_of s ram rom).ram ≡ length ram) × (Sound s → Sound (step_of s ram rom).state)
     go (i, (p, d)) =
         let v = left s ram rom Valid valid_kept (valid_says s p.1) i (valid_recounted i.op) p d e in
@@ -361,7 +361,7 @@ pub stores_only_there : StoresOnlyThere
 stores_only_there s ram rom i e d = go (operated s ram rom (Ok tt) (inl refl) e)
   where
     go :
-        (j : Instruction) × (Passed s ram rom × (decode_of (code_at ram rom s.counter) ≡ decoded.Whole j))
+        (j : Instruction) × (Passed s ram rom × (decode_of (code_at ram rom s.counter) ≡ Ok j))
         → KeepsRest (stored_of i.op i.size i.operand (past_of i.length s)) ram (step_of s ram rom).ram
     go (j, (p, f)) = (left s ram rom Valid valid_kept (valid_says s p.1) i (valid_recounted i.op) p d e).1
 

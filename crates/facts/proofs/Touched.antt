@@ -150,7 +150,7 @@ module _ (P : State → Type 0) (k : Kept P) where
 module _ (P : State → Type 0) (ram rom : List ℕ) where
   -- what is tried keeps the state's part, spares all but its target, and gives this answer
   unfoldable pub Gives : Answer → Span → Try → Type 0
-  Gives a g (did t m) = P t × (KeepsRest g ram m × (a ≡ (Ok tt)))
+  Gives a g (did t m) = P t × (KeepsRest g ram m × (a ≡ Ok tt))
   Gives a g (no w) = a ≡ Err w
 
   -- the answer by where what it reads and its target lie
@@ -158,7 +158,7 @@ module _ (P : State → Type 0) (ram rom : List ℕ) where
   Fair r g t = Gives (operands_answer ram rom r g) g t
 
   -- what is read is there
-  read_first : (r g : Span) (t : Try) → read_answer ram rom r ≡ (Ok tt) → Fair none g t → Fair r g t
+  read_first : (r g : Span) (t : Try) → read_answer ram rom r ≡ Ok tt → Fair none g t → Fair r g t
   unfolding Gives operands_answer
   read_first r g (did t m) e (p, (q, a)) = (p, (q, ap (λ (x : Answer). first_refusal x (store_answer ram rom g)) e ∙ a))
   read_first r g (no w) e a = ap (λ (x : Answer). first_refusal x (store_answer ram rom g)) e ∙ a
@@ -192,7 +192,7 @@ module _ (P : State → Type 0) (ram rom : List ℕ) where
   unfolding Gives operands_answer
   fair_loaded_bytes a n g f h = go (bytes_at ram rom a n) refl
     where
-      there : (v : ℕ) → read_answer ram rom (bytes a n) ≡ (Ok tt) → Fair (bytes a n) g (f v)
+      there : (v : ℕ) → read_answer ram rom (bytes a n) ≡ Ok tt → Fair (bytes a n) g (f v)
       there v e = read_first (bytes a n) g (f v) e (h v)
 
       go : (p : Place) → bytes_at ram rom a n ≡ p → Fair (bytes a n) g (with_loaded (load_from p ram rom n) f)

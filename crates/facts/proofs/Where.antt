@@ -37,7 +37,6 @@ use Rattle.code.specs.declared.Use.{Use}
 use Rattle.code.specs.declared.Use.TheVariants.{Number, From, Load, Compute, Changed, Scaled, ScaledWith, Cycled}
 use Rattle.code.specs.declared.Side.TheVariants.{First as FirstSide, Second, With}
 use Rattle.code.specs.declared.Instruction.{Instruction}
-use Rattle.code.specs.declared.Decoded.TheVariants.{Whole}
 use Rattle.code.specs.Listed.{decode_of}
 use Rattle.operand.specs.Operand.{address_from, address_in}
 use Rattle.compute.specs.Compute.{stores_of}
@@ -290,19 +289,19 @@ module _ (s : State) (ram rom : List ℕ) (x : ℕ) where
   -- it is refused for one of the two
   refused_for :
       (v : Why) → 5 ≤ why_number v → why_number v ≤ 6 → (step_of s ram rom).answer ≡ Err v →
-      (i : Instruction) × Within ram rom × (decode_of (code_at ram rom s.counter) ≡ Whole i)
+      (i : Instruction) × Within ram rom × (decode_of (code_at ram rom s.counter) ≡ Ok i)
       × Either (read_answer ram rom (reads i)) (store_answer ram rom (target i)) v
   unfolding operands_answer
   refused_for v n l e = go (operated s ram rom (Err v) (inr n) e)
     where
       go :
-          (i : Instruction) × (Passed s ram rom × (decode_of (code_at ram rom s.counter) ≡ Whole i))
-          → (i : Instruction) × Within ram rom × (decode_of (code_at ram rom s.counter) ≡ Whole i)
+          (i : Instruction) × (Passed s ram rom × (decode_of (code_at ram rom s.counter) ≡ Ok i))
+          → (i : Instruction) × Within ram rom × (decode_of (code_at ram rom s.counter) ≡ Ok i)
           × Either (read_answer ram rom (reads i)) (store_answer ram rom (target i)) v
       go (i, (p, d)) = (i, p.0, d, one_of _ _ v (unmarked (uses_marked i.op s) _ v l (sym ((refused_when s ram rom).operands i p d) ∙ e)))
 
   five :
-      (i : Instruction) → Within ram rom → decode_of (code_at ram rom s.counter) ≡ Whole i →
+      (i : Instruction) → Within ram rom → decode_of (code_at ram rom s.counter) ≡ Ok i →
       Either (read_answer ram rom (reads i)) (store_answer ram rom (target i)) (why.Missing x) →
       (a : ℕ) × (n : ℕ) × (Reads s ram rom a n ⊎ Stores s ram rom a n) × FirstApart ram rom a n x
   five i w d (inl e) =
@@ -313,7 +312,7 @@ module _ (s : State) (ram rom : List ℕ) (x : ℕ) where
       (o.0, o.1, inr (i, d, o.2), o.3)
 
   six :
-      (i : Instruction) → Within ram rom → decode_of (code_at ram rom s.counter) ≡ Whole i →
+      (i : Instruction) → Within ram rom → decode_of (code_at ram rom s.counter) ≡ Ok i →
       Either (read_answer ram rom (reads i)) (store_answer ram rom (target i)) (why.ToRom x) →
       (n : ℕ) × Stores s ram rom x n × InRom rom x
   six i w d (inl e) = absurd (read_not_rom ram rom w x (reads i) e)

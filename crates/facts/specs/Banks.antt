@@ -1,6 +1,6 @@
 -- What a step at LDF leaves, and what is shown of it. 17H and the byte n are taken to stand at the counter, or at the address.
 use Rattle.std.specs.Prelude.{ℕ, ◌<◌, ◌≤◌, ◌%◌, ◌^◌, ◌≡◌, List, [], ◌∷◌, Ok, Err}
-use Rattle.answer.specs.declared.{Why.TheVariants.Unlisted}
+use Rattle.answer.specs.declared.Why.TheVariants.{Unlisted}
 use Rattle.memory.specs.Access.{code_at}
 use Rattle.state.specs.{declared.State.State, State.banked}
 use Rattle.operand.specs.Try.{after}
@@ -27,5 +27,5 @@ LdfModuloFour =
 abbrev pub LdfShown : Type 0
 LdfShown =
     (ram rom rest : List ℕ) (at n : ℕ) → Within ram rom → at < 2 ^ 24 → code_at ram rom at ≡ 0x17 ∷ n ∷ rest →
-    (n < 8 → (show_answer_of ram rom at ≡ (Ok tt)) × (shown_of ram rom at ≡ 0x17 ∷ n ∷ []))
+    (n < 8 → (show_answer_of ram rom at ≡ Ok tt) × (shown_of ram rom at ≡ 0x17 ∷ n ∷ []))
     × (8 ≤ n → show_answer_of ram rom at ≡ Err Unlisted)

@@ -1,6 +1,6 @@
 -- What EI does to the interrupt level, and which steps touch the nesting count (request K8). Each statement is proved in proofs/Levels.antt.
 use Rattle.std.specs.Prelude.{ℕ, ◌<◌, ◌≤◌, ◌≡◌, List, ◌∷◌, Ok, Err}
-use Rattle.answer.specs.declared.{Why.TheVariants.Unlisted}
+use Rattle.answer.specs.declared.Why.TheVariants.{Unlisted}
 use Rattle.memory.specs.Access.{code_at}
 use Rattle.state.specs.{declared.State.State, State.nested}
 use Rattle.code.specs.{declared.Instruction.Instruction, declared.Op.TheVariants.Interrupts, declared.Interrupt.TheVariants.Reti}

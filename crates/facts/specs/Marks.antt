@@ -4,7 +4,7 @@ use Rattle.flags.specs.{declared.Flags.Flags, Flag.flags_of, Condition.holds_of,
 use Rattle.memory.specs.Access.{code_at}
 use Rattle.state.specs.{declared.State.State, State.valid_of, State.marks_of, State.with_both_flags}
 use Rattle.code.specs.{declared.Instruction.Instruction, declared.Control.Control, declared.Stack.TheVariants.PushF, declared.Interrupt.TheVariants.PushSr}
-use Rattle.code.specs.{declared.Op.TheVariants.Controls, declared.Op.TheVariants.Stacks, declared.Op.TheVariants.Interrupts, declared.Decoded.TheVariants.Whole, Listed.decode_of}
+use Rattle.code.specs.{declared.Op.TheVariants.Controls, declared.Op.TheVariants.Stacks, declared.Op.TheVariants.Interrupts, Listed.decode_of}
 use Rattle.operand.specs.Flag.{flags_in}
 use Rattle.step.specs.Step.{step_of}
 use Rattle.facts.specs.Touched.{condition_in}
@@ -21,7 +21,7 @@ MarkedSayNothing =
 
 -- an instruction stands at the counter, and its step is done
 abbrev pub DoneAt : State → List ℕ → List ℕ → Instruction → Type 0
-DoneAt s ram rom i = ((step_of s ram rom).answer ≡ (Ok tt)) × (decode_of (code_at ram rom s.counter) ≡ Whole i)
+DoneAt s ram rom i = ((step_of s ram rom).answer ≡ Ok tt) × (decode_of (code_at ram rom s.counter) ≡ Ok i)
 
 -- a jump that is done has read defined flags alone: its condition is the same whatever the bits of marked flags were
 abbrev pub JumpReadsDefined : Type 0

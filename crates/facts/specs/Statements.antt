@@ -1,21 +1,21 @@
 -- What a user may hold each call to. Each statement is proved in proofs/Statements.antt or proofs/Shown.antt.
 use Rattle.std.specs.Prelude.{ℕ, ◌<◌, ◌≤◌, ◌^◌, ◌≡◌, List, [], ◌++◌, true, false, ◌⊎◌, length, Ok, Err}
-use Rattle.answer.specs.{declared.Why.Why}
-use Rattle.answer.specs.{Number.why_number}
+use Rattle.answer.specs.declared.Why.{Why}
+use Rattle.answer.specs.Number.{why_number}
 use Rattle.answer.specs.declared.Why.TheVariants.{TooLong, Invalid, NoCode, Unlisted, Undefined, Missing}
 use Rattle.little.specs.declared.Size.{Size}
 use Rattle.memory.specs.{Access.code_at, Access.stands_at, Place.place_of}
 use Rattle.state.specs.{declared.State.State, State.valid_of, State.zero_state, Sound.Sound}
 use Rattle.code.specs.{declared.Form.Form, declared.Op.TheVariants.Blocks, declared.Operand.Operand, declared.Instruction.Instruction}
-use Rattle.code.specs.{Listed.decode_of}
+use Rattle.code.specs.Listed.{decode_of}
 use Rattle.exec.specs.Exec.{past_of, effect_of}
 use Rattle.step.specs.{declared.Stepped.Stepped, Result.refused_with, Step.step_of, Step.StepMeets, Show.shown_of}
 use Rattle.step.specs.{Show.show_answer_of, Show.shown_from, Show.ShowMeets, Show.ShowAnswerMeets, Reset.reset_of, Reset.ResetMeets}
 use Rattle.facts.specs.Touched.{uses_marked, read_of, stored_of, operands_answer, answer_by, KeepsRest}
 use Rattle.operand.specs.Try.{and_then}
 use Rattle.block.specs.Block.{round_of, ends_at}
-use Rattle.code.specs.declared.Decoded.TheVariants as decoded
 use Rattle.answer.specs.Number.{Answer}
+use Rattle.code.specs.declared.Unread.TheVariants as unread
 
 infix 5 ◌⇔◌
 -- each of two follows from the other
@@ -41,13 +41,13 @@ Passed s ram rom = Within ram rom × (valid_of s ≡ true)
 pub record RefusedWhen (s : State) (ram rom : List ℕ) : Type 0 where
   pub one : ((step_of s ram rom).answer ≡ Err TooLong) ⇔ ((2 ^ 16 < length ram) ⊎ (2 ^ 16 < length rom))
   pub two : ((step_of s ram rom).answer ≡ Err Invalid) ⇔ (Within ram rom × (valid_of s ≡ false))
-  pub three : ((step_of s ram rom).answer ≡ Err NoCode) ⇔ (Passed s ram rom × (decode_of (code_at ram rom s.counter) ≡ decoded.Short))
-  pub four : ((step_of s ram rom).answer ≡ Err Unlisted) ⇔ (Passed s ram rom × (decode_of (code_at ram rom s.counter) ≡ decoded.Unlisted))
+  pub three : ((step_of s ram rom).answer ≡ Err NoCode) ⇔ (Passed s ram rom × (decode_of (code_at ram rom s.counter) ≡ Err unread.Short))
+  pub four : ((step_of s ram rom).answer ≡ Err Unlisted) ⇔ (Passed s ram rom × (decode_of (code_at ram rom s.counter) ≡ Err unread.Unlisted))
   pub eight :
       ((step_of s ram rom).answer ≡ Err Undefined)
-      ⇔ (Passed s ram rom × ((i : Instruction) × (decode_of (code_at ram rom s.counter) ≡ decoded.Whole i) × (uses_marked i.op s ≡ true)))
+      ⇔ (Passed s ram rom × ((i : Instruction) × (decode_of (code_at ram rom s.counter) ≡ Ok i) × (uses_marked i.op s ≡ true)))
   pub operands :
-      (i : Instruction) → Passed s ram rom → decode_of (code_at ram rom s.counter) ≡ decoded.Whole i →
+      (i : Instruction) → Passed s ram rom → decode_of (code_at ram rom s.counter) ≡ Ok i →
       (step_of s ram rom).answer
       ≡ answer_by (uses_marked i.op s)
       (operands_answer ram rom (read_of i.op i.size i.operand (past_of i.length s)) (stored_of i.op i.size i.operand (past_of i.length s)))
@@ -55,14 +55,14 @@ pub record RefusedWhen (s : State) (ram rom : List ℕ) : Type 0 where
 -- an accepted step gives a valid state and keeps RAM's length; a state whose numbers fit stays so
 abbrev pub KeepsValid : Type 0
 KeepsValid =
-    (s : State) (ram rom : List ℕ) → (step_of s ram rom).answer ≡ (Ok tt) →
+    (s : State) (ram rom : List ℕ) → (step_of s ram rom).answer ≡ Ok tt →
     (valid_of (step_of s ram rom).state ≡ true) × (length (step_of s ram rom).ram ≡ length ram) × (Sound s → Sound (step_of s ram rom).state)
 
 -- an accepted step changes no byte of RAM outside the part that its instruction stores to
 abbrev pub StoresOnlyThere : Type 0
 StoresOnlyThere =
-    (s : State) (ram rom : List ℕ) (i : Instruction) → (step_of s ram rom).answer ≡ (Ok tt) →
-    decode_of (code_at ram rom s.counter) ≡ decoded.Whole i →
+    (s : State) (ram rom : List ℕ) (i : Instruction) → (step_of s ram rom).answer ≡ Ok tt →
+    decode_of (code_at ram rom s.counter) ≡ Ok i →
     KeepsRest (stored_of i.op i.size i.operand (past_of i.length s)) ram (step_of s ram rom).ram
 
 -- any two results that meet what a call promises are the same, and so is RAM after them; a part that is shown stands in one place
@@ -76,7 +76,7 @@ pub record Settled (s : State) (ram rom : List ℕ) (at : ℕ) : Type 0 where
 -- what is shown stands at the address: the code there begins with it, and it is a part of the memory that holds it
 abbrev pub ShownStands : Type 0
 ShownStands =
-    (ram rom : List ℕ) (at : ℕ) (p q : ℕ × ℕ) → show_answer_of ram rom at ≡ (Ok tt) →
+    (ram rom : List ℕ) (at : ℕ) (p q : ℕ × ℕ) → show_answer_of ram rom at ≡ Ok tt →
     ((rest : List ℕ) × (shown_of ram rom at ++ rest ≡ code_at ram rom at))
     × (shown_from ram rom at p q ≡ stands_at (place_of (length ram) (length rom) at 1) p q)
 
@@ -90,7 +90,7 @@ RefusedShowsNone =
 abbrev pub ResetMissing : Type 0
 ResetMissing =
     (ram rom : List ℕ) → Within ram rom →
-    (length rom < 256 → reset_of ram rom ≡ refused_with zero_state (Missing 0xFFFF00)) × (256 ≤ length rom → (reset_of ram rom).answer ≡ (Ok tt))
+    (length rom < 256 → reset_of ram rom ≡ refused_with zero_state (Missing 0xFFFF00)) × (256 ≤ length rom → (reset_of ram rom).answer ≡ Ok tt)
 
 -- the single form of a repeating one: LDI of LDIR, LDD of LDDR, CPI of CPIR, CPD of CPDR
 unfoldable pub single : Form → Form

@@ -1,6 +1,6 @@
 -- The flags that an instruction decides by or stores, the bytes that it reads and those that it stores to, and what it answers by them.
 use Rattle.std.specs.Prelude.{ℕ, ◌+◌, ◌<◌, ◌≤◌, ◌%◌, ◌^◌, ◌≡◌, List, Bool, true, false, cond, ◌&&◌, ◌⊎◌, length, get_or, Ok, Err}
-use Rattle.answer.specs.{Number.first_refusal}
+use Rattle.answer.specs.Number.{first_refusal}
 use Rattle.little.specs.{declared.Size.Size, declared.Size.TheVariants.Long, Width.bytes_of, Width.twice_of}
 use Rattle.memory.specs.{declared.Place.Place, Access.store_to, Place.place_of}
 use Rattle.memory.specs.declared.Place.TheVariants.{Ram, Rom, Missing}

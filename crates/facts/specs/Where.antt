@@ -1,9 +1,9 @@
 -- Which byte is told with 5, and which with 6. Each statement is proved in proofs/Where.antt.
-use Rattle.std.specs.Prelude.{ℕ, ◌+◌, ◌<◌, ◌≤◌, ◌%◌, ◌^◌, ◌≡◌, ◌⊎◌, List, length, Err}
+use Rattle.std.specs.Prelude.{ℕ, ◌+◌, ◌<◌, ◌≤◌, ◌%◌, ◌^◌, ◌≡◌, ◌⊎◌, List, length, Err, Ok}
 use Rattle.answer.specs.declared.{Why.TheVariants.Missing, Why.TheVariants.ToRom}
 use Rattle.memory.specs.Access.{code_at}
 use Rattle.state.specs.declared.State.{State}
-use Rattle.code.specs.{declared.Instruction.Instruction, declared.Decoded.TheVariants.Whole, Listed.decode_of}
+use Rattle.code.specs.{declared.Instruction.Instruction, Listed.decode_of}
 use Rattle.exec.specs.Exec.{past_of}
 use Rattle.step.specs.Step.{step_of}
 use Rattle.facts.specs.Touched.{bytes, read_of, stored_of}
@@ -35,12 +35,12 @@ OneApart = (ram rom : List ℕ) (a n x y : ℕ) → FirstApart ram rom a n x →
 -- the instruction at the counter reads n bytes at a; it stores n bytes there
 abbrev pub Reads : State → List ℕ → List ℕ → ℕ → ℕ → Type 0
 Reads s ram rom a n =
-    (i : Instruction) × (decode_of (code_at ram rom s.counter) ≡ Whole i)
+    (i : Instruction) × (decode_of (code_at ram rom s.counter) ≡ Ok i)
     × (read_of i.op i.size i.operand (past_of i.length s) ≡ bytes a n)
 
 abbrev pub Stores : State → List ℕ → List ℕ → ℕ → ℕ → Type 0
 Stores s ram rom a n =
-    (i : Instruction) × (decode_of (code_at ram rom s.counter) ≡ Whole i)
+    (i : Instruction) × (decode_of (code_at ram rom s.counter) ≡ Ok i)
     × (stored_of i.op i.size i.operand (past_of i.length s) ≡ bytes a n)
 
 -- a step refused with 5 tells such a byte of what it reads, or of what it would store to; which of the two, RefusedWhen says (`operands`)

@@ -115,7 +115,7 @@ module _ (image : List ℕ) where
     unfolding line_for
     for_stops w e = rw (le-ltb 32768 (length image) few, reset_answer_lem e) refl
 
-    pub for_ran : (q : Ran) (m : List ℕ) → r.answer ≡ (Ok tt) → result_with q m ≡ run_of 1000 r.state zeros image →
+    pub for_ran : (q : Ran) (m : List ℕ) → r.answer ≡ Ok tt → result_with q m ≡ run_of 1000 r.state zeros image →
         line_for image ≡ ran_line q.state q.done q.answer
     unfolding line_for
     for_ran q m e f =

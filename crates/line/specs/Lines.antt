@@ -1,11 +1,11 @@
 -- The line that the program prints.
 use Rattle.std.specs.Prelude.{ℕ, ◌≡◌, List, [], ◌∷◌, ◌++◌, cond, length, replicate, ltb, Ok, Err}
-use Rattle.answer.specs.{declared.Why.Why}
+use Rattle.answer.specs.declared.Why.{Why}
 use Rattle.answer.specs.{declared.Why.TheVariants.TooLong, Number.why_number, Number.number_of}
 use Rattle.little.specs.declared.Size.TheVariants.{Long}
 use Rattle.state.specs.{declared.State.State, Register.get_register, Sr.sr_of}
 use Rattle.turn.specs.Many.{Result}
-use Rattle.step.specs.{Reset.reset_of}
+use Rattle.step.specs.Reset.{reset_of}
 use Rattle.run.specs.Run.{run_of}
 use Rattle.text.specs.{declared.Line.Line, Text.decimal_of, Text.hex_of, Text.line_of}
 use Rattle.answer.specs.Number.{Answer}

@@ -13,9 +13,6 @@ use state::status::sr;
 use text::Line;
 use turn::Ran;
 
-// What the line ends with.
-const END: u8 = b'\n';
-
 // Steps and number.
 #[tactic(auto, using(crate::proofs::Laws::counts_made))]
 fn counted(l: &mut Line, done: u32, number: u8)
@@ -58,10 +55,10 @@ fn registers(l: &mut Line, s: State)
 fn refused(w: Why) -> Line
     ensures { result ≡ refused_line w }
 {
-    let mut l = Line::new();
-    counted(&mut l, 0, w.number());
-    l.push(END);
-    l
+    let mut line = Line::new();
+    counted(&mut line, 0, w.number());
+    line.push(b'\n');
+    line
 }
 
 #[tactic(auto, using(crate::proofs::Laws::ran_made))]
@@ -72,7 +69,7 @@ fn ran(r: Ran) -> Line
     counted(&mut l, r.done, answer::number(r.answer));
     placed(&mut l, r.state);
     registers(&mut l, r.state);
-    l.push(END);
+    l.push(b'\n');
     l
 }
 

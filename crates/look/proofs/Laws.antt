@@ -9,21 +9,22 @@ use lib.Dec.{ltb}
 use Rattle.answer.specs.Number.{number_of}
 use Rattle.memory.specs.Access.{code_at}
 use Rattle.code.specs.Listed.{decode_of}
-use Rattle.code.specs.declared.Decoded.{Decoded}
-use Rattle.code.specs.declared.Decoded.TheVariants as decoded
 use Rattle.code.proofs.Walked.{length_fits}
 use Rattle.step.specs.Step.{too_long}
 use Rattle.step.specs.Show.{length_in, shown_of, show_answer_of}
 use Rattle.look.specs.Statements.{CShowMeets, Settled}
 use Rattle.answer.specs.Number.{Answer}
+use Rattle.std.proofs.Common.{Ok, Err}
+use Rattle.code.specs.Unread.{Decoded}
+use Rattle.code.specs.declared.Unread.TheVariants.{Short, Unlisted}
 
 length_few : (l : List ℕ) → length_in (decode_of l) ≤ 7
 length_few l = go (decode_of l) refl
   where
     go : (d : Decoded) → decode_of l ≡ d → length_in d ≤ 7
-    go decoded.Short e = omega arith
-    go decoded.Unlisted e = omega arith
-    go (decoded.Whole i) e = (length_fits l i e).1.0
+    go (Err Short) e = omega arith
+    go (Err Unlisted) e = omega arith
+    go (Ok i) e = (length_fits l i e).1.0
 
 pub shown_few : (ram rom : List ℕ) (at : ℕ) (code : List ℕ) → code ≡ shown_of ram rom at → length code ≤ 7
 unfolding shown_of

@@ -61,7 +61,7 @@ call_ends_as_told f b s ram rom e h =
 -- ---- records that meet it
 holds : (s : State) (b : List ℕ) → record_of s ≡ b → T (fits (2 ^ 8) b) → Sound s → valid_of s ≡ true → HasState b s
 holds s b e t ok v =
-    (fits_says (2 ^ 8) (omega arith) b t, subst (λ (l : List ℕ). restored_of l ≡ record { answer = (Ok tt); state = s }) e (saved_reads_back s ok v).0)
+    (fits_says (2 ^ 8) (omega arith) b t, subst (λ (l : List ℕ). restored_of l ≡ record { answer = Ok tt; state = s }) e (saved_reads_back s ok v).0)
 
 -- a start of run/Evidence, on the record of its state
 met_called : (x : Start) (b : List ℕ) → record_of x.state ≡ b → T (fits (2 ^ 8) b) → StartMet x →

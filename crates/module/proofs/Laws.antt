@@ -76,17 +76,17 @@ pub run_sound : (n : ℕ) (s : State) (ram rom : List ℕ) → Sound s → Sound
 run_sound = run_keeps Sound (λ s ram rom t m e ok. (try_keeps s ram rom t m e).1 ok)
 
 -- ---- a record that is opened
-load_valid : (b : List ℕ) → (restored_of b).answer ≡ (Ok tt) → Valid (restored_of b).state × (length b ≡ record_length)
+load_valid : (b : List ℕ) → (restored_of b).answer ≡ Ok tt → Valid (restored_of b).state × (length b ≡ record_length)
 load_valid b h =
     let l = load_done record_length b refl h in
     let g = good_says record_length b l.0 in
     (subst Valid (sym l.1) (valid_says (state_at b) g.1), g.0)
 
-opened_done : (b : List ℕ) (m n : ℕ) → (opened_of b m n).answer ≡ (Ok tt) → Valid (opened_of b m n).state × (length b ≡ record_length)
+opened_done : (b : List ℕ) (m n : ℕ) → (opened_of b m n).answer ≡ Ok tt → Valid (opened_of b m n).state × (length b ≡ record_length)
 unfolding opened_of
 opened_done b m n h = go (too_long m n) h
   where
-    go : (x : Bool) → (cond x (record { answer = Err TooLong; state = zero_state }) (restored_of b)).answer ≡ (Ok tt) →
+    go : (x : Bool) → (cond x (record { answer = Err TooLong; state = zero_state }) (restored_of b)).answer ≡ Ok tt →
         Valid (cond x (record { answer = Err TooLong; state = zero_state }) (restored_of b)).state × (length b ≡ record_length)
     go true f = not_refused f refl
     go false f = load_valid b f
@@ -96,7 +96,7 @@ saves : (s : State) (b : List ℕ) → Valid s → (save_answer s (length b) ≡
 unfolding save_answer save_bytes
 saves s b ok = (rw (valid_from s ok) refl, rw (valid_from s ok) refl)
 
-saved_whole : (s : State) (b : List ℕ) → Valid s → length b ≡ record_length → (save_answer s (length b) ≡ (Ok tt)) × (save_bytes s b ≡ record_of s)
+saved_whole : (s : State) (b : List ℕ) → Valid s → length b ≡ record_length → (save_answer s (length b) ≡ Ok tt) × (save_bytes s b ≡ record_of s)
 saved_whole s b ok e = (saved.saves s b).0 (valid_from s ok) e
 
 pub opened_long : (b : List ℕ) (m n : ℕ) → too_long m n ≡ true → opened_of b m n ≡ refused_record TooLong
@@ -115,11 +115,11 @@ module _ (b ram rom : List ℕ) (r : Stepped) (is : r ≡ reset_of ram rom) wher
       let f : (reset_of ram rom).answer ≡ Err w = ap (λ (x : Stepped). x.answer) (sym is) ∙ a in
       (rw (f, e) refl, rw f refl)
 
-  pub reset_saves : {n : ℕ} {x : Answer} {b' : List ℕ} → r.answer ≡ (Ok tt) → x ≡ save_answer r.state (length b) → b' ≡ save_bytes r.state b →
+  pub reset_saves : {n : ℕ} {x : Answer} {b' : List ℕ} → r.answer ≡ Ok tt → x ≡ save_answer r.state (length b) → b' ≡ save_bytes r.state b →
       n ≡ number_of x → CResetMeets b ram rom n b'
   unfolding reset_answer reset_bytes
   reset_saves a e g h =
-      let f : (reset_of ram rom).answer ≡ (Ok tt) = ap (λ (y : Stepped). y.answer) (sym is) ∙ a in
+      let f : (reset_of ram rom).answer ≡ Ok tt = ap (λ (y : Stepped). y.answer) (sym is) ∙ a in
       let k = saves (reset_of ram rom).state b (reset_valid ram rom) in
       (rw (f, h, e, is, k.0) refl, rw (f, g, is, k.1) (room _ _ (eqb (length b) record_length)))
     where
@@ -136,7 +136,7 @@ module _ (b ram rom : List ℕ) (o : Restored) (is : o ≡ opened_of b (length r
   opened_answer e = ap (λ (x : Restored). x.answer) (sym is) ∙ e
 
   -- over one that is opened, a state that is valid where that in it is can be saved
-  saved_over : (s : State) → o.answer ≡ (Ok tt) → (Valid held.state → Valid s) → (save_answer s (length b) ≡ (Ok tt)) × (save_bytes s b ≡ record_of s)
+  saved_over : (s : State) → o.answer ≡ Ok tt → (Valid held.state → Valid s) → (save_answer s (length b) ≡ Ok tt) × (save_bytes s b ≡ record_of s)
   saved_over s good f = let v = opened_done b (length ram) (length rom) (opened_answer good) in saved_whole s b (f v.0) v.1
 
   -- ---- one step
@@ -151,7 +151,7 @@ module _ (b ram rom : List ℕ) (o : Restored) (is : o ≡ opened_of b (length r
     unfolding request_left request_taken
     request_stops w a e f = (rw (opened_answer a, e, f, a) refl, rw (opened_answer a) refl)
 
-    module _ (q : Requested) (m : List ℕ) (good : o.answer ≡ (Ok tt)) (e : RequestMeets level vector o.state ram rom q m) where
+    module _ (q : Requested) (m : List ℕ) (good : o.answer ≡ Ok tt) (e : RequestMeets level vector o.state ram rom q m) where
       came : after q.answer q.state m ≡ request_of level vector held.state ram rom
       came = e.0 ∙ ap (λ (x : Restored). request_of level vector x.state ram rom) is
 
@@ -186,7 +186,7 @@ module _ (n : ℕ) (b ram rom : List ℕ) where
         let f = opened_answer b ram rom o is a in
         (rw (le-ltb 1000000 n few, f, e, g, a) refl, rw (le-ltb 1000000 n few, f) refl)
 
-    pub run_ran : {k x : ℕ} {b' : List ℕ} (r : Ran) (m : List ℕ) → o.answer ≡ (Ok tt) → result_with r m ≡ run_of n o.state ram rom → b' ≡ save_bytes r.state b →
+    pub run_ran : {k x : ℕ} {b' : List ℕ} (r : Ran) (m : List ℕ) → o.answer ≡ Ok tt → result_with r m ≡ run_of n o.state ram rom → b' ≡ save_bytes r.state b →
         k ≡ number_of r.answer → x ≡ at_of r.answer → CRunMeets n b ram rom k x b' m r.done
     unfolding run_left run_done
     run_ran r m a e g h i =

@@ -41,7 +41,7 @@ use Rattle.answer.specs.Number.{Answer}
 -- ---- the state in a record of bytes
 -- a record that is opened: it is written again as itself, and the state in it is good
 pub record Opens (b : List ℕ) (s : State) : Type 0 where
-  pub load : restored_of b ≡ record { answer = (Ok tt); state = s }
+  pub load : restored_of b ≡ record { answer = Ok tt; state = s }
   pub back : record_of s ≡ b
   pub sound : Sound s
   pub valid : Valid s
@@ -71,7 +71,7 @@ saved_opens s ok v = record { load = (saved_reads_back s ok (valid_from s v)).0;
 
 -- ---- a run on it
 run_here :
-    (n : ℕ) (b ram rom : List ℕ) (s : State) → n ≤ 1000000 → opened_of b (length ram) (length rom) ≡ record { answer = (Ok tt); state = s } →
+    (n : ℕ) (b ram rom : List ℕ) (s : State) → n ≤ 1000000 → opened_of b (length ram) (length rom) ≡ record { answer = Ok tt; state = s } →
     CallLeaves b ram rom n (run_of n s ram rom)
 unfolding run_left run_done
 run_here n b ram rom s few h = (rw (le-ltb 1000000 n few, h) refl, rw (le-ltb 1000000 n few, h) refl)
@@ -103,7 +103,7 @@ stepped_run b ram rom s back = go (try_of s ram rom)
     go (no w) = ap (λ (l : List ℕ). left_by (Err w) l ram) (sym back)
 
 step_here :
-    (b ram rom : List ℕ) (s : State) → opened_of b (length ram) (length rom) ≡ record { answer = (Ok tt); state = s } →
+    (b ram rom : List ℕ) (s : State) → opened_of b (length ram) (length rom) ≡ record { answer = Ok tt; state = s } →
     step_left b ram rom ≡ stepped (step_of s ram rom) b
 unfolding step_left
 step_here b ram rom s h = rw h refl
@@ -185,7 +185,7 @@ start b ram rom h = ⊎_elim (λ (o : Opens b (state_at b)). starts (state_at b)
 not_zero : {A : Type 0} (w : Why) → why_number w ≡ 0 → A
 not_zero w h = absurd (omega (arith, some w))
 
-done_by : (a : Answer) → number_of a ≡ 0 → a ≡ (Ok tt)
+done_by : (a : Answer) → number_of a ≡ 0 → a ≡ Ok tt
 done_by (Ok _) h = refl
 done_by (Err w) h = not_zero w h
 
@@ -195,7 +195,7 @@ run_counts b ram rom n h =
     let s = (run_opened n b ram rom).state in
     go (run_opened n b ram rom).answer (run_of n s ram rom) (count_is_true s ram rom n).0 h
   where
-    go : (a : Answer) (r : Result) → (r.answer ≡ (Ok tt) → r.done ≡ n) → (unless a b ram (ran_left r)).number ≡ 0 → where_done a r.done 0 ≡ n
+    go : (a : Answer) (r : Result) → (r.answer ≡ Ok tt → r.done ≡ n) → (unless a b ram (ran_left r)).number ≡ 0 → where_done a r.done 0 ≡ n
     go (Ok _) r true-count z = true-count (done_by r.answer z)
     go (Err w) r true-count z = not_zero w z
 

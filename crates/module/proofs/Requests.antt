@@ -67,7 +67,7 @@ module _ (b ram rom : List ℕ) where
         go true e = refl
         go false e = ap (λ (l : List ℕ). left_by o.answer l o.ram) (sym (ap record_of (untaken_same level vector s ram rom e).0 ∙ back))
 
-    opened_on : opened_of b (length ram) (length rom) ≡ record { answer = (Ok tt); state = s } → record_of s ≡ b → OnState
+    opened_on : opened_of b (length ram) (length rom) ≡ record { answer = Ok tt; state = s } → record_of s ≡ b → OnState
     unfolding request_left request_taken
     opened_on e back = rw e (offered_back back, refl)
 

@@ -11,7 +11,7 @@ use Rattle.module.specs.Calls.{CResetMeets, CStepMeets, CRunMeets, CRequestMeets
 
 -- a record of bytes that is opened, and the state in it
 abbrev pub HasState : List ℕ → State → Type 0
-HasState bytes s = Bytes bytes × (restored_of bytes ≡ record { answer = (Ok tt); state = s })
+HasState bytes s = Bytes bytes × (restored_of bytes ≡ record { answer = Ok tt; state = s })
 
 -- `at` holds 0 where the number is neither 5 nor 6
 abbrev pub AtZero : Left → Type 0

@@ -48,7 +48,7 @@ widens old room = (
 
 pub narrow_done :
     (new room : List ℕ) → is_record new ≡ true → length room ≡ old_length → fits_old (state_at new) ≡ true →
-    (narrow_answer new (length room) ≡ (Ok tt)) × (narrow_bytes new room ≡ narrowed new)
+    (narrow_answer new (length room) ≡ Ok tt) × (narrow_bytes new room ≡ narrowed new)
 unfolding narrow_answer narrow_bytes
 narrow_done new room g e f = (rw (g, eq-eqb _ _ e, f) refl, rw (g, eq-eqb _ _ e, f) refl)
 
@@ -80,7 +80,7 @@ pub widen_other_room :
 widen_other_room old room h k = told k refl refl ((widens old room).1 (inr h))
 
 pub widen_fills :
-    (old room : List ℕ) {o : Restored} {b : List ℕ} {n : ℕ} → o ≡ old_restored_of old → o.answer ≡ (Ok tt) → length room ≡ record_length →
+    (old room : List ℕ) {o : Restored} {b : List ℕ} {n : ℕ} → o ≡ old_restored_of old → o.answer ≡ Ok tt → length room ≡ record_length →
     b ≡ filled (length room) old → n ≡ number_of (Ok tt) → CWidenMeets old room n b
 widen_fills old room e r fit f k =
     let g = (load_done old_length old e r).0 in
@@ -96,7 +96,7 @@ pub narrow_other_room :
     (new room : List ℕ) {n : ℕ} → (length room ≡ old_length → ⊥) → n ≡ why_number Invalid → CNarrowMeets new room n room
 narrow_other_room new room h k = told k refl refl (narrow_two new room (inr h))
 
-module _ (new room : List ℕ) {o : Restored} {f : Bool} (e : o ≡ restored_of new) (r : o.answer ≡ (Ok tt)) (fit : length room ≡ old_length) (q : f ≡ fits_old o.state) where
+module _ (new room : List ℕ) {o : Restored} {f : Bool} (e : o ≡ restored_of new) (r : o.answer ≡ Ok tt) (fit : length room ≡ old_length) (q : f ≡ fits_old o.state) where
   good : is_record new ≡ true
   good = (load_done record_length new e r).0
 

@@ -69,7 +69,7 @@ all_passed false f w e = not_refused e refl
 
 -- it wrote the record of the state in the one that it read
 widened_is :
-    (old room : List ℕ) → Bytes old → widen_answer old (length room) ≡ (Ok tt) →
+    (old room : List ℕ) → Bytes old → widen_answer old (length room) ≡ Ok tt →
     (is_old_record old ≡ true) × (fits_old (state_at old) ≡ true) × (widen_bytes old room ≡ record_of (state_at old))
 unfolding widen_answer
 widened_is old room h e =
@@ -78,7 +78,7 @@ widened_is old room h e =
     (p.0, (old_records_are_of_states.1 old h p.0).1, w.1 ∙ sym (wide_bytes old h p.0))
 
 narrowed_is :
-    (new room : List ℕ) → Bytes new → narrow_answer new (length room) ≡ (Ok tt) →
+    (new room : List ℕ) → Bytes new → narrow_answer new (length room) ≡ Ok tt →
     (is_record new ≡ true) × (fits_old (state_at new) ≡ true) × (narrow_bytes new room ≡ old_record_of (state_at new))
 unfolding narrow_answer
 narrowed_is new room h e =

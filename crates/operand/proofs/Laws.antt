@@ -66,7 +66,7 @@ displaced_less z x d h m r e l b c f g =
 
 -- ---- stores
 module _ (s t : State) (ram rom : List ℕ) (a n v : ℕ) (m : List ℕ) (after : m ≡ ram_bytes ram rom a n v) where
-  pub stored_bytes : store_bytes ram rom a n ≡ (Ok tt) → ◌≡◌ {A = Outcome} (record { state = t; ram = m; answer = (Ok tt) }) (leaves s ram (storing_bytes t ram rom a n v))
+  pub stored_bytes : store_bytes ram rom a n ≡ Ok tt → ◌≡◌ {A = Outcome} (record { state = t; ram = m; answer = Ok tt }) (leaves s ram (storing_bytes t ram rom a n v))
   stored_bytes e = rw (e, after) refl
 
   pub not_stored_bytes : (w : Why) → store_bytes ram rom a n ≡ Err w → ◌≡◌ {A = Outcome} (record { state = s; ram = m; answer = Err w }) (leaves s ram (storing_bytes t ram rom a n v))
@@ -74,7 +74,7 @@ module _ (s t : State) (ram rom : List ℕ) (a n v : ℕ) (m : List ℕ) (after 
 
 -- the same of a size
 module _ (s t : State) (ram rom : List ℕ) (a : ℕ) (z : Size) (v : ℕ) (m : List ℕ) (after : m ≡ ram_after ram rom a z v) where
-  pub stored : store_of ram rom a z ≡ (Ok tt) → ◌≡◌ {A = Outcome} (record { state = t; ram = m; answer = (Ok tt) }) (leaves s ram (storing t ram rom a z v))
+  pub stored : store_of ram rom a z ≡ Ok tt → ◌≡◌ {A = Outcome} (record { state = t; ram = m; answer = Ok tt }) (leaves s ram (storing t ram rom a z v))
   unfolding storing store_of ram_after
   stored = stored_bytes s t ram rom a (bytes_of z) v m after
 
@@ -84,7 +84,7 @@ module _ (s t : State) (ram rom : List ℕ) (a : ℕ) (z : Size) (v : ℕ) (m : 
 
 -- ---- a call, and then a change of the state where it was done
 module _ (s : State) (ram : List ℕ) (a : Answer) (u : State) (m : List ℕ) (f : State → State) where
-  pub then_done : (t : Try) → after a u m ≡ leaves s ram t → a ≡ (Ok tt) → after (Ok tt) (f u) m ≡ leaves s ram (and_then t f)
+  pub then_done : (t : Try) → after a u m ≡ leaves s ram t → a ≡ Ok tt → after (Ok tt) (f u) m ≡ leaves s ram (and_then t f)
   then_done (did v n) e d = rw (ap (λ (o : Outcome). o.state) e, ap (λ (o : Outcome). o.ram) e) refl
   then_done (no w) e d =
       let b : a ≡ Err w = ap (λ (o : Outcome). o.answer) e in
@@ -93,7 +93,7 @@ module _ (s : State) (ram : List ℕ) (a : Answer) (u : State) (m : List ℕ) (f
 
   pub then_refused : (w : Why) (t : Try) → after a u m ≡ leaves s ram t → a ≡ Err w → after (Err w) u m ≡ leaves s ram (and_then t f)
   then_refused w (did v n) e d =
-      let b : a ≡ (Ok tt) = ap (λ (o : Outcome). o.answer) e in
+      let b : a ≡ Ok tt = ap (λ (o : Outcome). o.answer) e in
       let z : ◌≡◌ {A = ℕ} 0 1 = cc in
       absurd (omega arith)
   then_refused w (no x) e d = rw (← d) e

@@ -12,7 +12,7 @@ use little::{ADDRESSES, Size};
 use state::Bank;
 use state::named::{Field, of_code, of_register};
 
-// x plus a number of a size with a sign, as an address: with its sign, it stands for itself less twice the weight of its sign.
+// x plus a number of a size with a sign, as an address: where its sign bit is one, it stands for itself less twice the weight of that bit.
 pub fn displace(size: Size, x: u32, d: u32) -> u32
     ensures { result ≡ displaced (bits_of size) x d }
 {

@@ -19,7 +19,6 @@ use Rattle.state.proofs.Valid.{valid_says, valid_from, valid_counter}
 use Rattle.code.specs.declared.Op.{Op}
 use Rattle.code.specs.declared.Operand.{Operand}
 use Rattle.code.specs.declared.Instruction.{Instruction}
-use Rattle.code.specs.declared.Decoded.TheVariants as decoded
 use Rattle.code.specs.Range.{InRange}
 use Rattle.code.specs.Listed.{decode_of}
 use Rattle.code.specs.Written.{code_of}
@@ -62,7 +61,7 @@ counter_is s a h = mod-eq_of_lt h
 abbrev instruction : Op → Size → Operand → Instruction
 instruction op z o = record { op = op; size = z; operand = o; length = length (code_of op z o) }
 
-once_whole : (s : State) (ram rom : List ℕ) (i : Instruction) → decode_of (code_at ram rom s.counter) ≡ decoded.Whole i → once_of s ram rom ≡ executed_of i s ram rom
+once_whole : (s : State) (ram rom : List ℕ) (i : Instruction) → decode_of (code_at ram rom s.counter) ≡ Ok i → once_of s ram rom ≡ executed_of i s ram rom
 unfolding once_of
 once_whole s ram rom i e = rw e refl
 

@@ -38,7 +38,7 @@ pub refused_by :
     (s u : State) (ram m : List ℕ) (a : Answer) (w : Why) (t : Try) (f : State → State) →
     after a u m ≡ leaves s ram t → a ≡ Err w → after a s m ≡ leaves s ram (and_then t f)
 refused_by s u ram m a w (did v n) f e d =
-    let b : a ≡ (Ok tt) = ap (λ (o : Outcome). o.answer) e in
+    let b : a ≡ Ok tt = ap (λ (o : Outcome). o.answer) e in
     let z : ◌≡◌ {A = ℕ} 0 1 = cc in
     absurd (omega arith)
 refused_by s u ram m a w (no x) f e d = rw (ap (λ (o : Outcome). o.answer) e, ap (λ (o : Outcome). o.ram) e) refl

@@ -1,7 +1,7 @@
 -- A request for an interrupt, offered to the machine between two steps (request K8).
 use Rattle.std.specs.Prelude.{ℕ, ◌+◌, ◌*◌, ◌^◌, ◌≡◌, List, Bool, false, cond, not, ◌&&◌, ◌||◌, leb, ltb, eqb, Ok, Err}
 use Rattle.little.specs.declared.Size.TheVariants.{Long}
-use Rattle.answer.specs.declared.{Why.TheVariants.BadRequest}
+use Rattle.answer.specs.declared.Why.TheVariants.{BadRequest}
 use Rattle.memory.specs.Access.{load_of}
 use Rattle.state.specs.{declared.State.State, State.with_counter, State.with_level, State.with_nesting, Sr.sr_of}
 use Rattle.operand.specs.{Try.Try, Try.did, Try.no, Try.and_then, Try.with_loaded, Try.Outcome, Try.after, Try.leaves, Round.plus}

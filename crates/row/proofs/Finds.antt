@@ -10,9 +10,6 @@ use borrow.Author.Tests.{leb-true}
 use lib.Dec.{leb}
 use Rattle.little.specs.Bytes.{Bytes}
 use Rattle.code.specs.declared.Instruction.{Instruction}
-use Rattle.code.specs.declared.Decoded.{Decoded}
-use Rattle.code.specs.declared.Decoded.TheVariants.{Whole}
-use Rattle.code.specs.declared.Decoded.TheVariants as decoded
 use Rattle.code.specs.Listed.{decode_of}
 use Rattle.code.proofs.Holds.{both_true}
 use Rattle.code.proofs.Walked.{length_fits, bytes_drop}
@@ -24,6 +21,8 @@ use Rattle.row.specs.Row.{most, row_of, all_listed, can_write, Reading, before, 
 use Rattle.row.specs.Statements.{ReadsAs, ReadFinds, ReadsAgain, Begins, ReadRefused}
 use Rattle.row.proofs.Through.{before_refused, read_none, read_full, read_whole, read_short, read_unlisted}
 use Rattle.row.proofs.Laws.{reads_back, read_is_listed, written_reads, as_long, all_so, all_of}
+use Rattle.code.specs.Unread.{Decoded}
+use Rattle.code.specs.declared.Unread.TheVariants as unread
 
 no_byte_lem : (s : List ℕ) → length s ≡ 0 → s ≡ []
 no_byte_lem [] z = refl
@@ -60,12 +59,12 @@ finds (suc n) s (i ∷ l) r h =
 found_with :
     (n : ℕ) (s : List ℕ) (l : List Instruction) → ((t : List ℕ) (m : List Instruction) → row_read n t ≡ Ok m → ReadsAs t m × (length m ≤ n)) →
     0 < length s → (d : Decoded) → decode_of s ≡ d → row_read (suc n) s ≡ Ok l → ReadsAs s l × (length l ≤ suc n)
-found_with n s l rest h (Whole i) f e =
+found_with n s l rest h (Ok i) f e =
     let x = rest_done i (row_read n (drop i.length s)) l (sym (read_whole n s i h f) ∙ e) in
     let y = rest (drop i.length s) x.0 x.1 in
     rw x.2 ((f, y.0), omega arith)
-found_with n s l rest h decoded.Short f e = absurd (not_done l Short (sym e ∙ read_short n s h f))
-found_with n s l rest h decoded.Unlisted f e = absurd (not_done l Unlisted (sym e ∙ read_unlisted n s h f))
+found_with n s l rest h (Err unread.Short) f e = absurd (not_done l Short (sym e ∙ read_short n s h f))
+found_with n s l rest h (Err unread.Unlisted) f e = absurd (not_done l Unlisted (sym e ∙ read_unlisted n s h f))
 
 none_there : {l : List Instruction} → ◌≡◌ {A = Reading} (Ok l) (Ok []) → l ≡ []
 none_there e = cc
@@ -93,8 +92,8 @@ same_refusal e = cc
 
 -- ---- where it cannot go on: what forces the end x behind k instructions, where n can be held
 abbrev Forces : ℕ → ℕ → List ℕ → Refusal → Type 0
-Forces n k t Short = (k < n) × (decode_of t ≡ decoded.Short)
-Forces n k t Unlisted = (k < n) × (decode_of t ≡ decoded.Unlisted)
+Forces n k t Short = (k < n) × (decode_of t ≡ Err unread.Short)
+Forces n k t Unlisted = (k < n) × (decode_of t ≡ Err unread.Unlisted)
 Forces n k t NoList = k ≡ n
 Forces n k t NoRoom = ⊥
 
@@ -111,7 +110,7 @@ begins_none : (s : List ℕ) → 0 < length s → Begins s [] s
 unfolding row_of all_listed
 begins_none s h = (refl, refl, h)
 
-begins_more : (s : List ℕ) (i : Instruction) (l : List Instruction) (t : List ℕ) → Bytes s → decode_of s ≡ Whole i → Begins (drop i.length s) l t → Begins s (i ∷ l) t
+begins_more : (s : List ℕ) (i : Instruction) (l : List Instruction) (t : List ℕ) → Bytes s → decode_of s ≡ Ok i → Begins (drop i.length s) l t → Begins s (i ∷ l) t
 unfolding row_of
 begins_more s i l t b e g =
     let one = read_is_listed s i b e in
@@ -120,13 +119,13 @@ begins_more s i l t b e g =
 stops_with :
     (n : ℕ) (s : List ℕ) (x : Refusal) → ((t : List ℕ) → Bytes t → row_read n t ≡ Err x → Stops n t x) →
     Bytes s → 0 < length s → (d : Decoded) → decode_of s ≡ d → row_read (suc n) s ≡ Err x → Stops (suc n) s x
-stops_with n s x rest b h (Whole i) f e =
+stops_with n s x rest b h (Ok i) f e =
     let r = rest (drop i.length s) (bytes_drop i.length s b) (rest_refused i (row_read n (drop i.length s)) x (sym (read_whole n s i h f) ∙ e)) in
     (i ∷ r.0, r.1, begins_more s i r.0 r.1 b f r.2, one_more n (length r.0) r.1 x r.3)
-stops_with n s x rest b h decoded.Short f e =
+stops_with n s x rest b h (Err unread.Short) f e =
     let k : Short ≡ x = same_refusal (sym (read_short n s h f) ∙ e) in
     ([], s, begins_none s h, rw (sym k) (omega arith, f))
-stops_with n s x rest b h decoded.Unlisted f e =
+stops_with n s x rest b h (Err unread.Unlisted) f e =
     let k : Unlisted ≡ x = same_refusal (sym (read_unlisted n s h f) ∙ e) in
     ([], s, begins_none s h, rw (sym k) (omega arith, f))
 
@@ -143,7 +142,7 @@ stops (suc n) s x b e =
     elim (none_or_some s) [ inl z ↦ stops_none (suc n) s x z e | inr h ↦ stops_with n s x (λ t b. stops n t x b) b h (decode_of s) refl e ]
 
 -- and where it is forced, it stops
-begun : (s : List ℕ) (i : Instruction) (l : List Instruction) (t : List ℕ) → Begins s (i ∷ l) t → (decode_of s ≡ Whole i) × Begins (drop i.length s) l t
+begun : (s : List ℕ) (i : Instruction) (l : List Instruction) (t : List ℕ) → Begins s (i ∷ l) t → (decode_of s ≡ Ok i) × Begins (drop i.length s) l t
 unfolding row_of
 begun s i l t g =
     let b = all_so i l g.0 in

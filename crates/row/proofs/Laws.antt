@@ -9,7 +9,6 @@ use lib.Dec.{eqb}
 use lib.Seq.{drop-append_seam}
 use borrow.Author.Tests.{eqb-true, eq-eqb}
 use Rattle.code.specs.declared.Instruction.{Instruction}
-use Rattle.code.specs.declared.Decoded.TheVariants.{Whole}
 use Rattle.code.specs.Listed.{decode_of}
 use Rattle.code.specs.Range.{in_range}
 use Rattle.code.proofs.Holds.{both_true}
@@ -20,6 +19,7 @@ use Rattle.encode.specs.One.{bytes_in, is_listed}
 use Rattle.encode.proofs.Writing.{listed_bytes}
 use Rattle.row.specs.Row.{row_of, all_listed}
 use Rattle.row.specs.Statements.{NoneBegins, ReadsBack, FewBytes, ReadIsListed, ReadsAs, WrittenReads, OneReading, OneList, ReadsWritten, FewInRow}
+use Rattle.std.proofs.Common.{Ok}
 
 -- ---- one instruction
 listed_so : (i : Instruction) → is_listed i ≡ true → (in_range i.op i.size i.operand ≡ true) × (eqb i.length (length (bytes_in i)) ≡ true)
@@ -29,11 +29,11 @@ pub as_long : (i : Instruction) → is_listed i ≡ true → i.length ≡ length
 as_long i h = eqb-true i.length (length (bytes_in i)) (listed_so i h).1
 
 pub reads_back : ReadsBack
-reads_back i t h = exact.reads_back i.op i.size i.operand t (listed_so i h).0 ∙ ap (λ (n : ℕ). Whole (record { op = i.op; size = i.size; operand = i.operand; length = n })) (sym (as_long i h))
+reads_back i t h = exact.reads_back i.op i.size i.operand t (listed_so i h).0 ∙ ap (λ (n : ℕ). Ok (record { op = i.op; size = i.size; operand = i.operand; length = n })) (sym (as_long i h))
 
 pub none_begins : NoneBegins
 none_begins i j t h k e =
-    let same : Whole i ≡ Whole j = sym (reads_back i t h) ∙ ap decode_of (e ∙ sym (append-nil (bytes_in j))) ∙ reads_back j [] k in
+    let same : Ok i ≡ Ok j = sym (reads_back i t h) ∙ ap decode_of (e ∙ sym (append-nil (bytes_in j))) ∙ reads_back j [] k in
     let one : i ≡ j = cc in
     let long : length (bytes_in i) + length t ≡ length (bytes_in j) = sym (length-append (bytes_in i) t) ∙ ap length e in
     let like : length (bytes_in i) ≡ length (bytes_in j) = ap (λ (x : Instruction). length (bytes_in x)) one in
@@ -72,7 +72,7 @@ written_reads (i ∷ l) h =
     let b = all_so i l h in
     (reads_back i (row_of l) b.0, rw (as_long i b.0, drop-append_seam (bytes_in i) (row_of l)) (written_reads l b.1))
 
-not_empty : (s : List ℕ) (i : Instruction) → s ≡ [] → decode_of s ≡ Whole i → ⊥
+not_empty : (s : List ℕ) (i : Instruction) → s ≡ [] → decode_of s ≡ Ok i → ⊥
 not_empty s i e h = let f = length_fits s i h in let z : length s ≡ 0 = ap length e in omega arith
 
 pub one_reading : OneReading
@@ -80,7 +80,7 @@ one_reading s [] [] a b = refl
 one_reading s [] (j ∷ m) a b = absurd (not_empty s j a b.0)
 one_reading s (i ∷ l) [] a b = absurd (not_empty s i b a.0)
 one_reading s (i ∷ l) (j ∷ m) a b =
-    let w : Whole i ≡ Whole j = sym a.0 ∙ b.0 in
+    let w : Ok i ≡ Ok j = sym a.0 ∙ b.0 in
     let e : i ≡ j = cc in
     let c : ReadsAs (drop j.length s) l = subst (λ (k : Instruction). ReadsAs (drop k.length s) l) e a.1 in
     ap₂ (λ (k : Instruction) (n : List Instruction). k ∷ n) e (one_reading (drop j.length s) l m c b.1)

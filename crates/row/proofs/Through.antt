@@ -10,14 +10,13 @@ use lib.ListN.{length, get_or, take, drop, set, replicate, length-drop, length-s
 use lib.Seq.{take_all, take-suc-set, drop-set-lt, drop-cons, length-take-le}
 use borrow.Author.Tests.{eq-eqb, ne_eqb}
 use Rattle.code.specs.declared.Instruction.{Instruction}
-use Rattle.code.specs.declared.Decoded.TheVariants.{Whole}
-use Rattle.code.specs.declared.Decoded.TheVariants as decoded
 use Rattle.code.specs.Listed.{decode_of}
 use Rattle.code.proofs.Walked.{length_fits}
 use Rattle.encode.specs.declared.Refusal.{Refusal}
 use Rattle.encode.specs.declared.Refusal.TheVariants.{Short, Unlisted, NoList}
 use Rattle.std.specs.Prelude.{Ok, Err}
 use Rattle.row.specs.Row.{most, Reading, before, behind_first, row_read, blank, held_as, reading_of}
+use Rattle.code.specs.declared.Unread.TheVariants as unread
 
 -- ---- instructions before what the rest is read as
 pub before_none : (r : Reading) → before [] r ≡ r
@@ -52,15 +51,15 @@ unfolding row_read
 read_first n s h = rw (some s h) refl
 
 pub read_whole :
-    (n : ℕ) (s : List ℕ) (i : Instruction) → 0 < length s → decode_of s ≡ Whole i → row_read (suc n) s ≡ before (i ∷ []) (row_read n (drop i.length s))
+    (n : ℕ) (s : List ℕ) (i : Instruction) → 0 < length s → decode_of s ≡ Ok i → row_read (suc n) s ≡ before (i ∷ []) (row_read n (drop i.length s))
 unfolding behind_first
 read_whole n s i h e = read_first n s h ∙ rw e refl
 
-pub read_short : (n : ℕ) (s : List ℕ) → 0 < length s → decode_of s ≡ decoded.Short → row_read (suc n) s ≡ Err Short
+pub read_short : (n : ℕ) (s : List ℕ) → 0 < length s → decode_of s ≡ Err unread.Short → row_read (suc n) s ≡ Err Short
 unfolding behind_first
 read_short n s h e = read_first n s h ∙ rw e refl
 
-pub read_unlisted : (n : ℕ) (s : List ℕ) → 0 < length s → decode_of s ≡ decoded.Unlisted → row_read (suc n) s ≡ Err Unlisted
+pub read_unlisted : (n : ℕ) (s : List ℕ) → 0 < length s → decode_of s ≡ Err unread.Unlisted → row_read (suc n) s ≡ Err Unlisted
 unfolding behind_first
 read_unlisted n s h e = read_first n s h ∙ rw e refl
 
@@ -92,7 +91,7 @@ module _ {s : List ℕ} {h : List Instruction} {k : ℕ} {rest : List ℕ} (hold
       holding.so_far ∙ ap (before (take k h)) (ap (λ (n : ℕ). row_read n rest) z ∙ e)
 
   pub holding_more :
-      (i : Instruction) → k < most → 0 < length rest → decode_of rest ≡ Whole i →
+      (i : Instruction) → k < most → 0 < length rest → decode_of rest ≡ Ok i →
       Holding s (set h k i) (k + 1) (take (length rest - i.length) (drop i.length rest))
   holding_more i room some_left e =
       let next = take (length rest - i.length) (drop i.length rest) in
@@ -114,10 +113,10 @@ module _ {s : List ℕ} {h : List Instruction} {k : ℕ} {rest : List ℕ} (hold
       let z : most - k ≡ 0 = omega arith in
       ap reading_of (sym (holding.so_far ∙ ap (before (take k h)) (ap (λ (n : ℕ). row_read n rest) z ∙ read_full rest some_left) ∙ before_refused (take k h) NoList))
 
-  pub stops_short : k < most → 0 < length rest → decode_of rest ≡ decoded.Short → Err Short ≡ reading_of (row_read most s)
+  pub stops_short : k < most → 0 < length rest → decode_of rest ≡ Err unread.Short → Err Short ≡ reading_of (row_read most s)
   stops_short room some_left e = ap reading_of (sym (rest_with (read_short (most - (k + 1)) rest some_left e) room ∙ before_refused (take k h) Short))
 
-  pub stops_unlisted : k < most → 0 < length rest → decode_of rest ≡ decoded.Unlisted → Err Unlisted ≡ reading_of (row_read most s)
+  pub stops_unlisted : k < most → 0 < length rest → decode_of rest ≡ Err unread.Unlisted → Err Unlisted ≡ reading_of (row_read most s)
   stops_unlisted room some_left e = ap reading_of (sym (rest_with (read_unlisted (most - (k + 1)) rest some_left e) room ∙ before_refused (take k h) Unlisted))
 
   pub read_ends : length rest ≡ 0 → Ok (record { held = h; count = k }) ≡ reading_of (row_read most s)
@@ -130,8 +129,8 @@ module _ {s : List ℕ} {h : List Instruction} {k : ℕ} {rest : List ℕ} (hold
       rw (all, count) (ap (λ (l : List Instruction). Ok (record { held = l; count = k })) whole)
 
 -- ---- an instruction that was read has a byte, and no more than are there
-pub some_bytes : (s : List ℕ) (i : Instruction) → decode_of s ≡ Whole i → 1 ≤ i.length
+pub some_bytes : (s : List ℕ) (i : Instruction) → decode_of s ≡ Ok i → 1 ≤ i.length
 some_bytes s i e = (length_fits s i e).0
 
-pub few_bytes_read : (s : List ℕ) (i : Instruction) → decode_of s ≡ Whole i → i.length ≤ length s
+pub few_bytes_read : (s : List ℕ) (i : Instruction) → decode_of s ≡ Ok i → i.length ≤ length s
 few_bytes_read s i e = (length_fits s i e).1.1

@@ -1,13 +1,13 @@
 -- A list of instructions in a row (request K11): its bytes, how a writing of them ends, and what a row of code is read as.
 use Rattle.std.specs.Prelude.{ℕ, zero, suc, ◌-◌, List, [], ◌∷◌, ◌++◌, Bool, true, ◌&&◌, cond, length, take, drop, replicate, leb, eqb, Result, Ok, Err}
 use Rattle.little.specs.declared.Size.TheVariants.{Byte}
-use Rattle.code.specs.{declared.Instruction.Instruction, declared.Decoded.Decoded, Listed.decode_of}
+use Rattle.code.specs.{declared.Instruction.Instruction, Listed.decode_of}
 use Rattle.code.specs.declared.{Op.TheVariants.Controls, Control.TheVariants.Nop, Operand.TheVariants.Constant}
-use Rattle.code.specs.declared.Decoded.TheVariants.{Whole}
-use Rattle.code.specs.declared.Decoded.TheVariants as decoded
 use Rattle.encode.specs.{declared.Refusal.Refusal, One.bytes_in, One.is_listed}
 use Rattle.encode.specs.declared.Refusal.TheVariants.{Short, Unlisted, NoList}
 use Rattle.row.specs.declared.Instructions.{Instructions}
+use Rattle.code.specs.Unread.{Decoded}
+use Rattle.code.specs.declared.Unread.TheVariants as unread
 
 -- a list has at most so many
 abbrev pub most : ℕ
@@ -38,9 +38,9 @@ before l (Err why) = Err why
 
 -- what follows an instruction that was read; 3 or 4 where a byte forces it
 unfoldable pub behind_first : Decoded → (ℕ → Reading) → Reading
-behind_first (Whole i) rest = before (i ∷ []) (rest i.length)
-behind_first decoded.Short rest = Err Short
-behind_first decoded.Unlisted rest = Err Unlisted
+behind_first (Ok i) rest = before (i ∷ []) (rest i.length)
+behind_first (Err unread.Short) rest = Err Short
+behind_first (Err unread.Unlisted) rest = Err Unlisted
 
 -- nothing where no byte is left
 abbrev pub unless_ended : List ℕ → Reading → Reading

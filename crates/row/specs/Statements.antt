@@ -2,11 +2,10 @@
 use Rattle.std.specs.Prelude.{ℕ, ◌*◌, ◌<◌, ◌≤◌, ◌≡◌, Bool, true, false, ◌↔◌, List, [], ◌∷◌, ◌++◌, length, drop, get_or, replicate, Ok, Err}
 use Rattle.little.specs.Bytes.{Bytes}
 use Rattle.code.specs.{declared.Instruction.Instruction, Listed.decode_of}
-use Rattle.code.specs.declared.Decoded.TheVariants.{Whole}
-use Rattle.code.specs.declared.Decoded.TheVariants as decoded
 use Rattle.encode.specs.One.{bytes_in, is_listed, end_of, Written, Writes}
 use Rattle.encode.specs.declared.Refusal.TheVariants.{Short, Unlisted, NoList, NoRoom}
 use Rattle.row.specs.Row.{most, row_of, all_listed, can_write, row_read, blank}
+use Rattle.code.specs.declared.Unread.TheVariants as unread
 
 -- ---- one instruction
 -- no two listed instructions have the same bytes, and no one's bytes begin another's
@@ -16,20 +15,20 @@ NoneBegins =
 
 -- a listed instruction is what its bytes are read as, whatever comes behind them; and they are 1 to 7
 abbrev pub ReadsBack : Type 0
-ReadsBack = (i : Instruction) (t : List ℕ) → is_listed i ≡ true → decode_of (bytes_in i ++ t) ≡ Whole i
+ReadsBack = (i : Instruction) (t : List ℕ) → is_listed i ≡ true → decode_of (bytes_in i ++ t) ≡ Ok i
 
 abbrev pub FewBytes : Type 0
 FewBytes = (i : Instruction) → is_listed i ≡ true → (1 ≤ length (bytes_in i)) × (length (bytes_in i) ≤ 7) × Bytes (bytes_in i)
 
 -- what is read of bytes is a listed instruction, and its bytes are those that were read
 abbrev pub ReadIsListed : Type 0
-ReadIsListed = (s : List ℕ) (i : Instruction) → Bytes s → decode_of s ≡ Whole i → (is_listed i ≡ true) × (s ≡ bytes_in i ++ drop i.length s)
+ReadIsListed = (s : List ℕ) (i : Instruction) → Bytes s → decode_of s ≡ Ok i → (is_listed i ≡ true) × (s ≡ bytes_in i ++ drop i.length s)
 
 -- ---- a list
 -- the code s, read from start to end, is this list
 abbrev pub ReadsAs : List ℕ → List Instruction → Type 0
 ReadsAs s [] = s ≡ []
-ReadsAs s (i ∷ l) = (decode_of s ≡ Whole i) × ReadsAs (drop i.length s) l
+ReadsAs s (i ∷ l) = (decode_of s ≡ Ok i) × ReadsAs (drop i.length s) l
 
 -- a list that is written, read from start to end, is that list
 abbrev pub WrittenReads : Type 0
@@ -69,8 +68,8 @@ Begins s l t = (all_listed l ≡ true) × (s ≡ row_of l ++ t) × (0 < length t
 abbrev pub ReadRefused : Type 0
 ReadRefused =
     (s : List ℕ) → Bytes s →
-    ((row_read most s ≡ Err Short) ↔ ((l : List Instruction) × (t : List ℕ) × Begins s l t × (length l < most) × (decode_of t ≡ decoded.Short)))
-    × ((row_read most s ≡ Err Unlisted) ↔ ((l : List Instruction) × (t : List ℕ) × Begins s l t × (length l < most) × (decode_of t ≡ decoded.Unlisted)))
+    ((row_read most s ≡ Err Short) ↔ ((l : List Instruction) × (t : List ℕ) × Begins s l t × (length l < most) × (decode_of t ≡ Err unread.Short)))
+    × ((row_read most s ≡ Err Unlisted) ↔ ((l : List Instruction) × (t : List ℕ) × Begins s l t × (length l < most) × (decode_of t ≡ Err unread.Unlisted)))
     × ((row_read most s ≡ Err NoList) ↔ ((l : List Instruction) × (t : List ℕ) × Begins s l t × (length l ≡ most)))
 
 -- ---- the writing

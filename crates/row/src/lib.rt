@@ -5,7 +5,7 @@ ghost use Rattle.std.specs.Prelude.{◌≡◌, true, ◌++◌, ◌≤◌, length
 ghost use Rattle.encode.specs.One.{Writes};
 ghost use Rattle.row.specs.Row.{most, row_of, row_read, list_in, is_list, blank, reading_of};
 
-use code::{Control, Decoded, Instruction, Op, Operand};
+use code::{Control, Instruction, Op, Operand, Unread};
 use decode::decode;
 use encode::{Refusal, end_of, length_of, listed};
 use little::Size;
@@ -47,19 +47,19 @@ pub fn read(code: &[u8]) -> Result<Instructions, Refusal>
             return Err(Refusal::NoList);
         }
         match decode(rest) {
-            Decoded::Whole(i) => {
+            Ok(i) => {
                 list.held[list.count] = i;
                 list.count += 1;
                 rest = &rest[i.length..];
             }
-            Decoded::Short => return Err(Refusal::Short),
-            Decoded::Unlisted => return Err(Refusal::Unlisted),
+            Err(Unread::Short) => return Err(Refusal::Short),
+            Err(Unread::Unlisted) => return Err(Refusal::Unlisted),
         }
     }
     Ok(list)
 }
 
-// How many bytes a list has: of all places, where the count is more.
+// How many bytes a list has. Where the count is more than 64, all 64 are counted.
 #[tactic(auto, using(crate::proofs::Lists::size_more), unfolding(crate::specs::Row::row_of))]
 pub fn size_of(list: Instructions) -> usize
     ensures { result ≡ length (row_of (list_in list)) }

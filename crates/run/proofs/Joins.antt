@@ -53,7 +53,7 @@ pub record Joined (n m d : ℕ) (s : State) (ram rom : List ℕ) : Type 0 where
   pub count : (many_of n d s ram rom).done ≡ d + n
   pub rest : many_of (n + m) d s ram rom ≡ many_of m (d + n) (many_of n d s ram rom).state (many_of n d s ram rom).ram rom
 
-join : (n m d : ℕ) (s : State) (ram rom : List ℕ) → (many_of n d s ram rom).answer ≡ (Ok tt) → Joined n m d s ram rom
+join : (n m d : ℕ) (s : State) (ram rom : List ℕ) → (many_of n d s ram rom).answer ≡ Ok tt → Joined n m d s ram rom
 join zero m d s ram rom a =
     let e = many_none d s ram rom in
     record {
@@ -65,7 +65,7 @@ join zero m d s ram rom a =
     }
 join (suc n) m d s ram rom a = go (λ t l e. join n m e t l rom) (once_of s ram rom) refl
   where
-    go : ((t : State) (l : List ℕ) (e : ℕ) → (many_of n e t l rom).answer ≡ (Ok tt) → Joined n m e t l rom)
+    go : ((t : State) (l : List ℕ) (e : ℕ) → (many_of n e t l rom).answer ≡ Ok tt → Joined n m e t l rom)
         → (t : Try) → once_of s ram rom ≡ t → Joined (suc n) m d s ram rom
     go ih (did t l) e =
         let f = many_did n d s ram rom t l e in
@@ -177,7 +177,7 @@ step_from s ram rom t e = ap (leaves s ram) e
 
 -- steps that were done keep a valid state valid, and RAM's length
 go_keeps :
-    (n d : ℕ) (s : State) (ram rom : List ℕ) → too_long (length ram) (length rom) ≡ false → valid_of s ≡ true → (many_of n d s ram rom).answer ≡ (Ok tt) →
+    (n d : ℕ) (s : State) (ram rom : List ℕ) → too_long (length ram) (length rom) ≡ false → valid_of s ≡ true → (many_of n d s ram rom).answer ≡ Ok tt →
     (valid_of (many_of n d s ram rom).state ≡ true) × (length (many_of n d s ram rom).ram ≡ length ram)
 go_keeps zero d s ram rom l v a =
     let e = many_none d s ram rom in
@@ -185,7 +185,7 @@ go_keeps zero d s ram rom l v a =
 go_keeps (suc n) d s ram rom l v a = go (λ t m e. go_keeps n e t m rom) (once_of s ram rom) refl
   where
     go :
-        ((t : State) (m : List ℕ) (e : ℕ) → too_long (length m) (length rom) ≡ false → valid_of t ≡ true → (many_of n e t m rom).answer ≡ (Ok tt) →
+        ((t : State) (m : List ℕ) (e : ℕ) → too_long (length m) (length rom) ≡ false → valid_of t ≡ true → (many_of n e t m rom).answer ≡ Ok tt →
         (valid_of (many_of n e t m rom).state ≡ true) × (length (many_of n e t m rom).ram ≡ length m))
         → (t : Try) → once_of s ram rom ≡ t
         → (valid_of (many_of (suc n) d s ram rom).state ≡ true) × (length (many_of (suc n) d s ram rom).ram ≡ length ram)
@@ -309,7 +309,7 @@ count_is_true s ram rom n = go (ltb 1000000 n) refl (checks s ram rom)
 
     Count : Type 0
     Count =
-        (r.answer ≡ (Ok tt) → r.done ≡ n)
+        (r.answer ≡ Ok tt → r.done ≡ n)
         × ((w : Why) → 0 < r.done → r.answer ≡ Err w →
         (r.done < n) × (run_of r.done s ram rom ≡ ends r.done r.state r.ram (Ok tt)) × (try_of r.state r.ram rom ≡ no w))
 

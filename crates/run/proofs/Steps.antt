@@ -30,8 +30,6 @@ use Rattle.code.specs.declared.Form.{Form}
 use Rattle.code.specs.declared.Op.{Op}
 use Rattle.code.specs.declared.Op.TheVariants.{Blocks}
 use Rattle.code.specs.declared.Instruction.{Instruction}
-use Rattle.code.specs.declared.Decoded.{Decoded}
-use Rattle.code.specs.declared.Decoded.TheVariants.{Whole}
 use Rattle.code.specs.Range.{that, Holds, InRange}
 use Rattle.code.specs.Rows.{no_long}
 use Rattle.code.proofs.Prefix.{same_start}
@@ -53,6 +51,7 @@ use Rattle.run.proofs.Rounds.{Pointers, pointers, Rounded, Left, unchanged, wrot
 use Rattle.std.proofs.Common.{Ok, Err}
 use Rattle.answer.specs.Number.{Answer}
 use Rattle.memory.specs.Access.{Loaded}
+use Rattle.code.specs.Unread.{Decoded}
 
 -- ---- the counter has no part in a round
 pointer_free : (s : State) (c r : ℕ) → pointer_of (with_counter s c) r ≡ pointer_of s r
@@ -141,7 +140,7 @@ two_kept ram rom a z v c h far =
 
 code_kept :
     (ram rom : List ℕ) (a : ℕ) (z : Size) (v c : ℕ) (i : Instruction) → i.length ≡ 2 → (a + bytes_of z ≤ c) ⊎ (c + 2 ≤ a) →
-    decode_of (code_at ram rom c) ≡ Whole i → decode_of (code_at (ram_after ram rom a z v) rom c) ≡ Whole i
+    decode_of (code_at ram rom c) ≡ Ok i → decode_of (code_at (ram_after ram rom a z v) rom c) ≡ Ok i
 code_kept ram rom a z v c i two far e = go (place_of (length ram) (length rom) c 1) refl
   where
     m : List ℕ
@@ -150,11 +149,11 @@ code_kept ram rom a z v c i two far e = go (place_of (length ram) (length rom) c
     place_m : {q : Place} → place_of (length ram) (length rom) c 1 ≡ q → place_of (length m) (length rom) c 1 ≡ q
     place_m h = ap (λ (n : ℕ). place_of n (length rom) c 1) (after_length ram rom a z v) ∙ h
 
-    go : (q : Place) → place_of (length ram) (length rom) c 1 ≡ q → decode_of (code_at m rom c) ≡ Whole i
+    go : (q : Place) → place_of (length ram) (length rom) c 1 ≡ q → decode_of (code_at m rom c) ≡ Ok i
     go (Ram o) h =
         let at = (ram_fits_lem (length ram) (length rom) c 1 o h).0 in
         let here : code_at ram rom c ≡ drop c ram = code_in ram rom c h ∙ ap (λ (n : ℕ). drop n ram) at in
-        let d : decode_of (drop c ram) ≡ Whole i = sym (ap decode_of here) ∙ e in
+        let d : decode_of (drop c ram) ≡ Ok i = sym (ap decode_of here) ∙ e in
         let fits = length_fits (drop c ram) i d in
         let room : c + 2 ≤ length ram = omega (arith, fits, length-drop c ram) in
         let n = after_length ram rom a z v in
@@ -248,6 +247,6 @@ module _ (f : Form) (s : State) (ram rom : List ℕ) (a : At f s ram rom) where
         repeats = a.repeats;
       }
     where
-      go : {n : List ℕ} → Left f s ram rom n → decode_of (code_at n rom s.counter) ≡ Whole a.instruction
+      go : {n : List ℕ} → Left f s ram rom n → decode_of (code_at n rom s.counter) ≡ Ok a.instruction
       go unchanged = a.here
       go (wrote c v) = code_kept ram rom (pointer_of s f.to) f.size v s.counter a.instruction two_long (far c) a.here

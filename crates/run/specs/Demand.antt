@@ -1,13 +1,13 @@
 -- Demand 3: how a repeating copy or compare ends, told by its start alone. Each statement is proved in proofs/Endings.antt
 -- or proofs/Known.antt.
 use Rattle.std.specs.Prelude.{ℕ, zero, suc, ◌+◌, ◌-◌, ◌*◌, ◌%◌, ◌^◌, ◌<◌, ◌≤◌, ◌≡◌, ◌⊎◌, List, true, false, cond, eqb, length, Ok, Err}
-use Rattle.answer.specs.declared.{Why.Why}
+use Rattle.answer.specs.declared.Why.{Why}
 use Rattle.little.specs.{declared.Size.TheVariants.Long, Width.bytes_of, Bytes.Bytes}
 use Rattle.memory.specs.{declared.Place.Place, declared.Place.TheVariants.Rom, declared.Place.TheVariants.Missing}
 use Rattle.memory.specs.{Place.place_of, Place.Present, Access.load_of, Access.code_at}
 use Rattle.state.specs.{declared.State.State, State.valid_of, State.marks_of, Sound.Sound, Register.get_register}
-use Rattle.code.specs.{declared.Form.Form, declared.Instruction.Instruction, declared.Op.TheVariants.Blocks, declared.Decoded.TheVariants.Whole}
-use Rattle.code.specs.{Listed.decode_of}
+use Rattle.code.specs.{declared.Form.Form, declared.Instruction.Instruction, declared.Op.TheVariants.Blocks}
+use Rattle.code.specs.Listed.{decode_of}
 use Rattle.operand.specs.Try.{Try, did, no}
 use Rattle.block.specs.Block.{count_in, accumulator, round_of}
 use Rattle.exec.specs.Exec.{past_of}
@@ -76,7 +76,7 @@ module _ (f : Form) (s : State) where
       pub ram_fits : length ram ≤ 2 ^ 16
       pub rom_fits : length rom ≤ 2 ^ 16
       pub instruction : Instruction
-      pub here : decode_of (code_at ram rom s.counter) ≡ Whole instruction
+      pub here : decode_of (code_at ram rom s.counter) ≡ Ok instruction
       pub form : instruction.op ≡ Blocks f
       pub repeats : f.again ≡ true
 

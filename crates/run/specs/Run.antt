@@ -1,10 +1,10 @@
 -- Many steps.
 use Rattle.std.specs.Prelude.{ℕ, ◌≡◌, List, cond, ltb, Err}
-use Rattle.answer.specs.declared.{Why.TheVariants.TooMany}
+use Rattle.answer.specs.declared.Why.TheVariants.{TooMany}
 use Rattle.state.specs.declared.State.{State}
 use Rattle.operand.specs.Try.{did, no}
 use Rattle.turn.specs.{declared.Ran.Ran, Many.Result, Many.result_with, Many.ends, Many.many_of}
-use Rattle.step.specs.{Step.guarded}
+use Rattle.step.specs.Step.{guarded}
 
 -- the most steps that a run may be asked for
 abbrev pub most_steps : ℕ

@@ -1,6 +1,6 @@
 -- What is proved of a run, beside what the call promises and demand 3. Each statement is proved in proofs/Joins.antt.
 use Rattle.std.specs.Prelude.{ℕ, ◌+◌, ◌<◌, ◌≤◌, ◌≡◌, List, Ok, Err}
-use Rattle.answer.specs.declared.{Why.Why}
+use Rattle.answer.specs.declared.Why.{Why}
 use Rattle.state.specs.declared.State.{State}
 use Rattle.operand.specs.Try.{after, did, no}
 use Rattle.turn.specs.{declared.Ran.Ran, Many.Result, Many.ends}
@@ -31,7 +31,7 @@ module _ (s : State) (ram rom : List ℕ) where
   -- n steps and then m steps are n plus m steps
   abbrev pub RunsJoin : Type 0
   RunsJoin =
-      (n m : ℕ) → n + m ≤ most_steps → (run_of n s ram rom).answer ≡ (Ok tt) →
+      (n m : ℕ) → n + m ≤ most_steps → (run_of n s ram rom).answer ≡ Ok tt →
       run_of (n + m) s ram rom ≡ later n (run_of m (run_of n s ram rom).state (run_of n s ram rom).ram rom)
 
   -- a run that was refused is not changed by asking for more
@@ -44,6 +44,6 @@ module _ (s : State) (ram rom : List ℕ) where
   CountIsTrue =
       (n : ℕ) →
       let r = run_of n s ram rom in
-      (r.answer ≡ (Ok tt) → r.done ≡ n)
+      (r.answer ≡ Ok tt → r.done ≡ n)
       × ((w : Why) → 0 < r.done → r.answer ≡ Err w →
       (r.done < n) × (run_of r.done s ram rom ≡ ends r.done r.state r.ram (Ok tt)) × (try_of r.state r.ram rom ≡ no w))

@@ -82,13 +82,13 @@ pub state_made :
 unfolding state_at
 state_made l e f g i j k = rw (e, f, g, i, j, k)
 
-pub load_good : (n : ℕ) (l : List ℕ) → is_record_of n l ≡ true → restored_from n l ≡ record { answer = (Ok tt); state = state_at l }
+pub load_good : (n : ℕ) (l : List ℕ) → is_record_of n l ≡ true → restored_from n l ≡ record { answer = Ok tt; state = state_at l }
 unfolding restored_from
 load_good n l e = rw e refl
 
 -- a load that is done is of a good record, and gives the state in it
 pub load_done :
-    (n : ℕ) (l : List ℕ) {o : Restored} → o ≡ restored_from n l → o.answer ≡ (Ok tt) → (is_record_of n l ≡ true) × (o.state ≡ state_at l)
+    (n : ℕ) (l : List ℕ) {o : Restored} → o ≡ restored_from n l → o.answer ≡ Ok tt → (is_record_of n l ≡ true) × (o.state ≡ state_at l)
 load_done n l {o = o} e r = go (is_record_of n l) refl
   where
     go : (b : Bool) → is_record_of n l ≡ b → (is_record_of n l ≡ true) × (o.state ≡ state_at l)

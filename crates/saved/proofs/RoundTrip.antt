@@ -136,8 +136,8 @@ module _ (s : State) (ok : Sound s) (v : Valid s) (t : List ℕ) where
           byte_is 5 ∙ k.zero,
         )
 
-    reads_back : valid_of s ≡ true → restored_from (old_length + length t) whole ≡ record { answer = (Ok tt); state = s }
-    reads_back e = load_good _ whole (whole_good e) ∙ ap (λ (r : State). record { answer = (Ok tt); state = r }) whole_back
+    reads_back : valid_of s ≡ true → restored_from (old_length + length t) whole ≡ record { answer = Ok tt; state = s }
+    reads_back e = load_good _ whole (whole_good e) ∙ ap (λ (r : State). record { answer = Ok tt; state = r }) whole_back
 
 pub saved_reads_back : SavedReadsBack
 unfolding record_of bytes_from

@@ -122,7 +122,7 @@ refused_record w = record { answer = Err w; state = zero_state }
 
 -- what a load of a record of n bytes gives
 unfoldable pub restored_from : ℕ → List ℕ → Restored
-restored_from n l = cond (is_record_of n l) (record { answer = (Ok tt); state = state_at l }) (refused_record Invalid)
+restored_from n l = cond (is_record_of n l) (record { answer = Ok tt; state = state_at l }) (refused_record Invalid)
 
 -- of a record, and of an old one
 abbrev pub is_record : List ℕ → Bool

@@ -1,6 +1,6 @@
 -- What is proved of saving and loading, beside what each call promises. Each statement is proved in proofs/RoundTrip.antt, Refusals.antt or Marked.antt.
 use Rattle.std.specs.Prelude.{ℕ, ◌≡◌, true, false, ◌⊎◌, List, [], ◌∷◌, length, drop, get_or, set, replicate, Ok, Err}
-use Rattle.answer.specs.declared.{Why.TheVariants.Invalid}
+use Rattle.answer.specs.declared.Why.TheVariants.{Invalid}
 use Rattle.little.specs.Bytes.{Bytes}
 use Rattle.state.specs.{declared.State.State, State.zero_state, State.with_nesting, State.with_both_flags, State.clear, State.valid_of, Sound.Sound}
 use Rattle.saved.specs.Record.{record_length, old_length, record_of, old_record_of, widened, narrowed, fits_old, save_answer, save_bytes, SaveMeets}
@@ -18,8 +18,8 @@ FrontIsOld =
 abbrev pub SavedReadsBack : Type 0
 SavedReadsBack =
     (s : State) → Sound s → valid_of s ≡ true →
-    (restored_of (record_of s) ≡ record { answer = (Ok tt); state = s })
-    × (fits_old s ≡ true → old_restored_of (old_record_of s) ≡ record { answer = (Ok tt); state = s })
+    (restored_of (record_of s) ≡ record { answer = Ok tt; state = s })
+    × (fits_old s ≡ true → old_restored_of (old_record_of s) ≡ record { answer = Ok tt; state = s })
 
 -- the good records are those of valid states, and no others: each is written again as itself
 abbrev pub RecordsAreOfStates : Type 0
@@ -46,7 +46,7 @@ TailWorked = drop old_length (record_of (with_nesting (with_both_flags zero_stat
 abbrev pub Saves : Type 0
 Saves =
     (s : State) (b : List ℕ) →
-    ((valid_of s ≡ true) → (length b ≡ record_length) → (save_answer s (length b) ≡ (Ok tt)) × (save_bytes s b ≡ record_of s))
+    ((valid_of s ≡ true) → (length b ≡ record_length) → (save_answer s (length b) ≡ Ok tt) × (save_bytes s b ≡ record_of s))
     × (((valid_of s ≡ false) ⊎ (length b ≡ record_length → ⊥)) → (save_answer s (length b) ≡ Err Invalid) × (save_bytes s b ≡ b))
 
 -- in the old form the same, and a state with a mark, or whose count is not 0, is 2 and leaves the buffer
@@ -54,7 +54,7 @@ abbrev pub OldSaves : Type 0
 OldSaves =
     (s : State) (b : List ℕ) →
     ((valid_of s ≡ true) → (fits_old s ≡ true) → (length b ≡ old_length) →
-    (old_save_answer s (length b) ≡ (Ok tt)) × (old_save_bytes s b ≡ old_record_of s))
+    (old_save_answer s (length b) ≡ Ok tt) × (old_save_bytes s b ≡ old_record_of s))
     × ((valid_of s ≡ false) ⊎ ((fits_old s ≡ false) ⊎ (length b ≡ old_length → ⊥)) →
     (old_save_answer s (length b) ≡ Err Invalid) × (old_save_bytes s b ≡ b))
 

@@ -6,7 +6,7 @@ use Rattle.memory.specs.Access.{load_bytes}
 use Rattle.state.specs.{declared.State.State, State.with_counter, State.with_flags, Register.get_register, Register.set_register}
 use Rattle.operand.specs.{Try.Try, Try.did, Try.no, Try.and_then, Try.with_loaded, Operand.displaced, Operand.pointer_of, Operand.storing_bytes, Flag.flags_in}
 use Rattle.operand.specs.{Round.less, Round.plus}
-use Rattle.answer.specs.declared.{Why.TheVariants.Undefined}
+use Rattle.answer.specs.declared.Why.TheVariants.{Undefined}
 use Rattle.code.specs.{declared.Operand.Operand, declared.Stack.Stack, Written.constant_in, Written.register_in}
 use Rattle.code.specs.declared.Stack.TheVariants.{PushF, PopF, Push, Pop, Call16, Call24, Calr, Ret}
 

@@ -1,17 +1,16 @@
 -- An instruction's bytes, shown where they stand.
 use Rattle.std.specs.Prelude.{ℕ, ◌^◌, ◌≡◌, List, [], cond, length, take, ltb, eqb, Ok, Err}
-use Rattle.answer.specs.declared.Why.TheVariants.{TooLong, Invalid, NoCode, Unlisted}
+use Rattle.answer.specs.declared.Why.TheVariants.{TooLong, Invalid}
 use Rattle.memory.specs.{Access.code_at, Access.stands_at, Place.place_of}
-use Rattle.code.specs.{declared.Decoded.Decoded, Listed.decode_of}
+use Rattle.code.specs.Listed.{decode_of}
 use Rattle.step.specs.Step.{too_long}
-use Rattle.code.specs.declared.Decoded.TheVariants as decoded
 use Rattle.answer.specs.Number.{Answer}
+use Rattle.code.specs.Unread.{Decoded, why_of}
 
 -- 3 where the bytes are short, 4 where they are not listed
 abbrev pub judged_of : Decoded → Answer
-judged_of decoded.Short = Err NoCode
-judged_of decoded.Unlisted = Err Unlisted
-judged_of (decoded.Whole i) = Ok tt
+judged_of (Err unread) = Err (why_of unread)
+judged_of (Ok i) = Ok tt
 
 -- 1, then 2 for an address of 2^24 or more, then 3 or 4
 unfoldable pub show_answer_of : List ℕ → List ℕ → ℕ → Answer
@@ -21,9 +20,8 @@ show_answer_of ram rom at =
 
 -- how many bytes a whole instruction has; 0 of what is none
 abbrev pub length_in : Decoded → ℕ
-length_in decoded.Short = 0
-length_in decoded.Unlisted = 0
-length_in (decoded.Whole i) = i.length
+length_in (Err unread) = 0
+length_in (Ok i) = i.length
 
 -- the instruction's bytes; a refusal shows none
 unfoldable pub shown_of : List ℕ → List ℕ → ℕ → List ℕ

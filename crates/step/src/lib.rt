@@ -80,11 +80,8 @@ pub fn step(s: State, ram: &mut [u8], rom: &[u8]) -> Stepped
 fn judged(d: Decoded) -> Answer
     ensures { result ≡ judged_of d }
 {
-    match d {
-        Decoded::Whole(_) => Ok(()),
-        Decoded::Short => Err(Why::NoCode),
-        Decoded::Unlisted => Err(Why::Unlisted),
-    }
+    d?;
+    Ok(())
 }
 
 // Whether there is an instruction to show at an address.
@@ -103,11 +100,7 @@ pub fn show_answer<'a>(ram: &'a [u8], rom: &'a [u8], at: u32) -> Answer
 fn length_in(code: &[u8]) -> usize
     ensures { result ≡ length_in (decode_of code.now) }
 {
-    match decode::decode(code) {
-        Decoded::Whole(i) => i.length,
-        Decoded::Short => 0,
-        Decoded::Unlisted => 0,
-    }
+    decode::decode(code).map_or(0, |i| i.length)
 }
 
 // The bytes of the instruction at an address, as a part of the memory that holds them; none where it is refused.

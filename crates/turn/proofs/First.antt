@@ -6,8 +6,6 @@ use mathlib.Core.Bool.{true, false}
 use lib.ListN.{length, get_or}
 use Rattle.memory.specs.Access.{code_at}
 use Rattle.state.specs.declared.State.{State}
-use Rattle.code.specs.declared.Decoded.{Decoded}
-use Rattle.code.specs.declared.Decoded.TheVariants.{Short}
 use Rattle.code.specs.Said.{Said, judge}
 use Rattle.code.specs.Rows.{lookup}
 use Rattle.code.specs.Listed.{alone_rows, memory_first_rows, first_rows, decode_of}
@@ -18,8 +16,11 @@ use Rattle.exec.specs.Exec.{done}
 use Rattle.turn.specs.Once.{once_of}
 use Rattle.turn.specs.inner.Times.{times_of}
 use Rattle.turn.proofs.Times.{times_one}
+use Rattle.std.proofs.Common.{Err}
+use Rattle.code.specs.Unread.{Decoded}
+use Rattle.code.specs.declared.Unread.TheVariants.{Short}
 
-pub none_says : (code : List ℕ) → length code ≤ 0 → decode_of code ≡ Short
+pub none_says : (code : List ℕ) → length code ≤ 0 → decode_of code ≡ Err Short
 unfolding decode_of
 none_says code h = sym (next_short (lookup first_rows) code 0 h)
 

@@ -78,13 +78,13 @@ module _ (s : State) (ram rom : List ℕ) where
 module _
     (s : State) (ram rom : List ℕ) (a : Answer) (u : State) (m : List ℕ) (n l : ℕ) (fewer : Fewer a n l)
     (e : after a u m ≡ leaves s ram (times_of (suc (n - l)) s ram rom)) where
-  pub turn_less : a ≡ (Ok tt) → l ≤ n
+  pub turn_less : a ≡ Ok tt → l ≤ n
   turn_less d = subst (λ (x : Answer). Fewer x n l) d fewer
 
   pub turn_same : (w : Why) → a ≡ Err w → l ≡ n
   turn_same w d = subst (λ (x : Answer). Fewer x n l) d fewer
 
-  pub turn_on : (d : ℕ) → a ≡ (Ok tt) → many_of (suc n) d s ram rom ≡ many_of l (d + suc (n - l)) u m rom
+  pub turn_on : (d : ℕ) → a ≡ Ok tt → many_of (suc n) d s ram rom ≡ many_of l (d + suc (n - l)) u m rom
   turn_on d h =
       let b = turn_less h in
       let k : suc n ≡ suc (n - l) + l = omega (arith, b) in

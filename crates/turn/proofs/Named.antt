@@ -17,8 +17,6 @@ use Rattle.code.specs.declared.Use.TheVariants.{Number, From, Load, Compute, Cha
 use Rattle.code.specs.declared.Side.TheVariants.{First, With}
 use Rattle.code.specs.declared.Operand.{Operand}
 use Rattle.code.specs.declared.Op.TheVariants.{Puts}
-use Rattle.code.specs.declared.Decoded.{Decoded}
-use Rattle.code.specs.declared.Decoded.TheVariants.{Short, Unlisted}
 use Rattle.code.specs.declared.OfRegister.{OfRegister}
 use Rattle.code.specs.declared.OfRegister.TheVariants as register
 use Rattle.code.specs.Said.{judge, whole_of}
@@ -33,6 +31,9 @@ use Rattle.exec.specs.inner.Counter.{back_of}
 use Rattle.exec.proofs.Laws.{came_back}
 use Rattle.turn.specs.inner.Times.{past_name}
 use Rattle.answer.specs.Number.{Answer}
+use Rattle.std.proofs.Common.{Err}
+use Rattle.code.specs.Unread.{Decoded}
+use Rattle.code.specs.declared.Unread.TheVariants.{Short, Unlisted}
 
 past_twice : (n m counter : ℕ) → (counter + (n + m)) % 2 ^ 24 ≡ (past_name n counter + m) % 2 ^ 24
 past_twice n m counter = go (eqb n 0) refl
@@ -50,7 +51,7 @@ module _ (rest : State) (regs : List ℕ) (bank : Bank) (counter flags : ℕ) (r
   abbrev Later : Decoded → Type 0
   Later d = done (longer n d) (banked_at_with rest regs bank counter flags) ram rom ≡ done d (banked_at_with rest regs bank (past_name n counter) flags) ram rom
 
-  fed_later : (d : Decoded) → ((how : Use) × (m : ℕ) × (d ≡ whole_of (Puts how) z o m)) ⊎ ((d ≡ Short) ⊎ (d ≡ Unlisted)) → Later d
+  fed_later : (d : Decoded) → ((how : Use) × (m : ℕ) × (d ≡ whole_of (Puts how) z o m)) ⊎ ((d ≡ Err Short) ⊎ (d ≡ Err Unlisted)) → Later d
   fed_later d (inl (how, m, e)) = subst Later (sym e) (use_later how m)
   fed_later d (inr (inl e)) = subst Later (sym e) refl
   fed_later d (inr (inr e)) = subst Later (sym e) refl

@@ -22,7 +22,6 @@ use Rattle.state.specs.declared.Bank.{Bank}
 use Rattle.state.specs.declared.State.{State}
 use Rattle.code.specs.Listed.{decode_of}
 use Rattle.code.specs.Said.{whole_of}
-use Rattle.code.specs.declared.Decoded.{Decoded}
 use Rattle.code.specs.declared.Form.{Form}
 use Rattle.code.specs.declared.Operand.{Operand}
 use Rattle.code.specs.declared.Op.TheVariants.{Blocks}
@@ -34,10 +33,11 @@ use Rattle.turn.specs.inner.Times.{times_of, Fewer, most_rounds, Stands}
 use Rattle.block.specs.inner.Again.{in_rom, again_of}
 use Rattle.std.proofs.Common.{Ok, Err}
 use Rattle.answer.specs.Number.{Answer}
+use Rattle.code.specs.Unread.{Decoded}
 
 -- ---- what was tried, from what a call leaves
 module _ (s : State) (ram : List ℕ) (a : Answer) (u : State) (m : List ℕ) where
-  pub was_done : (t : Try) → after a u m ≡ leaves s ram t → a ≡ (Ok tt) → t ≡ did u m
+  pub was_done : (t : Try) → after a u m ≡ leaves s ram t → a ≡ Ok tt → t ≡ did u m
   was_done (did v n) e d = rw (ap (λ (o : Outcome). o.state) e, ap (λ (o : Outcome). o.ram) e) refl
   was_done (no w) e d =
       let b : a ≡ Err w = ap (λ (o : Outcome). o.answer) e in
@@ -46,7 +46,7 @@ module _ (s : State) (ram : List ℕ) (a : Answer) (u : State) (m : List ℕ) wh
 
   pub was_refused : (w : Why) (t : Try) → after a u m ≡ leaves s ram t → a ≡ Err w → (t ≡ no w) × (u ≡ s) × (m ≡ ram)
   was_refused w (did v n) e d =
-      let b : a ≡ (Ok tt) = ap (λ (o : Outcome). o.answer) e in
+      let b : a ≡ Ok tt = ap (λ (o : Outcome). o.answer) e in
       let z : ◌≡◌ {A = ℕ} 0 1 = cc in
       absurd (omega arith)
   was_refused w (no x) e d =
@@ -132,13 +132,13 @@ module _
   next_is : times_of (suc k) start ram rom ≡ and_then (round_of f (banked_at_with rest registers bank past flags) m rom) (ends_at f at)
   next_is = times_more k start ram rom (banked_at_with rest registers bank at flags) m so_far ∙ h m same (banked_at_with rest registers bank at flags)
 
-  pub round_done : a ≡ (Ok tt) → times_of (suc k) start ram rom ≡ did (ends_at f at (banked_at_with rest registers' bank past flags')) m'
+  pub round_done : a ≡ Ok tt → times_of (suc k) start ram rom ≡ did (ends_at f at (banked_at_with rest registers' bank past flags')) m'
   round_done d =
       next_is
       ∙ ap (λ (t : Try). and_then t (ends_at f at))
       (was_done (banked_at_with rest registers bank past flags) m a (banked_at_with rest registers' bank past flags') m' (round_of f (banked_at_with rest registers bank past flags) m rom) e d)
 
-  pub round_again : a ≡ (Ok tt) → goes_on f (banked_at_with rest registers' bank past flags') ≡ true → at < 2 ^ 24
+  pub round_again : a ≡ Ok tt → goes_on f (banked_at_with rest registers' bank past flags') ≡ true → at < 2 ^ 24
       → times_of (suc k) start ram rom ≡ did (banked_at_with rest registers' bank at flags') m'
   unfolding ends_at with_counter
   round_again d g l = round_done d ∙ rw (g, mod-eq_of_lt l) refl

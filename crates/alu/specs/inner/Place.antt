@@ -1,7 +1,7 @@
 -- What stays the same from place to place of a shift: all that one place is made by.
 use Rattle.std.specs.Prelude.{ℕ, ◌-◌, ◌^◌, ◌<◌, ◌≡◌, Bool, true, false}
-use Rattle.flags.specs.{Width.weighed}
-use Rattle.alu.specs.{declared.Shift.Shift}
+use Rattle.flags.specs.Width.{weighed}
+use Rattle.alu.specs.declared.Shift.{Shift}
 use Rattle.alu.specs.declared.Shift.TheVariants.{Sla, Sra, Sll, Srl}
 
 -- whether a shift goes to the left

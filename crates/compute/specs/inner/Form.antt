@@ -1,8 +1,8 @@
 -- What is put where the address of the operand is known, as the functions of compute::form promise it.
 use Rattle.std.specs.Prelude.{ℕ, List, cond}
 use Rattle.little.specs.declared.Size.{Size}
-use Rattle.flags.specs.declared.{Computed.Computed}
-use Rattle.alu.specs.declared.{Arith.Arith}
+use Rattle.flags.specs.declared.Computed.{Computed}
+use Rattle.alu.specs.declared.Arith.{Arith}
 use Rattle.memory.specs.Access.{load_of}
 use Rattle.code.specs.declared.Operand.TheVariants.{Register}
 use Rattle.state.specs.{declared.State.State, Register.get_register, Register.set_register}

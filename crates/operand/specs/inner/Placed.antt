@@ -4,7 +4,7 @@ use Rattle.little.specs.{declared.Size.Size, Width.bytes_of, Width.bits_of}
 use Rattle.little.specs.declared.Size.TheVariants.{Byte, Word, Long}
 use Rattle.state.specs.declared.{Bank.Bank, named.Field.Field}
 use Rattle.state.specs.{Named.byte_named, Named.Bits, Named.bits, Named.nowhere, Named.named, Named.code_for, inner.Field.field_at}
-use Rattle.code.specs.declared.{Operand.Operand}
+use Rattle.code.specs.declared.Operand.{Operand}
 use Rattle.code.specs.declared.Operand.TheVariants.{Register, Named, Constant, Memory}
 
 -- the part of the registers that an operand of a size is: a register 0 to 7 by the code that it has

@@ -9,4 +9,4 @@ pub loop-rest-init : goal.loop-rest-init
 loop-rest-init c = holding_none c.args.code.now _ (ap (replicate most) c.blank.ensures)
 
 pub loop-rest-preserved : goal.loop-rest-preserved
-loop-rest-preserved c = holding_more c.loop-rest.invariant c.in-Whole.i c.if-list-ge-MOST.false (grind arith) (sym c.decode.ensures ∙ c.in-Whole.is)
+loop-rest-preserved c = holding_more c.loop-rest.invariant c.in-Ok.i c.if-list-ge-MOST.false (grind arith) (sym c.decode.ensures ∙ c.in-Ok.is)

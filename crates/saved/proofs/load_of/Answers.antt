@@ -15,7 +15,7 @@ pub returns-then-valid-fixed_at : goal.returns-then-valid-fixed_at
 returns-then-valid-fixed_at c =
     let a = c.args in
     let t = rw (c.valid.ensures, c.state_at-s.ensures, c.fixed_at.ensures) at c.if-valid-fixed_at.true in
-    ap (λ (s : State). record { answer = (Ok tt); state = s }) c.state_at-s.ensures
+    ap (λ (s : State). record { answer = Ok tt; state = s }) c.state_at-s.ensures
     ∙ sym (load_good a.n a.bytes.now (rw (eq-eqb _ _ c.if-bytes-n.false) t))
 
 pub returns : goal.returns

@@ -127,7 +127,7 @@ shape_of-ram-else-again c = c.round.auto.ram ∙ c.loop-why.invariant.3
 pub returns-else-again : goal.returns-else-again
 returns-else-again c =
     let few : c.rounds-most.result ≤ c.args.more.now = rw c.rounds-most.ensures (rounds_few c.in_rom.result c.args.more.now) in
-    let done_of : (rest : State) → c.round.result ≡ (Ok tt) → times_of (suc (c.rounds-most.result - c.loop-why.left)) (banked_at_with rest c.args.regs.now c.args.bank c.args.at c.args.flags.now) c.args.ram.now c.args.rom.now ≡ did (ends_at c.args.f c.args.at (banked_at_with rest c.round.new.regs c.args.bank c.args.counter.now c.round.new.flags)) c.round.new.ram = λ rest d. let a = c.args in
+    let done_of : (rest : State) → c.round.result ≡ Ok tt → times_of (suc (c.rounds-most.result - c.loop-why.left)) (banked_at_with rest c.args.regs.now c.args.bank c.args.at c.args.flags.now) c.args.ram.now c.args.rom.now ≡ did (ends_at c.args.f c.args.at (banked_at_with rest c.round.new.regs c.args.bank c.args.counter.now c.round.new.flags)) c.round.new.ram = λ rest d. let a = c.args in
     let l = c.loop-why in
     round_done a.f a.at a.counter.now a.bank rest a.ram.now a.rom.now (banked_at_with rest a.regs.now a.bank a.at a.flags.now) c.requires (c.rounds-most.result - l.left) l.regs l.flags l.ram l.invariant.4 (l.invariant.5 rest) c.round.result c.round.new.regs c.round.new.flags c.round.new.ram (c.round.ensures (standing_at rest a.counter.now)) d in
     let a = c.args in

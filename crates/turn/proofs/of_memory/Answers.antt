@@ -2,7 +2,6 @@ use Prim.Native.Nat.{suc, ◌+◌, ◌-◌, ◌%◌, ◌^◌}
 use mathlib.Core.Path.{◌≡◌, refl, ap, ◌∙◌}
 use Rattle.memory.specs.Access.{code_at}
 use Rattle.code.specs.declared.OfMemory.{OfMemory}
-use Rattle.code.specs.declared.Decoded.TheVariants.{Short, Unlisted}
 use Rattle.code.specs.inner.Parts.{memory_as}
 use Rattle.state.specs.State.{with_counter, with_flags, with_both_flags}
 use Rattle.state.specs.inner.Lent.{banked_at_with, standing_at}
@@ -17,6 +16,8 @@ use Rattle.exec.proofs.Laws.{returned, moved_on}
 use Rattle.turn.proofs.Times.{fewer_same, stands_form}
 use Rattle.turn.proofs.First.{once_by}
 use Rattle.turn.proofs.of_memory.Goals as goal
+use Rattle.std.proofs.Common.{Err}
+use Rattle.code.specs.declared.Unread.TheVariants.{Short, Unlisted}
 
 pub block-a-requires : goal.block-a-requires
 block-a-requires c =
@@ -112,7 +113,7 @@ returns-in-Short c = record {
   does = λ rest.
       let a = c.args in
       let s = banked_at_with rest a.regs.now a.bank a.counter.now a.flags.now in
-      ap (leaves s a.ram.now) (once_by s a.ram.now a.rom.now (code_at a.ram.now a.rom.now a.counter.now) Short a.more.now refl (c.requires.1 ∙ ap (λ (x : OfMemory). memory_as x c.requires.0) c.in-Short.is));
+      ap (leaves s a.ram.now) (once_by s a.ram.now a.rom.now (code_at a.ram.now a.rom.now a.counter.now) (Err Short) a.more.now refl (c.requires.1 ∙ ap (λ (x : OfMemory). memory_as x c.requires.0) c.in-Short.is));
 }
 
 pub returns-in-Unlisted : goal.returns-in-Unlisted
@@ -121,5 +122,5 @@ returns-in-Unlisted c = record {
   does = λ rest.
       let a = c.args in
       let s = banked_at_with rest a.regs.now a.bank a.counter.now a.flags.now in
-      ap (leaves s a.ram.now) (once_by s a.ram.now a.rom.now (code_at a.ram.now a.rom.now a.counter.now) Unlisted a.more.now refl (c.requires.1 ∙ ap (λ (x : OfMemory). memory_as x c.requires.0) c.in-Unlisted.is));
+      ap (leaves s a.ram.now) (once_by s a.ram.now a.rom.now (code_at a.ram.now a.rom.now a.counter.now) (Err Unlisted) a.more.now refl (c.requires.1 ∙ ap (λ (x : OfMemory). memory_as x c.requires.0) c.in-Unlisted.is));
 }

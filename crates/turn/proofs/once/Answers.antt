@@ -3,7 +3,6 @@ use native.Mathlib.Omega.{arith}
 use lib.ListN.{get_or}
 use Rattle.code.specs.declared.MemoryForm.{MemoryForm}
 use Rattle.code.specs.declared.Begun.{Begun}
-use Rattle.code.specs.declared.Decoded.TheVariants.{Short, Unlisted}
 use Rattle.code.specs.Listed.{decode_of}
 use Rattle.code.specs.inner.Parts.{begun_as}
 use Rattle.state.specs.inner.Lent.{all_of}
@@ -12,6 +11,8 @@ use Rattle.operand.specs.Operand.{address_in}
 use Rattle.turn.proofs.Times.{fewer_same}
 use Rattle.turn.proofs.First.{none_says, alone_says, register_says, memory_says, once_by}
 use Rattle.turn.proofs.once.Goals as goal
+use Rattle.std.proofs.Common.{Err}
+use Rattle.code.specs.declared.Unread.TheVariants.{Short, Unlisted}
 
 pub returns-then-code-eq0 : goal.returns-then-code-eq0
 returns-then-code-eq0 c = record {
@@ -19,7 +20,7 @@ returns-then-code-eq0 c = record {
   does = let a = c.args in
       let code = c.fetch-code.result.now in
       let s = all_of a.regs.now a.counter.now a.bank.now a.level.now a.flags.now a.spare.now a.nesting.now in
-      ap (leaves s a.ram.now) (once_by s a.ram.now a.rom.now code Short a.more.now c.fetch-code.ensures.result_value (none_says code (omega (arith, c.if-code-eq0.true))));
+      ap (leaves s a.ram.now) (once_by s a.ram.now a.rom.now code (Err Short) a.more.now c.fetch-code.ensures.result_value (none_says code (omega (arith, c.if-code-eq0.true))));
 }
 
 pub returns-then-b-lt128 : goal.returns-then-b-lt128
@@ -68,7 +69,7 @@ returns-in-Short c = record {
       let s = all_of a.regs.now a.counter.now a.bank.now a.level.now a.flags.now a.spare.now a.nesting.now in
       let d = memory_says code (omega (arith, c.if-code-eq0.false)) (omega (arith, c.if-b-lt128.false)) (omega arith) (sym c.begins.ensures ∙ c.if-begins.false) in
       ap (leaves s a.ram.now)
-      (once_by s a.ram.now a.rom.now code Short a.more.now c.fetch-code.ensures.result_value (d ∙ (sym c.begin.ensures ∙ ap (λ (x : Begun). begun_as x (get_or code 0 0) code) c.in-Short.is)));
+      (once_by s a.ram.now a.rom.now code (Err Short) a.more.now c.fetch-code.ensures.result_value (d ∙ (sym c.begin.ensures ∙ ap (λ (x : Begun). begun_as x (get_or code 0 0) code) c.in-Short.is)));
 }
 
 pub returns-in-Unlisted : goal.returns-in-Unlisted
@@ -79,5 +80,5 @@ returns-in-Unlisted c = record {
       let s = all_of a.regs.now a.counter.now a.bank.now a.level.now a.flags.now a.spare.now a.nesting.now in
       let d = memory_says code (omega (arith, c.if-code-eq0.false)) (omega (arith, c.if-b-lt128.false)) (omega arith) (sym c.begins.ensures ∙ c.if-begins.false) in
       ap (leaves s a.ram.now)
-      (once_by s a.ram.now a.rom.now code Unlisted a.more.now c.fetch-code.ensures.result_value (d ∙ (sym c.begin.ensures ∙ ap (λ (x : Begun). begun_as x (get_or code 0 0) code) c.in-Unlisted.is)));
+      (once_by s a.ram.now a.rom.now code (Err Unlisted) a.more.now c.fetch-code.ensures.result_value (d ∙ (sym c.begin.ensures ∙ ap (λ (x : Begun). begun_as x (get_or code 0 0) code) c.in-Unlisted.is)));
 }
