@@ -41,7 +41,8 @@ pub extern "C" fn tlcs900h_narrow(new: &[u8], old: &mut [u8]) -> u8
     if let Err(why) = o.answer {
         return why.number();
     }
-    if old.len() != saved::OLD_LENGTH {
+    let room = old.len();
+    if room != saved::OLD_LENGTH {
         return Why::Invalid.number();
     }
     if !saved::fits_old(o.state) {
