@@ -61,7 +61,7 @@ fn nowhere() -> Place
 }
 
 // A code whose place has all of it.
-#[tactic(auto, using(crate::proofs::Laws::spelt_alone))]
+#[tactic(auto, using(crate::proofs::Laws::spelt_bare))]
 fn alone(place: Place) -> Code
     ensures { spelt result ≡ place_spelt place }
 {

@@ -2,8 +2,10 @@
 use Prim.Native.Nat.{ℕ, zero, suc, ◌+◌, ◌*◌, ◌<◌, ◌≤◌}
 use mathlib.Core.Path.{◌≡◌, refl, ap, sym, ◌∙◌}
 use mathlib.Core.List.{List, [], ◌∷◌, ◌++◌}
+use mathlib.Core.Bool.{Bool, true, false, cond}
 use native.Mathlib.Omega.{arith}
 use lib.ListN.{length, take, length-append}
+use lib.Dec.{ltb}
 use borrow.Author.Tests.{lt-ltb, le-ltb}
 use Rattle.answer.specs.declared.Why.{Why}
 use Rattle.answer.specs.declared.Why.TheVariants.{TooLong}
@@ -15,12 +17,13 @@ use Rattle.state.specs.Sr.{sr_of}
 use Rattle.step.specs.declared.Stepped.{Stepped}
 use Rattle.step.specs.Reset.{reset_of}
 use Rattle.turn.specs.declared.Ran.{Ran}
-use Rattle.turn.specs.Many.{result_with}
+use Rattle.turn.specs.Many.{Result, result_with}
 use Rattle.run.specs.Run.{run_of}
 use Rattle.text.specs.Text.{hex_of, decimal_of, following, line_of}
 use Rattle.text.specs.Grown.{grown}
 use Rattle.text.proofs.Laws.{grown_joins, grown_whole, field_made, more, line_made, hex_length, decimal_length}
-use Rattle.line.specs.Lines.{where_of, register_of, registers_of, refused_line, ran_line, zeros, line_after, line_for}
+use Rattle.line.specs.Lines.{where_of, register_of, registers_of, refused_line, ran_line, zeros, line_after, line_for, LineMeets}
+use Rattle.text.specs.declared.Line.{Line}
 use Rattle.std.proofs.Common.{Ok, Err}
 use Rattle.answer.specs.Number.{Answer}
 
@@ -121,3 +124,16 @@ module _ (image : List ℕ) where
     for_ran q m e f =
         rw (le-ltb 32768 (length image) few, reset_answer_lem e)
         (sym (ap (line_after (Ok tt)) (f ∙ ap (λ (x : Stepped). run_of 1000 x.state zeros image) is)))
+
+-- every line is short enough to be written whole
+pub for_short : (image : List ℕ) → length (line_for image) ≤ 127
+unfolding line_for
+for_short image = go (ltb 32768 (length image)) (reset_of zeros image).answer (run_of 1000 (reset_of zeros image).state zeros image)
+  where
+    go : (b : Bool) (a : Answer) (r : Result) → length (cond b (refused_line TooLong) (line_after a r)) ≤ 127
+    go true a r = refused_short TooLong
+    go false (Err w) r = refused_short w
+    go false (Ok _) r = ran_short r.state r.done r.answer
+
+pub line_whole : (image : List ℕ) {r : Line} → r ≡ line_for image → LineMeets image r
+line_whole image e = (e, rw e (omega (arith, for_short image)))

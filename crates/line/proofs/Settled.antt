@@ -28,7 +28,7 @@ use Rattle.text.specs.Text.{hex_of, decimal_in}
 use Rattle.line.specs.Statements.{Settled, ExampleLine}
 
 pub settled : Settled
-settled image r r' e f = e ∙ sym f
+settled image r r' e f = e.0 ∙ sym f.0
 
 pub example_line : ExampleLine
 unfolding value_of load_of code_at place_of get_bits set_bits slot_in set_slot slot_of register_at set_register zero_state reset_state valid_of long_of with_long with_counter with_both_flags with_flags byte_of packed_of flags_of operated result_of sum_of up_to_seven_rows bank_rows flag_rows constant_rows stack_rows jump_rows relative_rows interrupt_rows register_form_rows absolute_rows memory_form_rows memory_at_rows store_form_rows alone_rows memory_first_rows named_form_rows first_rows decode_of places_rows register_rows lookup number_at judge past_of control_of stack_of puts_of effect_of executed_of flagged value_in storing reset_of guarded once_of try_of many_of run_of ran_line line_for hex_of decimal_in

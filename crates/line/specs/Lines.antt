@@ -1,5 +1,5 @@
 -- The line that the program prints.
-use Rattle.std.specs.Prelude.{ℕ, ◌≡◌, List, [], ◌∷◌, ◌++◌, cond, length, replicate, ltb, Ok, Err}
+use Rattle.std.specs.Prelude.{ℕ, ◌≡◌, ◌≤◌, List, [], ◌∷◌, ◌++◌, cond, length, replicate, ltb, Ok, Err}
 use Rattle.answer.specs.declared.Why.{Why}
 use Rattle.answer.specs.{declared.Why.TheVariants.TooLong, Number.why_number, Number.number_of}
 use Rattle.little.specs.declared.Size.TheVariants.{Long}
@@ -48,6 +48,6 @@ line_for image =
     let s = reset_of zeros image in
     cond (ltb 32768 (length image)) (refused_line TooLong) (line_after s.answer (run_of 1000 s.state zeros image))
 
--- what the call promises of its result r: this line, and nothing else
+-- what the call promises of its result r: this line, and that an array of 128 bytes has room for it
 abbrev pub LineMeets : List ℕ → Line → Type 0
-LineMeets image r = r ≡ line_for image
+LineMeets image r = (r ≡ line_for image) × (length r ≤ 128)

@@ -1,3 +1,4 @@
+pub mod Sound
 pub mod Lists
 pub mod Through
 pub mod Laying

@@ -77,7 +77,9 @@ pub fn fits_old(s: State) -> bool
     (marks_byte(s) == 0) & (s.nesting == 0)
 }
 
-// Saves a valid state into a buffer of a record's length; any other state or buffer is refused, and the buffer stays.
+// Saves a valid state into a buffer of a record's length; any other state or buffer is refused, and the buffer stays. It is laid into each
+// call, since nearly all of a reset state is known there (docs/DECISIONS.md, 128).
+#[inline(always)]
 pub fn save(s: State, out: &mut [u8]) -> Answer
     ensures { SaveMeets s out.old result out.new }
 {

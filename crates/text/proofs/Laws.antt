@@ -1,6 +1,6 @@
 -- How the parts of a line come together, and how long they are.
 use Prim.Native.Nat.{ℕ, zero, suc, ◌+◌, ◌-◌, ◌/◌, ◌%◌, ◌<◌, ◌≤◌, ◌^◌}
-use mathlib.Core.Path.{◌≡◌, refl, ap, sym, ◌∙◌}
+use mathlib.Core.Path.{◌≡◌, refl, ap, ap₂, sym, ◌∙◌}
 use mathlib.Core.List.{List, [], ◌∷◌, ◌++◌, append_assoc, append-nil}
 use mathlib.Core.Bool.{Bool, true, false, cond}
 use native.Mathlib.Omega.{arith}
@@ -52,11 +52,17 @@ pub line_made : (l first : List ℕ) (others : List (List ℕ)) → grown (grown
 line_made l first others = grown_joins l (first ++ following others) (10 ∷ []) ∙ ap (grown l) (append_assoc first (following others) (10 ∷ []))
 
 -- ---- decimals
-pub decimal_last : (n : ℕ) → n < 10 → decimal_of n ≡ digit_of (n % 10) ∷ []
+pub decimal_last : (k n : ℕ) → n < 10 → decimal_in (suc k) n ≡ digit_of (n % 16) ∷ []
 unfolding decimal_in
-decimal_last n h =
-    let e : n % 10 ≡ n = omega arith in
+decimal_last k n h =
+    let e : n % 16 ≡ n = omega arith in
     rw (e, lt-ltb n 10 h) refl
+
+pub decimal_more : (k n : ℕ) → 10 ≤ n → decimal_in (suc k) n ≡ decimal_in k (n / 10) ++ (digit_of (n % 10 % 16) ∷ [])
+unfolding decimal_in
+decimal_more k n h =
+    let e : n % 10 % 16 ≡ n % 10 = omega arith in
+    rw (e, le-ltb n 10 h) refl
 
 -- a place more changes nothing where there are enough
 enough : (k n : ℕ) → n < 10 ^ suc k → decimal_in (suc (suc k)) n ≡ decimal_in (suc k) n
@@ -66,14 +72,17 @@ enough (suc k) n h =
     let g : n / 10 < 10 ^ suc k = omega (arith, rw pow-suc at h) in
     ap (λ (l : List ℕ). cond (ltb n 10) (digit_of n ∷ []) (l ++ (digit_of (n % 10) ∷ []))) (enough k (n / 10) g)
 
-rest_first : (k n : ℕ) → 10 ≤ n → decimal_in (suc k) n ≡ decimal_in k (n / 10) ++ (digit_of (n % 10) ∷ [])
-unfolding decimal_in
-rest_first k n h = rw (le-ltb n 10 h) refl
+-- what the method writes: the last digit, alone or behind the others
+pub digit_alone : (n : ℕ) → n < 10 → decimal_of n ≡ digit_of (n % 10) ∷ []
+digit_alone n h =
+    let e : n % 16 ≡ n % 10 = omega arith in
+    decimal_last 9 n h ∙ ap (λ (d : ℕ). digit_of d ∷ []) e
 
-pub decimal_more : (n : ℕ) → 10 ≤ n → n < 2 ^ 32 → decimal_of n ≡ decimal_of (n / 10) ++ (digit_of (n % 10) ∷ [])
-decimal_more n h f =
+pub digit_behind : (n : ℕ) → 10 ≤ n → n < 2 ^ 32 → decimal_of n ≡ decimal_of (n / 10) ++ (digit_of (n % 10) ∷ [])
+digit_behind n h f =
     let g : n / 10 < 10 ^ 9 = omega arith in
-    rest_first 9 n h ∙ ap (λ (l : List ℕ). l ++ (digit_of (n % 10) ∷ [])) (sym (enough 8 (n / 10) g))
+    let e : n % 10 % 16 ≡ n % 10 = omega arith in
+    decimal_more 9 n h ∙ ap₂ (λ (l : List ℕ) (d : ℕ). l ++ (digit_of d ∷ [])) (sym (enough 8 (n / 10) g)) e
 
 -- ---- hex digits
 pub hex_none : (k n : ℕ) → k ≤ 0 → hex_of k n ≡ []

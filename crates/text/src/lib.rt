@@ -8,21 +8,23 @@ ghost use Rattle.text.specs.Grown.{grown};
 use std::marker::Model;
 
 // A text that grows at its end, up to 128 bytes; past them nothing is added.
-#[derive(Drop)]
+#[derive(Clone, Copy)]
 pub struct Line {
     text: [u8; 128],
-    length: usize,
+    used: usize,
 }
 
-// Contracts see the bytes so far.
+// Contracts see the bytes so far; those behind them are zero.
 impl Model for Line {
-    ghost use Rattle.std.specs.Prelude.{ℕ, ◌≤◌, List, take};
+    ghost use Rattle.std.specs.Prelude.{ℕ, ◌≡◌, ◌≤◌, ◌-◌, List, ◌++◌, length, take, replicate};
 
     ghost Value = { List ℕ };
 
-    ghost view = { λ l. take l.length l.text };
+    ghost view = { λ l. take l.used l.text };
 
-    ghost invariant = { λ l. l.length ≤ 128 };
+    ghost invariant = { λ l. (l.used ≤ 128) × (length l.text ≡ 128) × (l.text ≡ take l.used l.text ++ replicate (128 - l.used) 0) };
+
+    ghost inverse = { λ bytes. record { text = bytes ++ replicate (128 - length bytes) 0; used = length bytes } };
 }
 
 impl Line {
@@ -31,7 +33,7 @@ impl Line {
     {
         Line {
             text: [0; 128],
-            length: 0,
+            used: 0,
         }
     }
 
@@ -39,14 +41,14 @@ impl Line {
     pub fn push(&mut self, b: u8)
         ensures { self.new ≡ grown self.old (b ∷ []) }
     {
-        if self.length < 128 {
-            self.text[self.length] = b;
-            self.length += 1;
+        if self.used < 128 {
+            self.text[self.used] = b;
+            self.used += 1;
         }
     }
 
     // Without leading zeros.
-    #[tactic(auto, using(crate::proofs::Laws::grown_joins, crate::proofs::Laws::decimal_last, crate::proofs::Laws::decimal_more))]
+    #[tactic(auto, using(crate::proofs::Laws::grown_joins, crate::proofs::Laws::digit_alone, crate::proofs::Laws::digit_behind))]
     pub fn decimal(&mut self, n: u32)
         ensures { self.new ≡ grown self.old (decimal_of n) }
     {
@@ -70,7 +72,7 @@ impl Line {
     pub fn as_slice(&self) -> &[u8]
         ensures { result.now ≡ self.now }
     {
-        &self.text[..self.length]
+        &self.text[..self.used]
     }
 }
 
